@@ -1,0 +1,14 @@
+pub mod ConstDeclLemmas
+pub mod FieldLemmas
+pub mod GrammarLemmas
+pub mod LineLemmas
+pub mod NameLemmas
+pub mod PartLemmas
+pub mod ReadingLemmas
+pub mod ReportLemmas
+pub mod RoundLemmas
+pub mod RunLemmas
+pub mod SumLemmas
+pub mod TableLemmas
+pub mod TextLemmas
+pub mod TokensLemmas

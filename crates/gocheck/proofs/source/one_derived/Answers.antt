@@ -1,0 +1,5 @@
+use Rattle.gocheck.proofs.GrammarLemmas.{one_derived}
+use Rattle.gocheck.proofs.source.one_derived.Goals as goal
+
+pub returns : goal.returns
+returns c = one_derived

@@ -1,0 +1,5 @@
+use Rattle.gocheck.proofs.GrammarLemmas.{one_tree}
+use Rattle.gocheck.proofs.source.one_tree.Goals as goal
+
+pub returns : goal.returns
+returns c = one_tree

@@ -1,0 +1,15 @@
+-- what the top call promises
+pub mod Headline
+pub mod Words
+pub mod Report
+pub mod Text
+-- what a report rests on
+pub mod Grammar
+pub mod Taken
+pub mod Resolution
+pub mod Records
+pub mod Headers
+-- what inner functions promise each other
+pub mod Reading
+pub mod Table
+pub mod View

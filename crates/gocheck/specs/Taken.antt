@@ -1,0 +1,33 @@
+-- Keywords; Blank identifier; Predeclared identifiers (Go specification).
+-- Decides which words a file can neither declare nor use as the name of a constant today.
+use Rattle.std.specs.Prelude.{ℕ, Bool, List, [], ◌∷◌, ◌++◌, codes}
+use Rattle.std.specs.List.{list_any}
+use Rattle.go_tree.specs.Tokens.{same_text}
+
+abbrev pub keywords : List (List ℕ)
+keywords =
+    codes "break" ∷ codes "case" ∷ codes "chan" ∷ codes "const" ∷ codes "continue"
+    ∷ codes "default" ∷ codes "defer" ∷ codes "else" ∷ codes "fallthrough" ∷ codes "for"
+    ∷ codes "func" ∷ codes "go" ∷ codes "goto" ∷ codes "if" ∷ codes "import"
+    ∷ codes "interface" ∷ codes "map" ∷ codes "package" ∷ codes "range" ∷ codes "return"
+    ∷ codes "select" ∷ codes "struct" ∷ codes "switch" ∷ codes "type" ∷ codes "var" ∷ []
+
+-- "Types", "Constants", "Zero value" and "Functions" of the universe block
+abbrev pub predeclared : List (List ℕ)
+predeclared =
+    codes "any" ∷ codes "bool" ∷ codes "byte" ∷ codes "comparable" ∷ codes "complex64"
+    ∷ codes "complex128" ∷ codes "error" ∷ codes "float32" ∷ codes "float64" ∷ codes "int"
+    ∷ codes "int8" ∷ codes "int16" ∷ codes "int32" ∷ codes "int64" ∷ codes "rune"
+    ∷ codes "string" ∷ codes "uint" ∷ codes "uint8" ∷ codes "uint16" ∷ codes "uint32"
+    ∷ codes "uint64" ∷ codes "uintptr" ∷ codes "true" ∷ codes "false" ∷ codes "iota"
+    ∷ codes "nil" ∷ codes "append" ∷ codes "cap" ∷ codes "clear" ∷ codes "close"
+    ∷ codes "complex" ∷ codes "copy" ∷ codes "delete" ∷ codes "imag" ∷ codes "len"
+    ∷ codes "make" ∷ codes "max" ∷ codes "min" ∷ codes "new" ∷ codes "panic"
+    ∷ codes "print" ∷ codes "println" ∷ codes "real" ∷ codes "recover" ∷ []
+
+-- `init` and `main` name functions alone; `_` names nothing
+abbrev pub special : List (List ℕ)
+special = codes "_" ∷ codes "init" ∷ codes "main" ∷ []
+
+abbrev pub is_taken : List ℕ → Bool
+is_taken word = list_any (λ taken. same_text taken word) (keywords ++ (predeclared ++ special))

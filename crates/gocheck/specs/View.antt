@@ -1,0 +1,8 @@
+-- What a report of the program stands for.
+use Rattle.gocheck.specs.declared.report.Report.{Report as OwnReport}
+use Rattle.gocheck.specs.declared.report.Report.TheVariants.{Accepted, Refused}
+use Rattle.gocheck.specs.Report.{Report, accepted, refused}
+
+abbrev pub report_view : OwnReport → Report
+report_view (Accepted name lines) = accepted name lines.items
+report_view (Refused list) = refused list.items

@@ -1,0 +1,95 @@
+//! `gocheck ROOT`: checks the Go file `a.go` below ROOT and prints its report.
+#![tactic(auto)]
+
+mod check;
+mod constants;
+mod fields;
+mod folder;
+mod folder_list;
+mod headers;
+mod line;
+mod names;
+mod parse;
+mod parts;
+mod paths;
+mod record;
+mod report;
+mod report_lines;
+#[cfg(test)]
+mod rows;
+mod run;
+mod source;
+mod std_sink;
+mod taken;
+mod text;
+mod tokens;
+mod words;
+
+ghost use Rattle.std.specs.Prelude.{◌≡◌};
+
+use folder::FolderTree;
+use go_base::{Status, Steps, Word};
+use run::gocheck;
+use std::alloc::Global;
+use std::io::ErrorKind;
+use std::marker::Brand;
+use std::process::ExitCode;
+use std::rt::Files;
+use std::sync::ledger::{Blank, Ledger};
+use std::{env, io};
+use std_sink::StdSink;
+
+// A run over real folders and standard output, with a new ledger.
+fn run_on_folders<L: Ledger, R: Files + AllocGlobal + Print + Drop + Clone>(
+    rt: R,
+    alloc: Global,
+    words: &[Word],
+    blank: Blank,
+) -> Status
+    requires name { blank.name ≡ L.name }
+    requires parts { blank.parts ≡ L.parts }
+    requires some { blank.parts ≡ 1 }
+{
+    let Ok(own) = rt.clone() else {
+        return Status::NoMemory;
+    };
+    let mut tree = FolderTree::new(own);
+    let mut out = StdSink::new(io::writer(&rt));
+    let mut steps = Steps::<L>::new(blank);
+    gocheck(alloc, words, &mut tree, &mut out, &mut steps)
+}
+
+// The words after the program's own name.
+fn words_of(rt: &HostRuntime) -> io::Result<Vec<Word>> {
+    let mut words = Vec::new(rt.alloc());
+    for word in env::args(rt)?.skip(1) {
+        words.push(Word::new(word))?;
+    }
+    Ok(words)
+}
+
+// A word that is not UTF-8 ends the run as words that name no root do.
+fn status_without_words(error: io::Error) -> Status {
+    if error.kind() == ErrorKind::OutOfMemory {
+        Status::NoMemory
+    } else {
+        Status::Usage
+    }
+}
+
+fn main(rt: HostRuntime) -> ExitCode {
+    let alloc = rt.alloc();
+    let status = match words_of(&rt) {
+        Ok(words) => match rt.clone() {
+            Ok(own) => run_on_folders::<Brand, HostRuntime>(own, alloc, &words, Blank::new(1)),
+            Err(_) => Status::NoMemory,
+        },
+        Err(error) => status_without_words(error),
+    };
+    let message = status.message();
+    if !message.is_empty() {
+        // Nothing is left to do where standard error is closed.
+        let _ = rt.eprintln(message);
+    }
+    ExitCode::from(status.code())
+}

@@ -1,0 +1,71 @@
+// Runs over trees and sinks in memory: the helpers of the tables of rows.
+ghost use Rattle.std.specs.Prelude.{◌≡◌, IfOk};
+ghost use Rattle.go_base.specs.Tree.{HasDistinctPaths};
+
+mod accepted;
+mod beyond;
+mod chain;
+mod faults;
+mod folders;
+mod orders;
+mod size;
+mod streams;
+mod trees;
+mod usage;
+
+use crate::run::gocheck;
+use go_base::{Bytes, MemFile, Name, Sink, Status, Steps, SureSink, SureTree, Tree, Word};
+use std::alloc::{AllocError, Global};
+use std::marker::Brand;
+use std::sync::ledger::{Blank, Ledger};
+
+/// The report of every file that is not read today.
+pub const BEYOND: &str = "refused\nbroken\ta.go:1:1\tU0\n";
+
+pub fn words(alloc: Global, texts: &[&str]) -> Result<Vec<Word>, AllocError> {
+    let mut words = Vec::new(alloc);
+    for text in texts {
+        words.push(Word::new(String::from_str(alloc, text)?))?;
+    }
+    Ok(words)
+}
+
+/// The file a.go below the root r.
+pub fn source_file(alloc: Global, source: &[u8]) -> Result<Vec<MemFile>, AllocError>
+    ensures { IfOk result (λ files. HasDistinctPaths files.items) }
+{
+    let file = MemFile {
+        root: Word::new(String::from_str(alloc, "r")?),
+        path: Name::new(String::from_str(alloc, "a.go")?),
+        bytes: Bytes::new(source.to_vec(alloc)?),
+    };
+    Ok(vec![in alloc; file]?)
+}
+
+fn counted_run<L: Ledger, T: Tree, S: Sink>(
+    alloc: Global,
+    blank: Blank,
+    words: &[Word],
+    tree: &mut T,
+    out: &mut S,
+) -> Status
+    requires name { blank.name ≡ L.name }
+    requires parts { blank.parts ≡ L.parts }
+    requires some { blank.parts ≡ 1 }
+{
+    let mut steps = Steps::<L>::new(blank);
+    gocheck(alloc, words, tree, out, &mut steps)
+}
+
+/// A run with a new ledger.
+pub fn run<T: Tree, S: Sink>(alloc: Global, words: &[Word], tree: &mut T, out: &mut S) -> Status {
+    counted_run::<Brand, T, S>(alloc, Blank::new(1), words, tree, out)
+}
+
+/// The run of `gocheck r` where r has the file a.go with that source.
+pub fn checked(alloc: Global, source: &[u8]) -> Result<(Status, SureSink), AllocError> {
+    let mut tree = SureTree::new(source_file(alloc, source)?);
+    let mut out = SureSink::new(alloc);
+    let status = run(alloc, &words(alloc, &["r"])?, &mut tree, &mut out);
+    Ok((status, out))
+}

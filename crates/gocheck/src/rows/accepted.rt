@@ -1,0 +1,86 @@
+// Files that are accepted, each with its whole report.
+use super::checked;
+use go_base::Status;
+use std::test::Fail;
+
+const ROWS: [(&str, &str, &str); 7] = [
+    (
+        "a constant is used before it is declared",
+        "package p\n\nconst X = Y + 2\nconst Y = 1\n",
+        "module\tm\t1.21\n\
+         package\tm\tp\taccepted\n\
+         def\ta.go:3:7\tX\tconst\tuntyped int\t3\n\
+         def\ta.go:4:7\tY\tconst\tuntyped int\t1\n\
+         use\ta.go:3:11\tY\ta.go:4:7\n\
+         expr\ta.go:3:11\t3:16\tconst\tuntyped int\t3\n\
+         expr\ta.go:3:11\t3:12\tconst\tuntyped int\t1\n\
+         expr\ta.go:3:15\t3:16\tconst\tuntyped int\t2\n\
+         expr\ta.go:4:11\t4:12\tconst\tuntyped int\t1\n",
+    ),
+    (
+        "and after it",
+        "package p\n\nconst Y = 1\nconst X = Y + 2\n",
+        "module\tm\t1.21\n\
+         package\tm\tp\taccepted\n\
+         def\ta.go:3:7\tY\tconst\tuntyped int\t1\n\
+         def\ta.go:4:7\tX\tconst\tuntyped int\t3\n\
+         use\ta.go:4:11\tY\ta.go:3:7\n\
+         expr\ta.go:3:11\t3:12\tconst\tuntyped int\t1\n\
+         expr\ta.go:4:11\t4:16\tconst\tuntyped int\t3\n\
+         expr\ta.go:4:11\t4:12\tconst\tuntyped int\t1\n\
+         expr\ta.go:4:15\t4:16\tconst\tuntyped int\t2\n",
+    ),
+    (
+        "a single constant, with no newline behind it",
+        "package p\n\nconst X = 7",
+        "module\tm\t1.21\n\
+         package\tm\tp\taccepted\n\
+         def\ta.go:3:7\tX\tconst\tuntyped int\t7\n\
+         expr\ta.go:3:11\t3:12\tconst\tuntyped int\t7\n",
+    ),
+    (
+        "no constant",
+        "package p\n",
+        "module\tm\t1.21\npackage\tm\tp\taccepted\n",
+    ),
+    (
+        "a sum groups to the left",
+        "package p\nconst X = 1 + 2 + 3\n",
+        "module\tm\t1.21\n\
+         package\tm\tp\taccepted\n\
+         def\ta.go:2:7\tX\tconst\tuntyped int\t6\n\
+         expr\ta.go:2:11\t2:20\tconst\tuntyped int\t6\n\
+         expr\ta.go:2:11\t2:16\tconst\tuntyped int\t3\n\
+         expr\ta.go:2:11\t2:12\tconst\tuntyped int\t1\n\
+         expr\ta.go:2:15\t2:16\tconst\tuntyped int\t2\n\
+         expr\ta.go:2:19\t2:20\tconst\tuntyped int\t3\n",
+    ),
+    (
+        "blanks, carriage returns and a sum over two lines",
+        "\r\n\tpackage  p\r\nconst\tX=1 +\n 2\r\n",
+        "module\tm\t1.21\n\
+         package\tm\tp\taccepted\n\
+         def\ta.go:3:7\tX\tconst\tuntyped int\t3\n\
+         expr\ta.go:3:9\t4:3\tconst\tuntyped int\t3\n\
+         expr\ta.go:3:9\t3:10\tconst\tuntyped int\t1\n\
+         expr\ta.go:4:2\t4:3\tconst\tuntyped int\t2\n",
+    ),
+    (
+        "the greatest constant",
+        "package p\nconst X = 170141183460469231731687303715884105727\n",
+        "module\tm\t1.21\n\
+         package\tm\tp\taccepted\n\
+         def\ta.go:2:7\tX\tconst\tuntyped int\t170141183460469231731687303715884105727\n\
+         expr\ta.go:2:11\t2:50\tconst\tuntyped int\t170141183460469231731687303715884105727\n",
+    ),
+];
+
+#[test]
+fn accepted_files_have_their_whole_report(rt: HostRuntime) -> Result<(), Fail> {
+    for (name, source, text) in ROWS {
+        let (status, out) = checked(rt.alloc(), source.as_bytes())?;
+        assert_eq!(rt; status, Status::Accepted, "{name}");
+        assert_eq!(rt; out.taken(), text.as_bytes(), "{name}");
+    }
+    Ok(())
+}

@@ -1,0 +1,18 @@
+// Words that name no root.
+use super::{run, source_file, words};
+use go_base::{Status, SureSink, SureTree};
+use std::test::Fail;
+
+#[test]
+fn words_that_name_no_root_write_nothing(rt: HostRuntime) -> Result<(), Fail> {
+    let alloc = rt.alloc();
+    let rows: [&[&str]; 5] = [&[], &[""], &["-r"], &["r", "r"], &["r", "--json"]];
+    for row in rows {
+        let mut tree = SureTree::new(source_file(alloc, b"package p\n")?);
+        let mut out = SureSink::new(alloc);
+        let status = run(alloc, &words(alloc, row)?, &mut tree, &mut out);
+        assert_eq!(rt; status, Status::Usage, "{row:?}");
+        assert_eq!(rt; out.taken().len(), 0, "{row:?}");
+    }
+    Ok(())
+}
