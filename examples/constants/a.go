@@ -1,0 +1,4 @@
+package p
+
+const X = Y + 2
+const Y = 1
