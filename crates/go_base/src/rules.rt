@@ -6,3 +6,21 @@ pub const UNBUILT_FORM: Rule = Rule {
     family: Family::U,
     number: 0,
 };
+
+/// An identifier that denotes nothing (Go specification, "Declarations and scope").
+pub const UNDECLARED_NAME: Rule = Rule {
+    family: Family::P,
+    number: 7,
+};
+
+/// A declaration that needs its own header (Go specification, "Declarations and scope").
+pub const CYCLIC_DECLARATION: Rule = Rule {
+    family: Family::C,
+    number: 1,
+};
+
+/// An integer constant outside -2^127 to 2^127-1 (Go specification, "Constants").
+pub const WIDE_INTEGER: Rule = Rule {
+    family: Family::L,
+    number: 2,
+};

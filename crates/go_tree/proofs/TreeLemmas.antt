@@ -12,6 +12,15 @@ pub list_of-trees_of : (ts : List Tree) → list_of (trees_of ts) ≡ ts
 list_of-trees_of [] = refl
 list_of-trees_of (t ∷ ts) = ap (λ us. t ∷ us) (list_of-trees_of ts)
 
+one_long : (xs : List Node) (a : Tree) → trees_of (map tree_of xs) ≡ more_trees a no_trees → length xs ≡ 1
+one_long [] a e = cc
+one_long (x ∷ []) a e = refl
+one_long (x ∷ (y ∷ xs)) a e = cc
+
+-- a node whose parts are one tree has one part
+pub one_part : (n : Node) (a : Tree) → parts_of (tree_of n) ≡ more_trees a no_trees → length (out-Node n).parts.items ≡ 1
+one_part n a e = one_long (out-Node n).parts.items a (sym (ap parts_of (tree_of-out n)) ∙ e)
+
 two_long : (xs : List Node) (a b : Tree) → trees_of (map tree_of xs) ≡ more_trees a (more_trees b no_trees) → length xs ≡ 2
 two_long [] a b e = cc
 two_long (x ∷ []) a b e = cc

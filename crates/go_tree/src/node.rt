@@ -17,6 +17,8 @@ pub enum NodeKind {
     ConstSpec,
     /// `x + y`: both operands
     AddExpr,
+    /// `(x)`: what stands in the parentheses
+    ParenExpr,
     /// an identifier
     Name,
     /// an integer literal
@@ -83,6 +85,18 @@ impl Node {
         ensures { trees_of (map tree_of result.now) ≡ parts_of (tree_of self.now) }
     {
         &self.parts
+    }
+
+    /// Its one part, where it has one.
+    #[tactic(auto, using(crate::proofs::TreeLemmas::one_part))]
+    pub fn only_part(&self) -> Option<&Node>
+        ensures some { IfSome result (λ a. parts_of (tree_of self.now) ≡ more_trees (tree_of a.now) no_trees) }
+        ensures none { (a : Tree) → parts_of (tree_of self.now) ≡ more_trees a no_trees → IsSome result }
+    {
+        match self.parts.as_slice() {
+            [a] => Some(a),
+            _ => None,
+        }
     }
 
     /// Both parts, where it has two.
