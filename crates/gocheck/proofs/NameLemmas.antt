@@ -1,16 +1,17 @@
 -- Names that stand in a list once, and the first place of a name.
-use Rattle.std.proofs.Common.{◌≡◌, ◌≢◌, ℕ, zero, suc, ◌+◌, ◌<◌, Bool, true, false, not, ◌||◌, List, [], ◌∷◌, ◌++◌, length, map, get_or, take, position, refl, sym, ap, ◌∙◌, subst, nat_eq, Bor, true≢false, arith}
+use Rattle.std.proofs.Common.{◌≡◌, ℕ, zero, suc, ◌+◌, ◌<◌, Bool, true, false, not, ◌||◌, List, [], ◌∷◌, ◌++◌, length, map, get_or, take, position, refl, sym, ap, ◌∙◌, subst, nat_eq, Bor, arith}
 use Rattle.std.specs.List.{list_any, prefix_len}
 use Rattle.std.specs.Cmp.Lexicographic.{pointwise}
 use Rattle.indexmap.specs.IndexSet.{insert_key}
-use Rattle.std.proofs.lemmas.List.Quantifiers.{all_pairs_push}
-use Rattle.std.proofs.lemmas.List.Folds.{Any-from_list_any, list_any_at}
+use Rattle.std.proofs.lemmas.List.Folds.{Any-from_list_any}
 use Rattle.std.proofs.lemmas.Slice.Eq.{bytes_eq-Decides}
 use Rattle.std.proofs.lemmas.List.{length-map, map-append, length-take, get_or-take, take_more}
 use Rattle.go_tree.specs.declared.node.Node.{Node}
 use Rattle.go_tree.specs.Tree.{tree_of, text_of}
 use Rattle.go_tree.specs.Tokens.{same_text}
-use Rattle.gocheck.specs.Resolution.{first_part, names_of, IsEachOnce, resolve}
+use Rattle.gocheck.specs.Source.{IsEachOnce}
+use Rattle.gocheck.proofs.OnceLemmas.{once-push}
+use Rattle.gocheck.specs.Resolution.{first_part, names_of, resolve}
 
 same_truth : (a b : Bool) → (a ≡ true → b ≡ true) → (b ≡ true → a ≡ true) → a ≡ b
 same_truth true b there back = sym (there refl)
@@ -58,12 +59,6 @@ names-more ns i n lt e =
     let names = names_of (map tree_of ns) in
     let within : i < length names = omega (arith, length-names ns) in
     take_more names i [] within ∙ ap (λ x. take i names ++ x ∷ []) (names-at ns i n [] lt e)
-
--- a new name keeps each name once
-once-push : (names : List (List ℕ)) (text : List ℕ) → list_any (λ k. same_text text k) names ≡ false → IsEachOnce names → IsEachOnce (names ++ text ∷ [])
-once-push names text new once =
-    all_pairs_push (λ a b. a ≢ b) names text once
-    (λ k d lt e. true≢false (sym (list_any_at (λ n. same_text text n) names k d lt ((bytes_eq-Decides text (get_or names k d)).1 (sym e))) ∙ new))
 
 -- a name that stands among the first i and at i is not there once
 twice : (names : List (List ℕ)) (i : ℕ) (text : List ℕ) → i < length names → get_or names i text ≡ text → list_any (λ k. same_text text k) (take i names) ≡ true → IsEachOnce names → ⊥

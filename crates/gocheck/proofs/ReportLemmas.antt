@@ -1,21 +1,60 @@
--- Lemmas on reports: why a file is not accepted.
-use Rattle.std.proofs.Common.{◌<◌, ℕ, List, length, subst, arith}
+-- Lemmas on reports: which report each outcome of the check gives.
+use Rattle.std.proofs.Common.{◌≡◌, ◌≢◌, ℕ, ℤ, Bool, true, Option, Some, Result, Ok, Err, List, [], ◌∷◌, refl, sym, subst}
+use Rattle.std.specs.Prelude.{◌↔◌, IfOk}
+use Rattle.go_base.specs.declared.rule.Broken.{Broken}
 use Rattle.go_tree.specs.Tree.{Tree}
 use Rattle.gocheck.specs.declared.line.Line.{Line}
-use Rattle.gocheck.specs.Grammar.{IsTreeOf}
-use Rattle.gocheck.specs.Resolution.{constants_of}
-use Rattle.gocheck.specs.Report.{Report, AcceptedReport, IsAccepted, most_bytes}
-use Rattle.gocheck.proofs.GrammarLemmas.{one_tree}
+use Rattle.gocheck.specs.Headers.{Known}
+use Rattle.gocheck.specs.Records.{Headers}
+use Rattle.gocheck.specs.Resolution.{names_of}
+use Rattle.gocheck.specs.Rules.{undeclared, broken_values}
+use Rattle.gocheck.specs.Table.{slot_of}
+use Rattle.gocheck.specs.Marks.{is_marked}
+use Rattle.gocheck.specs.Waiting.{Chain}
+use Rattle.gocheck.specs.Report.{accepted, refused_package, lines_of, values_report, ValuesReport, PackageReport, by_names}
 
--- it has too many bytes
-pub too_long : (bytes : List ℕ) → most_bytes < length bytes → (other : Report) → AcceptedReport bytes other → ⊥
-too_long bytes long other accepted = omega (arith, accepted.size)
+pub if_ok-map : {A E : Type 0} (r : Result A E) (P Q : A → Type 0) → ((x : A) → P x → Q x) → IfOk r P → IfOk r Q
+if_ok-map (Ok x) P Q f h = f x h
+if_ok-map (Err e) P Q f h = h
 
--- it has no tree
-pub no_tree : (bytes : List ℕ) → ((tree : Tree) → IsTreeOf bytes tree → ⊥) → (other : Report) → AcceptedReport bytes other → ⊥
-no_tree bytes none other accepted = none accepted.tree accepted.is_tree
+-- what the values of constants give
+pub record Values (constants : List Tree) (headers : Headers) (cyclic : ℕ → Bool) (list : List Broken) : Type 0 where
+  pub known : (d : ℕ) (h : ℤ) → (headers d ≡ Some h) ↔ Known constants d h
+  pub is_cyclic : (d : ℕ) → (cyclic d ≡ true) ↔ Chain constants headers d d
+  pub list_is : list ≡ broken_values (names_of constants) headers cyclic 0 constants
 
--- its constants are not accepted
-pub no_lines : (bytes : List ℕ) (tree : Tree) → IsTreeOf bytes tree → ((lines : List Line) → IsAccepted (constants_of tree) lines → ⊥) → (other : Report) → AcceptedReport bytes other → ⊥
-no_lines bytes tree is_tree none other accepted =
-    none accepted.lines (subst (λ (t : Tree). IsAccepted (constants_of t) accepted.lines) (one_tree bytes accepted.tree tree accepted.is_tree is_tree) accepted.is_accepted)
+pub accepted_values : (name : List ℕ) (constants : List Tree) (headers : Headers) (cyclic : ℕ → Bool) (list : List Broken) (lines : List Line) → Values constants headers cyclic list → list ≡ [] → lines ≡ lines_of constants headers → ValuesReport name constants (accepted name lines)
+accepted_values name constants headers cyclic list lines v none e = record {
+  headers = headers;
+  known = v.known;
+  cyclic = cyclic;
+  is_cyclic = v.is_cyclic;
+  report_is = rw (← v.list_is, none, e) refl;
+}
+
+refused_list : (name : List ℕ) (list : List Broken) (lines : List Line) → list ≢ [] → refused_package name list ≡ values_report name list lines
+refused_list name [] lines some = absurd (some refl)
+refused_list name (b ∷ bs) lines some = refl
+
+pub refused_values : (name : List ℕ) (constants : List Tree) (headers : Headers) (cyclic : ℕ → Bool) (list : List Broken) → Values constants headers cyclic list → list ≢ [] → ValuesReport name constants (refused_package name list)
+refused_values name constants headers cyclic list v some = record {
+  headers = headers;
+  known = v.known;
+  cyclic = cyclic;
+  is_cyclic = v.is_cyclic;
+  report_is = rw (← v.list_is) (refused_list name list (lines_of constants headers) some);
+}
+
+pub refused_names : (name : List ℕ) (constants : List Tree) (list : List Broken) → list ≡ undeclared constants → list ≢ [] → PackageReport name constants (refused_package name list)
+refused_names name constants [] e some = absurd (some refl)
+refused_names name constants (b ∷ bs) e some = by_names b bs (sym e)
+
+-- the same values, where the table, the marks and the names are read through references
+pub values_read : (constants : List Tree) (names : List (List ℕ)) (table table1 table2 : List (Option ℤ)) (marks marks2 : List Bool) (list : List Broken) → names ≡ names_of constants → table1 ≡ table → table2 ≡ table → marks2 ≡ marks → ((d : ℕ) (h : ℤ) → (slot_of table d ≡ Some h) ↔ Known constants d h) → ((d : ℕ) → (is_marked marks d ≡ true) ↔ Chain constants (slot_of table1) d d) → list ≡ broken_values names (slot_of table2) (is_marked marks2) 0 constants → Values constants (slot_of table) (is_marked marks) list
+values_read constants names table table1 table2 marks marks2 list n t1 t2 m known cyclic e = record {
+  known = known;
+  is_cyclic = subst (λ (t : List (Option ℤ)). (d : ℕ) → (is_marked marks d ≡ true) ↔ Chain constants (slot_of t) d d) t1 cyclic;
+  list_is = subst (λ (ms : List Bool). list ≡ broken_values (names_of constants) (slot_of table) (is_marked ms) 0 constants) m
+      (subst (λ (t : List (Option ℤ)). list ≡ broken_values (names_of constants) (slot_of t) (is_marked marks2) 0 constants) t2
+      (subst (λ (ns : List (List ℕ)). list ≡ broken_values ns (slot_of table2) (is_marked marks2) 0 constants) n e));
+}

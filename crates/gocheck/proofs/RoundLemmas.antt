@@ -5,16 +5,13 @@ use Rattle.std.proofs.lemmas.Bool.{cases_eq, eq-eqb, ne_eqb}
 use Rattle.std.proofs.lemmas.List.{take_at}
 use Rattle.std.proofs.lemmas.Option.{unwrap_or-slice_get}
 use Rattle.go_tree.specs.declared.node.Node.{Node}
-use Rattle.go_tree.specs.declared.node.NodeKind.TheVariants.{File, ConstSpec, AddExpr, Name, IntLit}
+use Rattle.go_tree.specs.declared.node.NodeKind.TheVariants.{AddExpr, ParenExpr, Name, IntLit}
 use Rattle.go_tree.specs.Tree.{Tree, branch, no_trees, more_trees, tree_of}
 use Rattle.gocheck.specs.Resolution.{second_part, names_of, resolve}
 use Rattle.gocheck.specs.Records.{Headers, sum_of, record_of}
 use Rattle.gocheck.specs.Headers.{headers_of, Follows, Justified, Holds, Known}
+use Rattle.gocheck.specs.Laws.{IsPart}
 use Rattle.gocheck.specs.Table.{slot_of, IsBacked, IsSettled, open_count}
-
--- one map has what the other has
-abbrev pub IsPart : Headers → Headers → Type 0
-IsPart known more = (d : ℕ) (h : ℤ) → known d ≡ Some h → more d ≡ Some h
 
 sum_of-part : (a b a' b' : Option ℤ) (v : ℤ) → ((x : ℤ) → a ≡ Some x → a' ≡ Some x) → ((x : ℤ) → b ≡ Some x → b' ≡ Some x) → sum_of a b ≡ Some v → sum_of a' b' ≡ Some v
 sum_of-part None b a' b' v pa pb e = cc
@@ -29,13 +26,10 @@ and_then-part known more part (Some d) v e = part d v e
 pub record_of-part : (names : List (List ℕ)) (known more : Headers) → IsPart known more → (t : Tree) (v : ℤ) → record_of names known t ≡ Some v → record_of names more t ≡ Some v
 record_of-part names known more part (branch id from to IntLit text parts) v e = e
 record_of-part names known more part (branch id from to Name text parts) v e = and_then-part known more part (resolve names text) v e
+record_of-part names known more part (branch id from to ParenExpr text (more_trees x no_trees)) v e = record_of-part names known more part x v e
 record_of-part names known more part (branch id from to AddExpr text (more_trees x (more_trees y no_trees))) v e =
     sum_of-part (record_of names known x) (record_of names known y) (record_of names more x) (record_of names more y) v (record_of-part names known more part x) (record_of-part names known more part y) e
-record_of-part names known more part (branch id from to AddExpr text no_trees) v e = cc
-record_of-part names known more part (branch id from to AddExpr text (more_trees x no_trees)) v e = cc
-record_of-part names known more part (branch id from to AddExpr text (more_trees x (more_trees y (more_trees z parts)))) v e = cc
-record_of-part names known more part (branch id from to File text parts) v e = cc
-record_of-part names known more part (branch id from to ConstSpec text parts) v e = cc
+record_of-part names known more part t v e = cc
 
 module _ (constants : List Tree) where
   Follows-part : (known more : Headers) → IsPart known more → (d : ℕ) (h : ℤ) → Follows constants known d h → Follows constants more d h

@@ -3,6 +3,7 @@
 -- and the status that it ends with.
 use Rattle.std.specs.Prelude.{◌≡◌, ℕ, ◌⊎◌, Bool, true, false, if◌then◌else◌, List, [], ◌++◌, Option, take, codes}
 use Rattle.std.specs.List.{list_any}
+use Rattle.go_base.specs.declared.rule.Broken.{Broken}
 use Rattle.go_base.specs.declared.rule.Family.{Family}
 use Rattle.go_base.specs.declared.rule.Family.TheVariants.{U, L}
 use Rattle.go_base.specs.declared.status.Status.{Status}
@@ -11,7 +12,7 @@ use Rattle.go_base.specs.declared.tree.MemFile.{MemFile}
 use Rattle.go_base.specs.Status.{IsReport}
 use Rattle.go_base.specs.Tree.{bytes_of}
 use Rattle.go_base.specs.Sink.{Adds}
-use Rattle.gocheck.specs.Report.{Report, accepted, refused, ReportOf}
+use Rattle.gocheck.specs.Report.{Report, accepted, refused, refused_package, ReportOf}
 use Rattle.gocheck.specs.Text.{report_text}
 
 -- own: one byte more than a file may have is read, so that a longer file shows
@@ -24,10 +25,14 @@ is_beyond U = true
 is_beyond L = true
 is_beyond _ = false
 
+abbrev pub refusal_of : List Broken → Status
+refusal_of list = if list_any (λ broken. is_beyond broken.rule.family) list then Beyond else Refused
+
 -- the status that a report ends a run with
 abbrev pub verdict_of : Report → Status
 verdict_of (accepted name lines) = Accepted
-verdict_of (refused list) = if list_any (λ broken. is_beyond broken.rule.family) list then Beyond else Refused
+verdict_of (refused list) = refusal_of list
+verdict_of (refused_package name list) = refusal_of list
 
 -- the text is that of the report of the file, and the status is its verdict
 pub record IsReportText (bytes text : List ℕ) (status : Status) : Type 0 where

@@ -4,12 +4,18 @@ pub mod Words
 pub mod Report
 pub mod Text
 -- what a report rests on
+pub mod Source
 pub mod Grammar
 pub mod Taken
 pub mod Resolution
 pub mod Records
 pub mod Headers
+pub mod Tests
+pub mod Waiting
+pub mod Rules
+pub mod Laws
 -- what inner functions promise each other
+pub mod Marks
 pub mod Reading
 pub mod Table
 pub mod View

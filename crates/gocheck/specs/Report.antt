@@ -1,19 +1,20 @@
 -- The report of a file.
 -- Decides whether a file is accepted, and which lines its report has. How a line reads: `Text`.
 -- Lines stand by their places, and of two nodes that start at one place the longer one stands first.
-use Rattle.std.specs.Prelude.{◌≡◌, ℕ, ℤ, ◌+◌, ◌<◌, ◌≤◌, ◌↔◌, ◌⊎◌, Option, Some, IsSome, option_and_then, List, [], ◌∷◌, ◌++◌, length, map, slice_get}
+use Rattle.std.specs.Prelude.{◌≡◌, ℕ, ℤ, ◌+◌, ◌<◌, ◌≤◌, ◌↔◌, Bool, true, Option, Some, option_and_then, List, [], ◌∷◌, ◌++◌, length, map, slice_get}
 use Rattle.std.specs.Option.{option_map_or}
 use Rattle.std.specs.List.{flat_map}
 use Rattle.go_base.specs.declared.rule.Broken.{Broken}
-use Rattle.go_base.specs.declared.rule.Family.TheVariants.{U}
 use Rattle.go_tree.specs.declared.node.NodeKind.TheVariants.{Name}
 use Rattle.go_tree.specs.Tree.{Tree, branch, Trees, no_trees, more_trees, start_of, end_of, text_of}
 use Rattle.gocheck.specs.declared.line.Line.{Line}
 use Rattle.gocheck.specs.declared.line.Line.TheVariants.{Def, Use, Expr}
-use Rattle.gocheck.specs.Grammar.{IsTreeOf}
-use Rattle.gocheck.specs.Resolution.{first_part, second_part, constants_of, names_of, IsEachOnce, resolve}
+use Rattle.gocheck.specs.Source.{IsTreeOf, GoesWrongAt}
+use Rattle.gocheck.specs.Resolution.{first_part, second_part, constants_of, names_of, resolve}
 use Rattle.gocheck.specs.Records.{Headers, record_of}
 use Rattle.gocheck.specs.Headers.{Known}
+use Rattle.gocheck.specs.Waiting.{Chain}
+use Rattle.gocheck.specs.Rules.{broken_at, unbuilt_form, undeclared, broken_values}
 
 -- a line for each constant, from the constant d on
 abbrev pub defs_from : Headers → ℕ → List Tree → List Line
@@ -46,37 +47,39 @@ abbrev mutual
 abbrev pub lines_of : List Tree → Headers → List Line
 lines_of constants headers = defs_from headers 0 constants ++ (flat_map (λ spec. uses_in constants (second_part spec)) constants ++ flat_map (λ spec. exprs_in (names_of constants) headers (second_part spec)) constants)
 
--- each name is declared once, and each constant has a header, so that each name that it uses is
--- declared
-pub record IsAccepted (constants : List Tree) (lines : List Line) : Type 0 where
-  pub once : IsEachOnce (names_of constants)
+-- What a run tells of a file.
+pub data Report : Type 0 where
+  -- the package's name, and the lines behind its own
+  accepted : List ℕ → List Line → Report
+  -- the broken rules of the file
+  refused : List Broken → Report
+  -- the package's name, and the broken rules of its constants
+  refused_package : List ℕ → List Broken → Report
+
+abbrev pub values_report : List ℕ → List Broken → List Line → Report
+values_report name [] lines = accepted name lines
+values_report name (b ∷ bs) lines = refused_package name (b ∷ bs)
+
+-- the report by the values of the constants, over their known headers
+pub record ValuesReport (name : List ℕ) (constants : List Tree) (report : Report) : Type 0 where
   pub headers : Headers
   pub known : (d : ℕ) (h : ℤ) → (headers d ≡ Some h) ↔ Known constants d h
-  pub every : (d : ℕ) → d < length constants → IsSome (headers d)
-  pub lines_are : lines ≡ lines_of constants headers
+  pub cyclic : ℕ → Bool
+  pub is_cyclic : (d : ℕ) → (cyclic d ≡ true) ↔ Chain constants headers d d
+  pub report_is : report ≡ values_report name (broken_values (names_of constants) headers cyclic 0 constants) (lines_of constants headers)
 
-pub data Report : Type 0 where
-  -- the name of the package, and the lines behind its own
-  accepted : List ℕ → List Line → Report
-  refused : List Broken → Report
+-- the report of the constants of a package: the first phase that breaks a rule ends it, names before
+-- values
+pub data PackageReport (name : List ℕ) (constants : List Tree) : Report → Type 0 where
+  by_names : (b : Broken) (bs : List Broken) → undeclared constants ≡ b ∷ bs → PackageReport name constants (refused_package name (b ∷ bs))
+  by_values : (report : Report) → undeclared constants ≡ [] → ValuesReport name constants report → PackageReport name constants report
 
 -- own: the most bytes that a file may have
 abbrev pub most_bytes : ℕ
 most_bytes = 16777216
 
--- the report of a file that is read today
-pub record AcceptedReport (bytes : List ℕ) (report : Report) : Type 0 where
-  pub size : length bytes ≤ most_bytes
-  pub tree : Tree
-  pub is_tree : IsTreeOf bytes tree
-  pub lines : List Line
-  pub is_accepted : IsAccepted (constants_of tree) lines
-  pub report_is : report ≡ accepted (text_of (first_part tree)) lines
-
--- own: what is not read today breaks U0, at the first byte
-abbrev pub beyond : Report
-beyond = refused (record { pos = record { file = 0; offset = 0 }; rule = record { family = U; number = 0 } } ∷ [])
-
--- the report of a file
-abbrev pub ReportOf : List ℕ → Report → Type 0
-ReportOf bytes report = AcceptedReport bytes report ⊎ (((other : Report) → AcceptedReport bytes other → ⊥) × (report ≡ beyond))
+-- the report of a file: it is too long, or it goes wrong, or it has a tree
+pub data ReportOf (bytes : List ℕ) : Report → Type 0 where
+  too_long : most_bytes < length bytes → ReportOf bytes (refused (broken_at 0 unbuilt_form ∷ []))
+  wrong : (offset : ℕ) → length bytes ≤ most_bytes → GoesWrongAt bytes offset → ReportOf bytes (refused (broken_at offset unbuilt_form ∷ []))
+  read : (tree : Tree) (report : Report) → length bytes ≤ most_bytes → IsTreeOf bytes tree → PackageReport (text_of (first_part tree)) (constants_of tree) report → ReportOf bytes report

@@ -2,7 +2,7 @@
 -- Decides which constant an identifier denotes. "The scope of an identifier denoting a constant ..
 -- declared at top level (outside any function) is the package block": so the order of declarations
 -- does not count. A constant is known by its place in the list of the file's constants.
-use Rattle.std.specs.Prelude.{◌≢◌, ℕ, List, [], Option, map, position, AllPairs}
+use Rattle.std.specs.Prelude.{ℕ, List, [], Option, map, position}
 use Rattle.go_tree.specs.Tokens.{same_text}
 use Rattle.go_tree.specs.Tree.{Tree, branch, no_trees, more_trees, list_of, text_of}
 
@@ -24,10 +24,6 @@ constants_of (branch id from to kind text (more_trees name specs)) = list_of spe
 -- the names that they have
 abbrev pub names_of : List Tree → List (List ℕ)
 names_of constants = map (λ spec. text_of (first_part spec)) constants
-
--- "No identifier may be declared twice in the same block"
-abbrev pub IsEachOnce : List (List ℕ) → Type 0
-IsEachOnce names = AllPairs (λ a b. a ≢ b) names
 
 -- the constant that a name denotes: the one that declares it
 abbrev pub resolve : List (List ℕ) → List ℕ → Option ℕ

@@ -1,5 +1,5 @@
--- A table of headers, one slot for each constant.
--- Says what the rounds that fill it keep, and when nothing more can be filled in.
+-- A table of headers, one slot for each constant, and a list of marks, one for each constant.
+-- Says what the rounds that fill the table keep, and when nothing more can be filled in.
 use Rattle.std.specs.Prelude.{◌≡◌, ℕ, suc, ℤ, Option, Some, None, List, [], ◌∷◌, slice_get, unwrap_or}
 use Rattle.go_tree.specs.Tree.{Tree}
 use Rattle.gocheck.specs.Records.{Headers}

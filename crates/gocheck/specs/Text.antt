@@ -8,7 +8,7 @@ use Rattle.go_base.specs.Rule.{rule_text}
 use Rattle.go_base.specs.declared.rule.Broken.{Broken}
 use Rattle.gocheck.specs.declared.line.Line.{Line}
 use Rattle.gocheck.specs.declared.line.Line.TheVariants.{Def, Use, Expr}
-use Rattle.gocheck.specs.Report.{Report, accepted, refused}
+use Rattle.gocheck.specs.Report.{Report, accepted, refused, refused_package}
 
 -- `line:col`, both from 1
 abbrev pub line_col : List ℕ → ℕ → List ℕ
@@ -31,13 +31,14 @@ broken_fields bytes broken = codes "broken" ∷ place_text bytes broken.pos.offs
 abbrev pub module_fields : List (List ℕ)
 module_fields = codes "module" ∷ codes "m" ∷ codes "1.21" ∷ []
 
-abbrev pub package_fields : List ℕ → List (List ℕ)
-package_fields name = codes "package" ∷ codes "m" ∷ name ∷ codes "accepted" ∷ []
+abbrev pub package_fields : List ℕ → List ℕ → List (List ℕ)
+package_fields name verdict = codes "package" ∷ codes "m" ∷ name ∷ verdict ∷ []
 
 -- the lines of a report, each as its fields
 abbrev pub report_fields : List ℕ → Report → List (List (List ℕ))
-report_fields bytes (accepted name lines) = module_fields ∷ package_fields name ∷ map (line_fields bytes) lines
+report_fields bytes (accepted name lines) = module_fields ∷ package_fields name (codes "accepted") ∷ map (line_fields bytes) lines
 report_fields bytes (refused list) = (codes "refused" ∷ []) ∷ map (broken_fields bytes) list
+report_fields bytes (refused_package name list) = module_fields ∷ package_fields name (codes "refused") ∷ map (broken_fields bytes) list
 
 abbrev pub line_text : List (List ℕ) → List ℕ
 line_text fields = join_with_byte 9 fields ++ codes "\n"

@@ -1,14 +1,19 @@
 // The check of a file.
-ghost use Rattle.std.specs.Prelude.{◌≡◌, IfOk, IfSome, IfNone};
-ghost use Rattle.gocheck.specs.Report as report;
-ghost use Rattle.gocheck.specs.Report.{AcceptedReport, ReportOf, beyond};
+ghost use Rattle.std.specs.Prelude.{◌≡◌, ◌∷◌, [], IfOk};
+ghost use Rattle.go_tree.specs.Tree.{text_of, tree_of};
+ghost use Rattle.gocheck.specs.Report.{PackageReport, refused, ReportOf};
+ghost use Rattle.gocheck.specs.Resolution as resolution;
+ghost use Rattle.gocheck.specs.Resolution.{names_of};
+ghost use Rattle.gocheck.specs.Rules.{broken_at, unbuilt_form};
+ghost use Rattle.gocheck.specs.Source.{IsEachOnce};
 ghost use Rattle.gocheck.specs.View.{report_view};
 
-use crate::constants::accepted_lines;
+use crate::constants::check_constants;
 use crate::parts::{constants_of, first_part};
 use crate::report::Report;
 use crate::source::read_source;
 use go_base::{Broken, Bytes, NoMemory, Pos, UNBUILT_FORM};
+use go_tree::Node;
 use std::alloc::Global;
 
 /// The most bytes that a file may have.
@@ -18,35 +23,29 @@ const MOST_BYTES: usize = 16_777_216;
 pub fn check_file(alloc: Global, bytes: &[u8]) -> Result<Report, NoMemory>
     ensures { IfOk result (λ report. ReportOf bytes.now (report_view report)) }
 {
-    match accepted_report(alloc, bytes)? {
-        Some(report) => Ok(report),
-        None => beyond_report(alloc),
-    }
-}
-
-// The report of a file that is accepted; None exactly where it is not.
-fn accepted_report(alloc: Global, bytes: &[u8]) -> Result<Option<Report>, NoMemory>
-    ensures some { IfOk result (λ made. IfSome made (λ report. AcceptedReport bytes.now (report_view report))) }
-    ensures none { IfOk result (λ made. IfNone made ((other : report.Report) → AcceptedReport bytes.now other → ⊥)) }
-{
     if bytes.len() > MOST_BYTES {
-        return Ok(None);
+        return unbuilt_at(alloc, 0);
     }
-    let Some(file) = read_source(alloc, bytes)? else {
-        return Ok(None);
-    };
-    let Some(lines) = accepted_lines(alloc, constants_of(&file.root))? else {
-        return Ok(None);
-    };
-    let name = Bytes::new(first_part(&file.root).text().to_vec(alloc)?);
-    Ok(Some(Report::Accepted { name, lines }))
+    match read_source(alloc, bytes)? {
+        Ok(file) => check_package(alloc, &file.root),
+        Err(offset) => unbuilt_at(alloc, offset),
+    }
 }
 
-// The report of every other file: one rule, at its first byte.
-fn beyond_report(alloc: Global) -> Result<Report, NoMemory>
-    ensures { IfOk result (λ report. report_view report ≡ beyond) }
+// The report of a file that has a tree.
+fn check_package(alloc: Global, root: &Node) -> Result<Report, NoMemory>
+    requires { IsEachOnce (names_of (resolution.constants_of (tree_of root.now))) }
+    ensures { IfOk result (λ report. PackageReport (text_of (resolution.first_part (tree_of root.now))) (resolution.constants_of (tree_of root.now)) (report_view report)) }
 {
-    let pos = Pos { file: 0, offset: 0 };
+    let name = Bytes::new(first_part(root).text().to_vec(alloc)?);
+    check_constants(alloc, name, constants_of(root))
+}
+
+// The report of a file that goes wrong at an offset.
+fn unbuilt_at(alloc: Global, offset: usize) -> Result<Report, NoMemory>
+    ensures { IfOk result (λ report. report_view report ≡ refused (broken_at offset unbuilt_form ∷ [])) }
+{
+    let pos = Pos { file: 0, offset };
     let rule = UNBUILT_FORM;
     let list = vec![in alloc; Broken { pos, rule }]?;
     Ok(Report::Refused { list })

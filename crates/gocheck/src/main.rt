@@ -1,15 +1,20 @@
 //! `gocheck ROOT`: checks the Go file `a.go` below ROOT and prints its report.
 #![tactic(auto)]
 
+mod broken;
 mod check;
 mod constants;
+mod cycles;
 mod fields;
 mod folder;
 mod folder_list;
 mod headers;
+mod laws;
+mod levels;
 mod line;
+mod name;
 mod names;
-mod parse;
+mod nodes;
 mod parts;
 mod paths;
 mod record;
@@ -19,10 +24,15 @@ mod report_lines;
 mod rows;
 mod run;
 mod source;
+mod state;
 mod std_sink;
+mod step;
 mod taken;
 mod text;
-mod tokens;
+mod undeclared;
+mod values;
+mod waits;
+mod wide;
 mod words;
 
 ghost use Rattle.std.specs.Prelude.{◌≡◌};

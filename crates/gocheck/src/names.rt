@@ -1,7 +1,8 @@
 // The names that a file declares.
 ghost use Rattle.std.specs.Prelude.{◌≡◌, IfOk, IfSome, IfNone, map};
 ghost use Rattle.go_tree.specs.Tree.{tree_of};
-ghost use Rattle.gocheck.specs.Resolution.{names_of, IsEachOnce, resolve};
+ghost use Rattle.gocheck.specs.Resolution.{names_of, resolve};
+ghost use Rattle.gocheck.specs.Source.{IsEachOnce};
 
 use crate::parts::first_part;
 use go_base::NoMemory;

@@ -18,6 +18,7 @@ pub fn record(names: &Names, table: &[Option<i128>], node: &Node) -> Option<i128
     match node.kind() {
         NodeKind::IntLit => literal_value(node.text()),
         NodeKind::Name => slot(table, names.index_of(node.text())?),
+        NodeKind::ParenExpr => record(names, table, node.only_part()?),
         NodeKind::AddExpr => {
             let (left, right) = node.both_parts()?;
             sum(record(names, table, left), record(names, table, right))
@@ -38,6 +39,20 @@ pub fn sum(left: Option<i128>, right: Option<i128>) -> Option<i128>
     ensures { result ≡ sum_of left right }
 {
     int_binary(IntOp::Add, left?, right?).ok()
+}
+
+/// What stands in parentheses; None exactly for a node that is no parentheses round one part.
+pub fn parenthesized(node: &Node) -> Option<&Node>
+    ensures kind { IfSome result (λ _. kind_of (tree_of node.now) ≡ node_kind.ParenExpr) }
+    ensures part { IfSome result (λ a. parts_of (tree_of node.now)
+        ≡ more_trees (tree_of a.now) no_trees) }
+    ensures none { IfNone result ((a : Tree) → kind_of (tree_of node.now) ≡ node_kind.ParenExpr
+        → parts_of (tree_of node.now) ≡ more_trees a no_trees → ⊥) }
+{
+    match node.kind() {
+        NodeKind::ParenExpr => node.only_part(),
+        _ => None,
+    }
 }
 
 /// The operands of a sum; None exactly for a node that is no sum of two parts.

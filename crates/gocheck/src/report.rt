@@ -2,7 +2,7 @@
 ghost use Rattle.std.specs.Prelude.{◌≡◌};
 ghost use Rattle.std.specs.List.{list_any};
 ghost use Rattle.go_base.specs.Status.{IsReport};
-ghost use Rattle.gocheck.specs.Headline.{is_beyond, verdict_of};
+ghost use Rattle.gocheck.specs.Headline.{is_beyond, refusal_of, verdict_of};
 ghost use Rattle.gocheck.specs.View.{report_view};
 
 use crate::line::Line;
@@ -13,8 +13,10 @@ use go_base::{Broken, Bytes, Family, Status};
 pub enum Report {
     /// The file is accepted: the name of its package, and the lines behind the package's own.
     Accepted { name: Bytes, lines: Vec<Line> },
-    /// The broken rules, by offset and then in the order of the table of rules.
+    /// The file itself breaks rules: by offset, then in the order of the table of rules.
     Refused { list: Vec<Broken> },
+    /// The constants break rules: the name of the package, and the rules in the same order.
+    RefusedPackage { name: Bytes, list: Vec<Broken> },
 }
 
 /// The status that the report ends a run with.
@@ -24,13 +26,20 @@ pub fn verdict(report: &Report) -> Status
 {
     match report {
         Report::Accepted { .. } => Status::Accepted,
-        Report::Refused { list } => {
-            if has_beyond(list) {
-                Status::Beyond
-            } else {
-                Status::Refused
-            }
-        }
+        Report::Refused { list } => refusal(list),
+        Report::RefusedPackage { list, .. } => refusal(list),
+    }
+}
+
+// The status of a report with these broken rules.
+fn refusal(list: &[Broken]) -> Status
+    ensures verdict { result ≡ refusal_of list.now }
+    ensures report { IsReport result }
+{
+    if has_beyond(list) {
+        Status::Beyond
+    } else {
+        Status::Refused
     }
 }
 

@@ -14,7 +14,7 @@ ghost use Rattle.gocheck.specs.Report as report;
 use crate::line::Line;
 use crate::names::Names;
 use crate::parts::{first_part, second_part};
-use crate::record::{operands, record, slot, sum};
+use crate::record::{operands, parenthesized, record, slot, sum};
 use go_base::NoMemory;
 use go_tree::{Node, NodeKind};
 use std::alloc::Global;
@@ -156,16 +156,15 @@ fn push_exprs_reversed(
     ensures lines { OnOk result (lines.new.items
         ≡ lines.old.items ++ reverse (exprs_in names.now (slot_of table.now) (tree_of node.now))) }
 {
-    let value = match operands(node) {
-        Some((left, right)) => {
-            let right = push_exprs_reversed(names, table, right, lines)?;
-            let left = push_exprs_reversed(names, table, left, lines)?;
-            sum(left, right)
-        }
-        None => {
-            push_parts_reversed(names, table, node.parts(), lines)?;
-            record(names, table, node)
-        }
+    let value = if let Some(inner) = parenthesized(node) {
+        push_exprs_reversed(names, table, inner, lines)?
+    } else if let Some((left, right)) = operands(node) {
+        let right = push_exprs_reversed(names, table, right, lines)?;
+        let left = push_exprs_reversed(names, table, left, lines)?;
+        sum(left, right)
+    } else {
+        push_parts_reversed(names, table, node.parts(), lines)?;
+        record(names, table, node)
     };
     push_expr(node, value, lines)?;
     Ok(value)

@@ -3,8 +3,10 @@ ghost use Rattle.std.specs.Prelude.{◌≡◌, IfOk};
 ghost use Rattle.go_base.specs.Tree.{HasDistinctPaths};
 
 mod accepted;
-mod beyond;
+mod broken;
 mod chain;
+mod cut;
+mod deep;
 mod faults;
 mod folders;
 mod orders;
@@ -12,6 +14,7 @@ mod size;
 mod streams;
 mod trees;
 mod usage;
+mod wrong;
 
 use crate::run::gocheck;
 use go_base::{Bytes, MemFile, Name, Sink, Status, Steps, SureSink, SureTree, Tree, Word};
@@ -19,8 +22,8 @@ use std::alloc::{AllocError, Global};
 use std::marker::Brand;
 use std::sync::ledger::{Blank, Ledger};
 
-/// The report of every file that is not read today.
-pub const BEYOND: &str = "refused\nbroken\ta.go:1:1\tU0\n";
+/// The report of a file that goes wrong at its first byte.
+pub const WRONG: &str = "refused\nbroken\ta.go:1:1\tU0\n";
 
 pub fn words(alloc: Global, texts: &[&str]) -> Result<Vec<Word>, AllocError> {
     let mut words = Vec::new(alloc);

@@ -2,7 +2,7 @@
 ghost use Rattle.std.specs.Prelude.{◌≡◌, ◌++◌, IfOk, OnOk, map, slice_range, string_bytes};
 ghost use Rattle.std.specs.List.{flat_map};
 ghost use Rattle.gocheck.specs.Text.{line_col, place_text, line_fields, broken_fields, line_text, module_fields, package_fields, report_text};
-ghost use Rattle.gocheck.specs.Report.{accepted, refused};
+ghost use Rattle.gocheck.specs.Report.{accepted, refused, refused_package};
 ghost use Rattle.gocheck.specs.View.{report_view};
 
 use crate::fields::put_line;
@@ -21,6 +21,9 @@ pub fn report_text(alloc: Global, bytes: &[u8], report: &Report) -> Result<Vec<u
             accepted_text(alloc, &places, name.as_slice(), lines)?
         }
         Report::Refused { list } => refused_text(alloc, &places, list)?,
+        Report::RefusedPackage { name, list } => {
+            refused_package_text(alloc, &places, name.as_slice(), list)?
+        }
     };
     Ok(text)
 }
@@ -34,7 +37,7 @@ fn accepted_text(
     ensures { IfOk result (λ text. text.items ≡ report_text places.now (accepted name.now lines.now)) }
 {
     let mut out = Vec::new(alloc);
-    put_head(&mut out, name)?;
+    put_head(&mut out, name, b"accepted")?;
     put_lines(alloc, &mut out, places, lines)?;
     Ok(out)
 }
@@ -48,12 +51,26 @@ fn refused_text(alloc: Global, places: &Lines<'_>, list: &[Broken]) -> Result<Ve
     Ok(out)
 }
 
+fn refused_package_text(
+    alloc: Global,
+    places: &Lines<'_>,
+    name: &[u8],
+    list: &[Broken],
+) -> Result<Vec<u8>, AllocError>
+    ensures { IfOk result (λ text. text.items ≡ report_text places.now (refused_package name.now list.now)) }
+{
+    let mut out = Vec::new(alloc);
+    put_head(&mut out, name, b"refused")?;
+    put_list(alloc, &mut out, places, list)?;
+    Ok(out)
+}
+
 // The lines of the module and of its one package.
-fn put_head(out: &mut Vec<u8>, name: &[u8]) -> Result<(), AllocError>
-    ensures { OnOk result (out.new.items ≡ out.old.items ++ (line_text module_fields ++ line_text (package_fields name.now))) }
+fn put_head(out: &mut Vec<u8>, name: &[u8], verdict: &[u8]) -> Result<(), AllocError>
+    ensures { OnOk result (out.new.items ≡ out.old.items ++ (line_text module_fields ++ line_text (package_fields name.now verdict.now))) }
 {
     put_line(out, &[b"module", b"m", b"1.21"])?;
-    put_line(out, &[b"package", b"m", name, b"accepted"])
+    put_line(out, &[b"package", b"m", name, verdict])
 }
 
 fn put_lines(

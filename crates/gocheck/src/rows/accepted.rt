@@ -3,7 +3,7 @@ use super::checked;
 use go_base::Status;
 use std::test::Fail;
 
-const ROWS: [(&str, &str, &str); 7] = [
+const ROWS: [(&str, &str, &str); 9] = [
     (
         "a constant is used before it is declared",
         "package p\n\nconst X = Y + 2\nconst Y = 1\n",
@@ -56,6 +56,19 @@ const ROWS: [(&str, &str, &str); 7] = [
          expr\ta.go:2:19\t2:20\tconst\tuntyped int\t3\n",
     ),
     (
+        "parentheses group a sum, and are expressions too",
+        "package p\nconst X = (1 + 2) + 3\n",
+        "module\tm\t1.21\n\
+         package\tm\tp\taccepted\n\
+         def\ta.go:2:7\tX\tconst\tuntyped int\t6\n\
+         expr\ta.go:2:11\t2:22\tconst\tuntyped int\t6\n\
+         expr\ta.go:2:11\t2:18\tconst\tuntyped int\t3\n\
+         expr\ta.go:2:12\t2:17\tconst\tuntyped int\t3\n\
+         expr\ta.go:2:12\t2:13\tconst\tuntyped int\t1\n\
+         expr\ta.go:2:16\t2:17\tconst\tuntyped int\t2\n\
+         expr\ta.go:2:21\t2:22\tconst\tuntyped int\t3\n",
+    ),
+    (
         "blanks, carriage returns and a sum over two lines",
         "\r\n\tpackage  p\r\nconst\tX=1 +\n 2\r\n",
         "module\tm\t1.21\n\
@@ -72,6 +85,16 @@ const ROWS: [(&str, &str, &str); 7] = [
          package\tm\tp\taccepted\n\
          def\ta.go:2:7\tX\tconst\tuntyped int\t170141183460469231731687303715884105727\n\
          expr\ta.go:2:11\t2:50\tconst\tuntyped int\t170141183460469231731687303715884105727\n",
+    ),
+    (
+        "a sum that is the greatest constant",
+        "package p\nconst X = 170141183460469231731687303715884105726 + 1\n",
+        "module\tm\t1.21\n\
+         package\tm\tp\taccepted\n\
+         def\ta.go:2:7\tX\tconst\tuntyped int\t170141183460469231731687303715884105727\n\
+         expr\ta.go:2:11\t2:54\tconst\tuntyped int\t170141183460469231731687303715884105727\n\
+         expr\ta.go:2:11\t2:50\tconst\tuntyped int\t170141183460469231731687303715884105726\n\
+         expr\ta.go:2:53\t2:54\tconst\tuntyped int\t1\n",
     ),
 ];
 

@@ -1,68 +1,92 @@
-// Trees of short texts, from the rules of the language.
+// Trees of short texts, from the grammar of the language.
 use crate::source::read_source;
 use go_base::NoMemory;
-use go_tree::NodeKind::{AddExpr, ConstSpec, File, IntLit, Name};
+use go_tree::NodeKind::{AddExpr, ConstSpec, File, IntLit, Name, ParenExpr};
 use go_tree::{NodeId, NodeKind, find};
 use std::alloc::Global;
 
-// A node's kind, the offset of its first byte, the offset behind its last, and its text.
-type Row = (NodeKind, usize, usize, &'static [u8]);
+// A kind, the offset of its first byte and the offset behind its last.
+type Span = (NodeKind, usize, usize);
 
-// Whether the text has the tree with these nodes, which are numbered from 45 on.
-fn has_nodes(alloc: Global, text: &[u8], rows: &[Row]) -> Result<bool, NoMemory> {
-    let Some(file) = read_source(alloc, text)? else {
-        return Ok(false);
+// The nodes of the text's tree in the order of their numbers, or the offset where it goes wrong.
+fn nodes(alloc: Global, text: &[u8]) -> Result<Result<Vec<Span>, usize>, NoMemory> {
+    let file = match read_source(alloc, text)? {
+        Ok(file) => file,
+        Err(offset) => return Ok(Err(offset)),
     };
-    let mut id = 45;
-    for (kind, start, end, word) in rows {
-        let Some(node) = find(&file, NodeId(id)) else {
-            return Ok(false);
-        };
-        if (node.kind(), node.start(), node.end()) != (*kind, *start, *end)
-            || node.text() != *word
-        {
-            return Ok(false);
+    let mut nodes = Vec::new(alloc);
+    for number in 45..64 {
+        if let Some(node) = find(&file, NodeId(number)) {
+            nodes.push((node.kind(), node.start(), node.end()))?;
         }
-        id = id.saturating_add(1);
     }
-    Ok(find(&file, NodeId(id)).is_none())
+    Ok(Ok(nodes))
 }
 
 #[test]
 fn texts_have_their_trees(rt: HostRuntime) -> Result<(), NoMemory> {
-    let rows: [(&[u8], &[Row]); 3] = [
-        (b"package p", &[(Name, 8, 9, b"p"), (File, 0, 9, b"")]),
+    let rows: [(&[u8], &[Span]); 5] = [
+        (b"package p\n", &[(Name, 8, 9), (File, 0, 10)]),
         (
-            b"\npackage _x\n\nconst A = B\n",
+            b"package p\nconst X = Y\nconst Y = 1",
             &[
-                (Name, 9, 11, b"_x"),
-                (Name, 19, 20, b"A"),
-                (Name, 23, 24, b"B"),
-                (ConstSpec, 19, 24, b""),
-                (File, 1, 25, b""),
+                (Name, 8, 9),
+                (Name, 16, 17),
+                (Name, 20, 21),
+                (ConstSpec, 16, 21),
+                (Name, 28, 29),
+                (IntLit, 32, 33),
+                (ConstSpec, 28, 33),
+                (File, 0, 33),
             ],
         ),
-        // sums group to the left
         (
-            b"package p\n\nconst X = Y + 2 +\n3\nconst Y = 17",
+            b"package p\nconst X = 1 + 2 + 3\n",
             &[
-                (Name, 8, 9, b"p"),
-                (Name, 17, 18, b"X"),
-                (Name, 21, 22, b"Y"),
-                (IntLit, 25, 26, b"2"),
-                (AddExpr, 21, 26, b""),
-                (IntLit, 29, 30, b"3"),
-                (AddExpr, 21, 30, b""),
-                (ConstSpec, 17, 30, b""),
-                (Name, 37, 38, b"Y"),
-                (IntLit, 41, 43, b"17"),
-                (ConstSpec, 37, 43, b""),
-                (File, 0, 43, b""),
+                (Name, 8, 9),
+                (Name, 16, 17),
+                (IntLit, 20, 21),
+                (IntLit, 24, 25),
+                (AddExpr, 20, 25),
+                (IntLit, 28, 29),
+                (AddExpr, 20, 29),
+                (ConstSpec, 16, 29),
+                (File, 0, 30),
+            ],
+        ),
+        (
+            b"package p\nconst X = 1 + (2 + 3)\n",
+            &[
+                (Name, 8, 9),
+                (Name, 16, 17),
+                (IntLit, 20, 21),
+                (IntLit, 25, 26),
+                (IntLit, 29, 30),
+                (AddExpr, 25, 30),
+                (ParenExpr, 24, 31),
+                (AddExpr, 20, 31),
+                (ConstSpec, 16, 31),
+                (File, 0, 32),
+            ],
+        ),
+        (
+            b"package p\nconst X = (\n(Y))\n",
+            &[
+                (Name, 8, 9),
+                (Name, 16, 17),
+                (Name, 23, 24),
+                (ParenExpr, 22, 25),
+                (ParenExpr, 20, 26),
+                (ConstSpec, 16, 26),
+                (File, 0, 27),
             ],
         ),
     ];
-    for (text, nodes) in rows {
-        assert!(rt; has_nodes(rt.alloc(), text, nodes)?, "nodes of {text:?}");
+    for (text, spans) in rows {
+        match nodes(rt.alloc(), text)? {
+            Ok(tree) => assert_eq!(rt; tree.as_slice(), spans, "tree of {text:?}"),
+            Err(offset) => assert_eq!(rt; Some(offset), None, "place of {text:?}"),
+        }
     }
     Ok(())
 }

@@ -1,6 +1,7 @@
 use Rattle.std.proofs.Common.{◌≡◌, map, take}
 use Rattle.go_tree.specs.Tree.{tree_of}
-use Rattle.gocheck.specs.Resolution.{names_of, IsEachOnce}
+use Rattle.gocheck.specs.Source.{IsEachOnce}
+use Rattle.gocheck.specs.Resolution.{names_of}
 use Rattle.gocheck.proofs.names.Names.new.Given as goal
 
 abbrev pub invariant-loop-constant : goal.invariant-loop-constant

@@ -1,0 +1,22 @@
+use Rattle.std.proofs.Common.{◌≡◌, ◌≢◌, ◌∙◌, [], map, sym}
+use Rattle.go_tree.specs.Tree.{tree_of}
+use Rattle.gocheck.specs.declared.report.Report.{Report as Own}
+use Rattle.gocheck.specs.Report.{PackageReport, ValuesReport, by_values}
+use Rattle.gocheck.specs.Rules.{undeclared}
+use Rattle.gocheck.specs.View.{report_view}
+use Rattle.gocheck.proofs.ReportLemmas.{if_ok-map, refused_names}
+use Rattle.gocheck.proofs.constants.check_constants.Goals as goal
+
+pub returns-then-breaks_none : goal.returns-then-breaks_none
+returns-then-breaks_none c =
+    let constants = map tree_of c.args.constants.now in
+    let none : c.in_ok-list.list.items ≡ [] = cc (c.breaks_none.ensures.none c.if-breaks_none.true, c.deref.ensures.value) in
+    let all : undeclared constants ≡ [] = sym c.in_ok-list.ensures ∙ none in
+    if_ok-map c.check_values.result (λ (r : Own). ValuesReport c.args.name constants (report_view r)) (λ (r : Own). PackageReport c.args.name constants (report_view r))
+    (λ r v. by_values (report_view r) all v)
+    c.check_values.ensures
+
+pub returns : goal.returns
+returns c =
+    let some : c.in_ok-list.list.items ≢ [] = λ e. c.breaks_none.ensures.some c.if-breaks_none.false (c.deref.ensures.value ∙ e) in
+    refused_names c.args.name (map tree_of c.args.constants.now) c.in_ok-list.list.items c.in_ok-list.ensures some
