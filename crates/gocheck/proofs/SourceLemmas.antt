@@ -19,7 +19,7 @@ use Rattle.gocheck.proofs.MachineLemmas.{run, derived_runs, one_derived}
 use Rattle.gocheck.proofs.MeaningLemmas.{runs_derive}
 use Rattle.gocheck.proofs.CompletionLemmas.{completes}
 use Rattle.gocheck.proofs.DeclaredLemmas.{name_behind, declared-push, declares_more, derived_declares}
-use Rattle.gocheck.proofs.ScanLemmas.{one_scan, GoesOn, scan-token, BeginsEach, begins-token, next_of, lexemes-push, front-last}
+use Rattle.gocheck.proofs.ScanLemmas.{one_scan, GoesOn, scan-token, lexemes-push, front-last}
 use Rattle.gocheck.proofs.OnceLemmas.{texts, any-texts, texts-push, once-push, once-front, twice-push}
 
 -- some tokens are read, up to `at`; they brought the reading to s, and declare the names, each once
@@ -27,7 +27,6 @@ pub record Reads (bytes : List ℕ) (at : ℕ) (last : Option TokenKind) (s : St
   pub tokens : List Token
   pub scanned : ScanFront bytes tokens at last
   pub goes_on : GoesOn bytes tokens at last
-  pub begins_each : BeginsEach bytes tokens at last
   pub reads : (ls : List Lexeme) → run starting (lexemes_of bytes tokens ++ ls) ≡ run s ls
   pub names_are : declared (lexemes_of bytes tokens) ≡ names
   pub once : IsEachOnce names
@@ -38,7 +37,6 @@ start_reads bytes = record {
   tokens = [];
   scanned = none;
   goes_on = λ ts s. s;
-  begins_each = λ whole s. record { rest = whole; tokens_are = refl; scan = s };
   reads = λ ls. refl;
   names_are = refl;
   once = λ i j d lt within. absurd (omega arith);
@@ -82,7 +80,6 @@ reads_token bytes at last s names t to names' r n not_end e are once = record {
   tokens = r.tokens ++ t ∷ [];
   scanned = more r.tokens at last t r.scanned n not_end;
   goes_on = scan-token bytes r.tokens at last t r.goes_on n not_end;
-  begins_each = begins-token bytes r.tokens at last t r.begins_each n not_end;
   reads = λ ls. runs_more bytes at last s names r t ls ∙ ap (option_and_then (λ s'. run s' ls)) e;
   names_are = declared_more bytes at last s names r t ∙ sym are;
   once = once;
@@ -135,39 +132,28 @@ whole_front bytes tree t = record {
   once = t.once;
 }
 
--- the text goes wrong there, and has no tree
-pub record Wrong (bytes : List ℕ) (offset : ℕ) : Type 0 where
-  pub there : GoesWrongAt bytes offset
-  pub no_tree : (tree : Tree) → IsTreeOf bytes tree → ⊥
-
-wrong_at : (bytes : List ℕ) (at : ℕ) (last : Option TokenKind) (s : State) (names : List (List ℕ)) (offset : ℕ) (r : Reads bytes at last s names) → offset ≡ next_start bytes at last → ((t : Token) → IsNext bytes at last t → IsFront bytes (r.tokens ++ t ∷ []) → ⊥) → Wrong bytes offset
+wrong_at : (bytes : List ℕ) (at : ℕ) (last : Option TokenKind) (s : State) (names : List (List ℕ)) (offset : ℕ) (r : Reads bytes at last s names) → offset ≡ next_start bytes at last → ((t : Token) → IsNext bytes at last t → IsFront bytes (r.tokens ++ t ∷ []) → ⊥) → GoesWrongAt bytes offset
 wrong_at bytes at last s names offset r place no_front = record {
-  there = record {
-    tokens = r.tokens;
-    to = at;
-    kind = last;
-    scanned = r.scanned;
-    front = front bytes at last s names r;
-    place = place;
-    wrong = no_front;
-  };
-  no_tree = λ tree t.
-      let n = next_of bytes r.tokens at last t.tokens (r.begins_each t.tokens t.scanned) in
-      let split = n.tokens_are ∙ sym (append_assoc r.tokens (n.token ∷ []) n.rest) in
-      no_front n.token n.next (shorter_front bytes (r.tokens ++ n.token ∷ []) n.rest (subst (IsFront bytes) split (whole_front bytes tree t)));
+  tokens = r.tokens;
+  to = at;
+  kind = last;
+  scanned = r.scanned;
+  front = front bytes at last s names r;
+  place = place;
+  wrong = no_front;
 }
 
 -- no token starts there
-pub wrong_byte : (bytes : List ℕ) (at : ℕ) (last : Option TokenKind) (s : State) (names : List (List ℕ)) (offset : ℕ) → Reads bytes at last s names → offset ≡ next_start bytes at last → ((t : Token) → IsNext bytes at last t → ⊥) → Wrong bytes offset
+pub wrong_byte : (bytes : List ℕ) (at : ℕ) (last : Option TokenKind) (s : State) (names : List (List ℕ)) (offset : ℕ) → Reads bytes at last s names → offset ≡ next_start bytes at last → ((t : Token) → IsNext bytes at last t → ⊥) → GoesWrongAt bytes offset
 wrong_byte bytes at last s names offset r place no_token = wrong_at bytes at last s names offset r place (λ t n f. no_token t n)
 
-wrong_token : (bytes : List ℕ) (at : ℕ) (last : Option TokenKind) (s : State) (names : List (List ℕ)) (t : Token) (r : Reads bytes at last s names) → IsNext bytes at last t → (IsFront bytes (r.tokens ++ t ∷ []) → ⊥) → Wrong bytes t.start
+wrong_token : (bytes : List ℕ) (at : ℕ) (last : Option TokenKind) (s : State) (names : List (List ℕ)) (t : Token) (r : Reads bytes at last s names) → IsNext bytes at last t → (IsFront bytes (r.tokens ++ t ∷ []) → ⊥) → GoesWrongAt bytes t.start
 wrong_token bytes at last s names t r n no_front =
     wrong_at bytes at last s names t.start r n.starts
     (λ u m f. no_front (subst (λ v. IsFront bytes (r.tokens ++ v ∷ [])) (one_next bytes at last u t m n) f))
 
 -- no file goes on with the token
-pub refused_token : (bytes : List ℕ) (at : ℕ) (last : Option TokenKind) (s : State) (names : List (List ℕ)) (t : Token) → Reads bytes at last s names → IsNext bytes at last t → step s (lexeme_of bytes t) ≡ None → Wrong bytes t.start
+pub refused_token : (bytes : List ℕ) (at : ℕ) (last : Option TokenKind) (s : State) (names : List (List ℕ)) (t : Token) → Reads bytes at last s names → IsNext bytes at last t → step s (lexeme_of bytes t) ≡ None → GoesWrongAt bytes t.start
 refused_token bytes at last s names t r n e =
     wrong_token bytes at last s names t r n
     (λ f.
@@ -177,7 +163,7 @@ refused_token bytes at last s names t r n e =
     cc)
 
 -- the token declares a name that is declared already
-pub twice_token : (bytes : List ℕ) (at : ℕ) (last : Option TokenKind) (s : State) (keys : List (Bor (List ℕ))) (t : Token) (text : Bor (List ℕ)) → Reads bytes at last s (texts keys) → IsNext bytes at last t → last ≡ Some Const → text.now ≡ (lexeme_of bytes t).text → list_any (λ k. pointwise nat_eq text.now k.now) keys ≡ true → Wrong bytes t.start
+pub twice_token : (bytes : List ℕ) (at : ℕ) (last : Option TokenKind) (s : State) (keys : List (Bor (List ℕ))) (t : Token) (text : Bor (List ℕ)) → Reads bytes at last s (texts keys) → IsNext bytes at last t → last ≡ Some Const → text.now ≡ (lexeme_of bytes t).text → list_any (λ k. pointwise nat_eq text.now k.now) keys ≡ true → GoesWrongAt bytes t.start
 twice_token bytes at last s keys t text r n const is there =
     wrong_token bytes at last s (texts keys) t r n
     (λ f.
@@ -197,7 +183,7 @@ end_steps h l (behind_item x (level ∷ levels) sum) e = refl
 end_steps h l (at_done n) e = refl
 
 -- no file ends there
-pub refused_end : (bytes : List ℕ) (at : ℕ) (last : Option TokenKind) (s : State) (names : List (List ℕ)) (t : Token) → Reads bytes at last s names → IsNext bytes at last t → t.kind ≡ End → ended s (lexeme_of bytes t) ≡ None → Wrong bytes t.start
+pub refused_end : (bytes : List ℕ) (at : ℕ) (last : Option TokenKind) (s : State) (names : List (List ℕ)) (t : Token) → Reads bytes at last s names → IsNext bytes at last t → t.kind ≡ End → ended s (lexeme_of bytes t) ≡ None → GoesWrongAt bytes t.start
 refused_end bytes at last s names t r n k e =
     let refused : step s (lexeme_of bytes t) ≡ None = rw k (end_steps s.head (lexeme_of bytes t) s.stage (rw k at e)) in
     refused_token bytes at last s names t r n refused

@@ -2,6 +2,7 @@ use Rattle.std.proofs.Common.{◌≡◌, ◌≢◌, Some, rules, arith, sym}
 use Rattle.go_tree.specs.declared.token.TokenKind.TheVariants.{Const, End}
 use Rattle.gocheck.proofs.OnceLemmas.{was_there, was_absent}
 use Rattle.gocheck.proofs.SourceLemmas.{start_reads, reads_name, reads_other, wrong_byte, refused_token, twice_token, refused_end, whole_tree, names_once}
+use Rattle.gocheck.proofs.PlaceLemmas.{no_tree_beside}
 use Rattle.gocheck.proofs.source.read_source.Goals as goal
 use Rattle.gocheck.proofs.source.read_source.Goals.{else-eq-2-via-then-eq-2+in_ok-insert+else-not-branch, else-eq-2-via-else-eq-2, in-Some, in-None}
 
@@ -13,11 +14,11 @@ loop-token-init c = record {
 
 pub returns-in-Err-clause-wrong : goal.returns-in-Err-clause-wrong
 returns-in-Err-clause-wrong c =
-    (wrong_byte _ _ _ _ _ _ c.loop-token.invariant.reads c.in-Err.ensures.place c.in-Err.ensures.no_token).there
+    wrong_byte _ _ _ _ _ _ c.loop-token.invariant.reads c.in-Err.ensures.place c.in-Err.ensures.no_token
 
 pub returns-in-Err-clause-no_tree : goal.returns-in-Err-clause-no_tree
 returns-in-Err-clause-no_tree c =
-    (wrong_byte _ _ _ _ _ _ c.loop-token.invariant.reads c.in-Err.ensures.place c.in-Err.ensures.no_token).no_tree
+    no_tree_beside _ _ (wrong_byte _ _ _ _ _ _ c.loop-token.invariant.reads c.in-Err.ensures.place c.in-Err.ensures.no_token)
 
 pub returns-then-eq-clause-tree : goal.returns-then-eq-clause-tree
 returns-then-eq-clause-tree c =
@@ -46,7 +47,7 @@ returns-then-eq-clause-wrong c =
       | in-Some w ↦ rw w.result-is tt
       | in-None w ↦
           let none = sym (rw w.in-None.is at (c.end.ensures c.args.bytes.now)) in
-          rw w.result-is (refused_end _ _ _ _ _ _ c.loop-token.invariant.reads c.in-Ok.ensures.token is_end none).there
+          rw w.result-is (refused_end _ _ _ _ _ _ c.loop-token.invariant.reads c.in-Ok.ensures.token is_end none)
     ]
 
 pub returns-then-eq-clause-no_tree : goal.returns-then-eq-clause-no_tree
@@ -56,30 +57,31 @@ returns-then-eq-clause-no_tree c =
       | in-Some w ↦ rw w.result-is tt
       | in-None w ↦
           let none = sym (rw w.in-None.is at (c.end.ensures c.args.bytes.now)) in
-          rw w.result-is (refused_end _ _ _ _ _ _ c.loop-token.invariant.reads c.in-Ok.ensures.token is_end none).no_tree
+          rw w.result-is (no_tree_beside _ _ (refused_end _ _ _ _ _ _ c.loop-token.invariant.reads c.in-Ok.ensures.token is_end none))
     ]
 
 pub returns-then-not-branch-clause-wrong : goal.returns-then-not-branch-clause-wrong
 returns-then-not-branch-clause-wrong c =
     let const : c.loop-token.last ≡ Some Const = search rules in
-    (twice_token _ _ _ _ c.loop-token.names.keys _ c.text.result c.loop-token.invariant.reads c.in-Ok.ensures.token const c.text.ensures
-    (was_there _ _ c.in_ok-insert.ensures.added c.if-not-branch.true)).there
+    twice_token _ _ _ _ c.loop-token.names.keys _ c.text.result c.loop-token.invariant.reads c.in-Ok.ensures.token const c.text.ensures
+    (was_there _ _ c.in_ok-insert.ensures.added c.if-not-branch.true)
 
 pub returns-then-not-branch-clause-no_tree : goal.returns-then-not-branch-clause-no_tree
 returns-then-not-branch-clause-no_tree c =
     let const : c.loop-token.last ≡ Some Const = search rules in
+    no_tree_beside _ _
     (twice_token _ _ _ _ c.loop-token.names.keys _ c.text.result c.loop-token.invariant.reads c.in-Ok.ensures.token const c.text.ensures
-    (was_there _ _ c.in_ok-insert.ensures.added c.if-not-branch.true)).no_tree
+    (was_there _ _ c.in_ok-insert.ensures.added c.if-not-branch.true))
 
 pub returns-in_default-clause-wrong : goal.returns-in_default-clause-wrong
 returns-in_default-clause-wrong c =
     let refused = sym (rw c.in_default.is at c.in_ok-after.ensures) in
-    (refused_token _ _ _ _ _ _ c.loop-token.invariant.reads c.in-Ok.ensures.token refused).there
+    refused_token _ _ _ _ _ _ c.loop-token.invariant.reads c.in-Ok.ensures.token refused
 
 pub returns-in_default-clause-no_tree : goal.returns-in_default-clause-no_tree
 returns-in_default-clause-no_tree c =
     let refused = sym (rw c.in_default.is at c.in_ok-after.ensures) in
-    (refused_token _ _ _ _ _ _ c.loop-token.invariant.reads c.in-Ok.ensures.token refused).no_tree
+    no_tree_beside _ _ (refused_token _ _ _ _ _ _ c.loop-token.invariant.reads c.in-Ok.ensures.token refused)
 
 pub loop-token-preserved : goal.loop-token-preserved
 loop-token-preserved c =
