@@ -5,171 +5,248 @@ usage: bench/generated.py [COUNT [SEED [PROGRAM]]]
 
 Each file is written together with the places of its nodes. Its values, cycles and broken rules are
 computed by plain searches over these; a file that goes wrong is a good one in which a token is put where
-none such can stand.
+none such can stand. Ends with status 1 where a report differs.
 """
-import os, random, subprocess, sys, tempfile
-HERE = os.path.dirname(os.path.abspath(__file__))
-words = sys.argv[1:]
-count = int(words[0]) if words else 2000
-seed = int(words[1]) if words[1:] else 1
-program = words[2] if words[2:] else HERE + '/../crates/gocheck/out/gocheck'
-rng = random.Random(seed)
+import os
+import random
+import subprocess
+import sys
+import tempfile
+from typing import Any, NamedTuple
+
 LIMIT = 2**127 - 1
 BLANKS = [' ', '  ', '\t', ' \t', '\r ']
+NAMES = ['A', 'B', 'C', 'D', 'x', 'y', 'z9', '_a', 'Const', 'packages', 'initial']
+KINDS = ['plain', 'plain', 'names', 'cycles', 'wide', 'spoilt']
+rng = random.Random()
+
+
+class Node(NamedTuple):
+    """A node of an expression: `of` is the number, the name, the inner node or the two operands."""
+    start: int
+    end: int
+    kind: str
+    of: Any
+
+    def parts(self):
+        return {'sum': self.of, 'paren': (self.of,)}.get(self.kind, ())
+
+
+class Constant(NamedTuple):
+    name: str
+    start: int
+    end: int
+    value: Node
+
 
 class Text:
+    """A text that tells where each piece of it stands."""
+
     def __init__(self):
-        self.parts, self.at = [], 0
-    def put(self, s):
+        self.pieces, self.at = [], 0
+
+    def put(self, piece):
         start = self.at
-        self.parts.append(s); self.at += len(s)
+        self.pieces.append(piece)
+        self.at += len(piece)
         return start, self.at
-    def blank(self, may_be_none=True):
-        if may_be_none and rng.random() < .3: return
-        self.put(rng.choice(BLANKS))
-    def text(self): return ''.join(self.parts)
 
-def item(t, names, depth, big):
-    """writes an item; a node is (start, end, kind, parts or name or value)"""
-    r = rng.random()
-    if r < .15 and depth < 6:
-        s, _ = t.put('('); t.blank()
-        x = summ(t, names, depth + 1, big); t.blank()
-        _, e = t.put(')')
-        return (s, e, 'paren', x)
-    if r < .55 and names:
-        n = rng.choice(names)
-        s, e = t.put(n)
-        return (s, e, 'name', n)
-    if big and rng.random() < .3:
-        v = rng.choice([LIMIT, LIMIT + 1, LIMIT - 1, LIMIT * 3])
-    else:
-        v = rng.choice([0, 1, 2, 7, 10, 499, rng.randrange(10**rng.randrange(1, 30))])
-    s, e = t.put(str(v))
-    return (s, e, 'int', v)
+    def blank(self, needed=False):
+        if needed or rng.random() < .7:
+            self.put(rng.choice(BLANKS))
 
-def summ(t, names, depth, big):
-    x = item(t, names, depth, big)
+    def __str__(self):
+        return ''.join(self.pieces)
+
+
+def number(wide):
+    if wide and rng.random() < .3:
+        return rng.choice([LIMIT, LIMIT + 1, LIMIT - 1, LIMIT * 3])
+    return rng.choice([0, 1, 2, 7, 10, 499, rng.randrange(10**rng.randrange(1, 30))])
+
+
+def write_item(text, names, depth, wide):
+    drawn = rng.random()
+    if drawn < .15 and depth < 6:
+        start, _ = text.put('(')
+        text.blank()
+        inner = write_sum(text, names, depth + 1, wide)
+        text.blank()
+        return Node(start, text.put(')')[1], 'paren', inner)
+    if drawn < .55 and names:
+        name = rng.choice(names)
+        return Node(*text.put(name), 'name', name)
+    value = number(wide)
+    return Node(*text.put(str(value)), 'int', value)
+
+
+def write_sum(text, names, depth, wide):
+    left = write_item(text, names, depth, wide)
     while rng.random() < .4:
-        t.blank(); t.put('+'); t.blank()
-        if rng.random() < .1: t.put('\n')
-        y = item(t, names, depth, big)
-        x = (x[0], y[1], 'sum', (x, y))
-    return x
+        text.blank()
+        text.put('+')
+        text.blank()
+        if rng.random() < .1:
+            text.put('\n')
+        right = write_item(text, names, depth, wide)
+        left = Node(left.start, right.end, 'sum', (left, right))
+    return left
 
-def nodes(n):
-    yield n
-    if n[2] == 'sum':
-        yield from nodes(n[3][0]); yield from nodes(n[3][1])
-    elif n[2] == 'paren':
-        yield from nodes(n[3])
-
-def value(n, headers):
-    if n[2] == 'int': return n[3] if n[3] <= LIMIT else None
-    if n[2] == 'name': return headers.get(n[3])
-    if n[2] == 'paren': return value(n[3], headers)
-    a, b = value(n[3][0], headers), value(n[3][1], headers)
-    if a is None or b is None: return None
-    return a + b if a + b <= LIMIT else None
 
 def make(kind):
-    t = Text()
-    t.put(rng.choice(['', '\n', ' ', '\r\n'])); t.put('package'); t.blank(False); 
-    name = rng.choice(['p', 'q1', '_x', 'main2'])
-    t.put(name); t.blank(); t.put(rng.choice(['\n', '\r\n', '\n\n']))
-    k = rng.randrange(0, 9)
-    names = rng.sample(['A', 'B', 'C', 'D', 'x', 'y', 'z9', '_a', 'Const', 'packages', 'initial'], k)
+    """A good file: the package's name, the text and the constants. In a plain one no name waits for itself."""
+    text = Text()
+    text.put(rng.choice(['', '\n', ' ', '\r\n']))
+    text.put('package')
+    text.blank(needed=True)
+    package = rng.choice(['p', 'q1', '_x', 'main2'])
+    text.put(package)
+    text.blank()
+    text.put(rng.choice(['\n', '\r\n', '\n\n']))
+    names = rng.sample(NAMES, rng.randrange(9))
+    rank = {name: i for i, name in enumerate(rng.sample(names, len(names)))}
     pool = names + (['Undeclared', 'U2'] if kind == 'names' else [])
-    rank = {n: i for i, n in enumerate(rng.sample(names, k))}
-    consts = []
-    for i, n in enumerate(names):
-        t.blank(); t.put('const'); t.blank(False)
-        s, e = t.put(n); t.blank(); t.put('='); t.blank()
-        allowed = pool if kind in ('cycles', 'names') else [m for m in names if rank[m] < rank[n]]
-        v = summ(t, allowed, 0, kind == 'wide')
-        t.blank()
-        consts.append((n, s, e, v))
-        if i + 1 < k or rng.random() < .8: t.put(rng.choice(['\n', '\n\n', '\r\n']))
-    return name, t.text(), consts
+    constants = []
+    for name in names:
+        if constants:
+            text.put(rng.choice(['\n', '\n\n', '\r\n']))
+        text.blank()
+        text.put('const')
+        text.blank(needed=True)
+        start, end = text.put(name)
+        text.blank()
+        text.put('=')
+        text.blank()
+        seen = pool if kind in ('cycles', 'names') else [m for m in names if rank[m] < rank[name]]
+        constants.append(Constant(name, start, end, write_sum(text, seen, 0, kind == 'wide')))
+        text.blank()
+    if rng.random() < .8:
+        text.put('\n')
+    return package, str(text), constants
+
+
+def nodes(node):
+    yield node
+    for part in node.parts():
+        yield from nodes(part)
+
+
+def value_of(node, headers):
+    if node.kind == 'name':
+        return headers.get(node.of)
+    values = [value_of(part, headers) for part in node.parts()]
+    if None in values:
+        return None
+    value = sum(values) if values else node.of
+    return value if value <= LIMIT else None
+
+
+def known_headers(constants):
+    headers, more = {}, True
+    while more:
+        found = {c.name: value_of(c.value, headers) for c in constants if c.name not in headers}
+        more = {name: value for name, value in found.items() if value is not None}
+        headers |= more
+    return headers
+
+
+def reached(waits, name):
+    seen, todo = set(), list(waits[name])
+    while todo:
+        other = todo.pop()
+        if other not in seen:
+            seen.add(other)
+            todo += waits[other]
+    return seen
+
+
+def is_wide(node, headers):
+    parts = [value_of(part, headers) for part in node.parts()]
+    return node.kind in ('int', 'sum') and None not in parts and value_of(node, headers) is None
+
+
+def broken_rules(constants, headers):
+    waits = {c.name: {n.of for n in nodes(c.value) if n.kind == 'name' and n.of not in headers} for c in constants}
+    cyclic = [(c.start, 'C1') for c in constants if c.name in reached(waits, c.name)]
+    return sorted(cyclic + [(n.start, 'L2') for c in constants for n in nodes(c.value) if is_wide(n, headers)])
+
 
 def line_col(text, at):
-    before = text[:at]
-    return f"{before.count(chr(10)) + 1}:{at - (before.rfind(chr(10)) + 1) + 1}"
+    return f'{text.count(chr(10), 0, at) + 1}:{at - text.rfind(chr(10), 0, at)}'
 
-def report(name, text, consts):
-    lc = lambda at: line_col(text, at)
-    pl = lambda at: 'a.go:' + lc(at)
+
+def report(package, text, constants):
+    """The status and the text of the report of a good file."""
+    def place(at):
+        return 'a.go:' + line_col(text, at)
+
+    def refused(broken):
+        lines = [f'package\tm\t{package}\trefused'] + [f'broken\t{place(at)}\t{rule}' for at, rule in broken]
+        return (3 if any(rule == 'L2' for _, rule in broken) else 1), head + lines
+
     head = ['module\tm\t1.21']
-    where = {n: s for n, s, e, v in consts}
-    lost = [f'broken\t{pl(m[0])}\tP7' for n, s, e, v in consts for m in nodes(v) if m[2] == 'name' and m[3] not in where]
-    if lost: return 1, head + [f'package\tm\t{name}\trefused'] + lost
-    headers = {}
-    while True:
-        new = {n: value(v, headers) for n, s, e, v in consts if n not in headers}
-        new = {n: x for n, x in new.items() if x is not None}
-        if not new: break
-        headers.update(new)
-    waits = {n: {m[3] for m in nodes(v) if m[2] == 'name' and m[3] not in headers} for n, s, e, v in consts}
-    def reach(a):
-        seen, todo = set(), list(waits[a])
-        while todo:
-            b = todo.pop()
-            if b not in seen: seen.add(b); todo += waits[b]
-        return seen
-    broken = []
-    for n, s, e, v in consts:
-        if n in reach(n): broken.append((s, 'C1'))
-        for m in nodes(v):
-            if m[2] == 'int' and m[3] > LIMIT: broken.append((m[0], 'L2'))
-            if m[2] == 'sum':
-                a, b = value(m[3][0], headers), value(m[3][1], headers)
-                if a is not None and b is not None and a + b > LIMIT: broken.append((m[0], 'L2'))
+    where = {c.name: c.start for c in constants}
+    all_nodes = [n for c in constants for n in nodes(c.value)]
+    uses = [n for n in all_nodes if n.kind == 'name']
+    undeclared = [(n.start, 'P7') for n in uses if n.of not in where]
+    if undeclared:
+        return refused(undeclared)
+    headers = known_headers(constants)
+    broken = broken_rules(constants, headers)
     if broken:
-        broken.sort()
-        return (3 if any(r == 'L2' for _, r in broken) else 1), head + [f'package\tm\t{name}\trefused'] + [f'broken\t{pl(a)}\t{r}' for a, r in broken]
-    lines = head + [f'package\tm\t{name}\taccepted']
-    lines += [f'def\t{pl(s)}\t{n}\tconst\tuntyped int\t{headers[n]}' for n, s, e, v in consts]
-    lines += [f'use\t{pl(m[0])}\t{m[3]}\t{pl(where[m[3]])}' for n, s, e, v in consts for m in nodes(v) if m[2] == 'name']
-    lines += [f'expr\t{pl(m[0])}\t{lc(m[1])}\tconst\tuntyped int\t{value(m, headers)}' for n, s, e, v in consts for m in nodes(v)]
-    return 0, lines
+        return refused(broken)
+    return 0, head + [f'package\tm\t{package}\taccepted'] + [
+        f'def\t{place(c.start)}\t{c.name}\tconst\tuntyped int\t{headers[c.name]}' for c in constants] + [
+        f'use\t{place(n.start)}\t{n.of}\t{place(where[n.of])}' for n in uses] + [
+        f'expr\t{place(n.start)}\t{line_col(text, n.end)}\tconst\tuntyped int\t{value_of(n, headers)}' for n in all_nodes]
 
-def spoil(text, consts):
-    """puts a token where none such can stand, and says where"""
-    n, s, e, v = rng.choice(consts)
-    node = rng.choice(list(nodes(v)))
-    how = rng.randrange(5)
-    if how == 0:   # behind an operand no operand can stand
-        what = rng.choice([' 1', ' (', ' x', ' const', ' ='])
-        return text[:node[1]] + what + text[node[1]:], node[1] + 1
-    if how == 1:   # before an operand no operator can stand
-        what = rng.choice(['+', ')', '=', 'const', 'package', 'iota', 'func', 'len', '_'])
-        return text[:node[0]] + what + ' ' + text[node[0]:], node[0]
-    if how == 2:   # no token starts there
-        what = rng.choice(['-', ';', '/', '"', '.', '\0', '*'])
-        return text[:node[1]] + what + text[node[1]:], node[1]
-    if how == 3:   # the name is declared already
-        first = consts[0]
-        if n == first[0]: return text[:s] + 'if' + text[e:], s
-        return text[:s] + first[0] + text[e:], s
-    what = rng.choice(['+ ', '= ', '1 ', '( '])  # no name
-    return text[:s] + what + text[s:], s
 
-bad = 0
-with tempfile.TemporaryDirectory() as d:
-    os.mkdir(d + '/r')
-    for i in range(count):
-        kind = rng.choice(['plain', 'plain', 'names', 'cycles', 'wide', 'spoilt'])
-        name, text, consts = make('plain' if kind == 'spoilt' else kind)
-        if kind == 'spoilt' and consts:
-            text, at = spoil(text, consts)
-            status, lines = 3, ['refused', f'broken\ta.go:{line_col(text, at)}\tU0']
-        else:
-            status, lines = report(name, text, consts)
-        open(d + '/r/a.go', 'w', newline='').write(text)
-        run = subprocess.run([program, d + '/r'], capture_output=True, text=True)
-        wanted = '\n'.join(lines) + '\n'
-        if (run.returncode, run.stdout) != (status, wanted):
-            bad += 1
-            if bad < 4: print(kind, repr(text), status, wanted, run.returncode, run.stdout, sep='\n')
-print(f'{count} files, {bad} differ')
-sys.exit(bad > 0)
+def spoil(text, constants):
+    """A text in which a token stands where none such can, and its offset."""
+    constant = rng.choice(constants)
+    node = rng.choice(list(nodes(constant.value)))
+    how = rng.choice(['operand', 'operator', 'byte', 'twice', 'name'])
+    if how == 'operand':  # behind an operand no operand can stand
+        return text[:node.end] + rng.choice([' 1', ' (', ' x', ' const', ' =']) + text[node.end:], node.end + 1
+    if how == 'operator':  # before an operand no operator and no taken word can stand
+        word = rng.choice(['+', ')', '=', 'const', 'package', 'iota', 'func', 'len', '_'])
+        return text[:node.start] + word + ' ' + text[node.start:], node.start
+    if how == 'byte':  # no token starts there
+        return text[:node.end] + rng.choice(['-', ';', '/', '"', '.', '\0', '*']) + text[node.end:], node.end
+    if how == 'twice':  # the name is declared already, or is taken
+        name = 'if' if constant is constants[0] else constants[0].name
+        return text[:constant.start] + name + text[constant.end:], constant.start
+    return text[:constant.start] + rng.choice(['+ ', '= ', '1 ', '( ']) + text[constant.start:], constant.start
+
+
+def case():
+    kind = rng.choice(KINDS)
+    package, text, constants = make(kind)
+    if kind == 'spoilt' and constants:
+        text, at = spoil(text, constants)
+        return text, 3, ['refused', f'broken\ta.go:{line_col(text, at)}\tU0']
+    return text, *report(package, text, constants)
+
+
+def main():
+    here = os.path.dirname(os.path.abspath(__file__))
+    words = dict(enumerate(sys.argv[1:]))
+    count = int(words.get(0, 2000))
+    rng.seed(int(words.get(1, 1)))
+    program = words.get(2, here + '/../crates/gocheck/out/gocheck')
+    differ = 0
+    with tempfile.TemporaryDirectory() as root:
+        for _ in range(count):
+            text, status, lines = case()
+            with open(root + '/a.go', 'w', newline='') as file:
+                file.write(text)
+            run = subprocess.run([program, root], capture_output=True, text=True)
+            wanted = ''.join(line + '\n' for line in lines)
+            if (run.returncode, run.stdout) != (status, wanted):
+                differ += 1
+                print(repr(text), status, wanted, run.returncode, run.stdout, sep='\n')
+    print(f'{count} files, {differ} differ')
+    sys.exit(differ > 0)
+
+
+main()
