@@ -36,7 +36,9 @@ pub use name::Name;
 pub use no_memory::NoMemory;
 pub use places::{LineCol, Pos, place};
 pub use rule::{Broken, Family, Rule};
-pub use rules::{CYCLIC_DECLARATION, UNBUILT_FORM, UNDECLARED_NAME, WIDE_INTEGER};
+pub use rules::{
+    CYCLIC_DECLARATION, FORBIDDEN_BYTE, MISSING_TOKEN, UNBUILT_FORM, UNDECLARED_NAME, WIDE_INTEGER,
+};
 pub use sink::{Sink, SinkFault};
 pub use status::Status;
 pub use steps::Steps;

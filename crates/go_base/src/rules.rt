@@ -7,6 +7,19 @@ pub const UNBUILT_FORM: Rule = Rule {
     number: 0,
 };
 
+/// A byte that may not stand in a source file: not UTF-8, NUL, or a byte order mark that is not
+/// first (Go specification, "Source code representation").
+pub const FORBIDDEN_BYTE: Rule = Rule {
+    family: Family::S,
+    number: 1,
+};
+
+/// A place where no token starts (Go specification, "Tokens").
+pub const MISSING_TOKEN: Rule = Rule {
+    family: Family::S,
+    number: 2,
+};
+
 /// An identifier that denotes nothing (Go specification, "Declarations and scope").
 pub const UNDECLARED_NAME: Rule = Rule {
     family: Family::P,

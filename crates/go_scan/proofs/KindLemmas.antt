@@ -1,64 +1,122 @@
--- Lemmas on the kinds of tokens: a text is a token of one kind at most, and one token is the longest.
-use Rattle.std.proofs.Common.{◌≡◌, ℕ, ◌<◌, ◌==◌, true, false, cond, List, [], ◌∷◌, take, refl, ap, sym, ◌∙◌, ⊎_elim, arith}
-use Rattle.std.specs.Prelude.{codes}
-use Rattle.std.proofs.lemmas.Bool.{cases_order, and_parts, true≢false, false≢true, not-true, false_from_ne_true}
-use Rattle.std.proofs.lemmas.Bool.Decides.{nat_tests}
+-- Lemmas on the kinds of tokens: one text is spelled by one kind, and one token is the longest.
+use Rattle.std.proofs.Common.{◌≡◌, ℕ, ◌+◌, ◌<◌, ◌≤◌, cond, List, [], ◌∷◌, length, slice_index, slice_range, Some, None, refl, arith, sym, ◌∙◌, ap, ⊎_elim, inl, inr}
+use Rattle.std.specs.Prelude.{bytes_eq}
+use Rattle.std.proofs.lemmas.Bool.{cases_order}
 use Rattle.go_tree.specs.declared.token.TokenKind.{TokenKind}
-use Rattle.go_tree.specs.declared.token.TokenKind.TheVariants.{Ident, Int, Const, Package, Add, Assign, LeftParen, RightParen, InsertedSemicolon, End}
-use Rattle.go_tree.specs.Characters.{is_letter, is_digit}
-use Rattle.go_tree.specs.Tokens.{same_text, is_word, is_decimal, is_token, IsLongest}
-use Rattle.go_scan.proofs.LongestLemmas.{same}
+use Rattle.go_tree.specs.declared.token.TokenKind.TheVariants.{Ident, Int, Float, Rune, Text, KwBreak, KwCase, KwChan, KwConst, KwContinue, KwDefault, KwDefer, KwElse, KwFallthrough, KwFor, KwFunc, KwGo, KwGoto, KwIf, KwImport, KwInterface, KwMap, KwPackage, KwRange, KwReturn, KwSelect, KwStruct, KwSwitch, KwType, KwVar, Add, Sub, Mul, Quo, Rem, And, Or, Xor, Shl, Shr, AndNot, AddAssign, SubAssign, MulAssign, QuoAssign, RemAssign, AndAssign, OrAssign, XorAssign, ShlAssign, ShrAssign, AndNotAssign, LogicalAnd, LogicalOr, Arrow, Inc, Dec, Equal, Less, Greater, Assign, Not, Tilde, NotEqual, LessEqual, GreaterEqual, Define, Ellipsis, LeftParen, LeftBracket, LeftBrace, Comma, Dot, RightParen, RightBracket, RightBrace, Semicolon, Colon, InsertedSemicolon, End}
+use Rattle.go_tree.specs.Numbers.{number_kind, IsNumberRun}
+use Rattle.go_tree.specs.Tokens.{spelling, IsSpelled, IsWord, IsToken, IsLongest}
+use Rattle.go_scan.specs.Blame.{OpensLiteral}
+use Rattle.go_scan.proofs.LexemeLemmas.{Form, form_of, slice_one}
+use Rattle.go_scan.proofs.TokenLemmas.{number_no_word, number_spelled, not_number, no_word, no_spelled_quote}
 
--- the one kind that a token's text can have
-kind_of : List ℕ → TokenKind
-kind_of [] = End
-kind_of (b ∷ bs) = cond (same_text (b ∷ bs) (codes "const")) Const (cond (same_text (b ∷ bs) (codes "package")) Package (cond (is_letter b) Ident (cond (is_digit b) Int (cond (b == 43) Add (cond (b == 61) Assign (cond (b == 40) LeftParen RightParen))))))
+lookup : List TokenKind → List ℕ → TokenKind
+lookup [] text = End
+lookup (k ∷ ks) text = cond (bytes_eq (spelling k) text) k (lookup ks text)
 
-no_decimal : (text other : List ℕ) → is_decimal other ≡ false → is_decimal text ≡ true → same_text text other ≡ false
-no_decimal text other fails passes = false_from_ne_true (same_text text other) (λ h. true≢false (sym passes ∙ ap is_decimal (same text other h) ∙ fails))
+spelled_kinds : List TokenKind
+spelled_kinds = KwBreak ∷ KwCase ∷ KwChan ∷ KwConst ∷ KwContinue ∷ KwDefault ∷ KwDefer ∷ KwElse ∷ KwFallthrough ∷ KwFor ∷ KwFunc ∷ KwGo ∷ KwGoto ∷ KwIf ∷ KwImport ∷ KwInterface ∷ KwMap ∷ KwPackage ∷ KwRange ∷ KwReturn ∷ KwSelect ∷ KwStruct ∷ KwSwitch ∷ KwType ∷ KwVar ∷ Add ∷ Sub ∷ Mul ∷ Quo ∷ Rem ∷ And ∷ Or ∷ Xor ∷ Shl ∷ Shr ∷ AndNot ∷ AddAssign ∷ SubAssign ∷ MulAssign ∷ QuoAssign ∷ RemAssign ∷ AndAssign ∷ OrAssign ∷ XorAssign ∷ ShlAssign ∷ ShrAssign ∷ AndNotAssign ∷ LogicalAnd ∷ LogicalOr ∷ Arrow ∷ Inc ∷ Dec ∷ Equal ∷ Less ∷ Greater ∷ Assign ∷ Not ∷ Tilde ∷ NotEqual ∷ LessEqual ∷ GreaterEqual ∷ Define ∷ Ellipsis ∷ LeftParen ∷ LeftBracket ∷ LeftBrace ∷ Comma ∷ Dot ∷ RightParen ∷ RightBracket ∷ RightBrace ∷ Semicolon ∷ Colon ∷ []
 
-digit_first : (b : ℕ) (bs : List ℕ) → is_decimal (b ∷ bs) ≡ true → is_digit b ≡ true
-digit_first b [] h = h
-digit_first b (c ∷ bs) h = grind (arith, nat_tests)
+-- a text that is spelled has one kind
+looked_up : (kind : TokenKind) → 0 < length (spelling kind) → lookup spelled_kinds (spelling kind) ≡ kind
+unfolding lookup spelled_kinds
+looked_up Ident h = absurd (omega (arith, h))
+looked_up Int h = absurd (omega (arith, h))
+looked_up Float h = absurd (omega (arith, h))
+looked_up Rune h = absurd (omega (arith, h))
+looked_up Text h = absurd (omega (arith, h))
+looked_up InsertedSemicolon h = absurd (omega (arith, h))
+looked_up End h = absurd (omega (arith, h))
+looked_up _ h = refl
 
-digit_no_letter : (b : ℕ) → is_digit b ≡ true → is_letter b ≡ false
-digit_no_letter b h = grind (arith, nat_tests)
+pub one_spelled : (text : List ℕ) (j k : TokenKind) → IsSpelled j text → IsSpelled k text → j ≡ k
+one_spelled text j k a b = sym (looked_up j (rw a.0 a.1)) ∙ ap (lookup spelled_kinds) (a.0 ∙ sym b.0) ∙ looked_up k (rw b.0 b.1)
 
-is_kind_of : (kind : TokenKind) (text : List ℕ) → is_token kind text ≡ true → kind ≡ kind_of text
-unfolding kind_of
-is_kind_of Ident [] h = absurd (false≢true h)
-is_kind_of Ident (b ∷ bs) h =
-    let word = (and_parts (is_word (b ∷ bs)) _ h).0 in
-    let letter = (and_parts (is_letter b) _ word).0 in
-    let others = and_parts _ _ (and_parts (is_word (b ∷ bs)) _ h).1 in
-    let no_const = not-true (same_text (b ∷ bs) (codes "const")) others.0 in
-    let no_package = not-true (same_text (b ∷ bs) (codes "package")) others.1 in
-    rw (no_const, no_package, letter) refl
-is_kind_of Int [] h = absurd (false≢true h)
-is_kind_of Int (b ∷ bs) h =
-    let digit = digit_first b bs h in
-    let no_letter = digit_no_letter b digit in
-    let no_const = no_decimal (b ∷ bs) (codes "const") refl h in
-    let no_package = no_decimal (b ∷ bs) (codes "package") refl h in
-    rw (no_const, no_package, no_letter, digit) refl
-is_kind_of Const text h = sym (ap kind_of (same text (codes "const") h))
-is_kind_of Package text h = sym (ap kind_of (same text (codes "package") h))
-is_kind_of Add text h = sym (ap kind_of (same text (codes "+") h))
-is_kind_of Assign text h = sym (ap kind_of (same text (codes "=") h))
-is_kind_of LeftParen text h = sym (ap kind_of (same text (codes "(") h))
-is_kind_of RightParen text h = sym (ap kind_of (same text (codes ")") h))
-is_kind_of InsertedSemicolon text h = absurd (false≢true h)
-is_kind_of End text h = absurd (false≢true h)
+point_kind : number_kind (46 ∷ []) ≡ None
+point_kind = refl
+
+some_same : (j k : TokenKind) → Some j ≡ Some k → j ≡ k
+some_same j k e = cc
+
+apart_39_34 : (b : ℕ) → b ≡ 39 → b ≡ 34 → ⊥
+apart_39_34 b x y = omega (arith, x, y)
+
+apart_39_96 : (b : ℕ) → b ≡ 39 → b ≡ 96 → ⊥
+apart_39_96 b x y = omega (arith, x, y)
+
+number_quote : (bytes : List ℕ) (from to : ℕ) → IsNumberRun bytes from to → OpensLiteral (slice_index bytes from) → ⊥
+number_quote bytes from to r (inl e) = not_number bytes from 39 e refl (λ x. omega (arith, x)) r.0
+number_quote bytes from to r (inr (inl e)) = not_number bytes from 34 e refl (λ x. omega (arith, x)) r.0
+number_quote bytes from to r (inr (inr e)) = not_number bytes from 96 e refl (λ x. omega (arith, x)) r.0
+
+word_quote : (bytes : List ℕ) (from to : ℕ) → IsWord bytes from to → OpensLiteral (slice_index bytes from) → ⊥
+word_quote bytes from to w (inl e) = no_word bytes from to 38 e (omega arith) refl w
+word_quote bytes from to w (inr (inl e)) = no_word bytes from to 33 e (omega arith) refl w
+word_quote bytes from to w (inr (inr e)) = no_word bytes from to 95 e (omega arith) refl w
+
+number_spells : (bytes : List ℕ) (j k : TokenKind) (from to : ℕ) → to ≤ length bytes → IsNumberRun bytes from to → number_kind (slice_range bytes from to) ≡ Some j → IsSpelled k (slice_range bytes from to) → ⊥
+number_spells bytes j k from to le r kind s =
+    let p = number_spelled bytes k from to le r.0 s in
+    let len : from + 1 ≤ length bytes = omega (arith, p.0, le) in
+    let text : slice_range bytes from to ≡ 46 ∷ [] = ap (λ n. slice_range bytes from n) p.0 ∙ slice_one bytes from len ∙ ap (λ b. b ∷ []) p.1 in
+    none_some j (sym point_kind ∙ rw text at kind)
+  where
+    none_some : (j : TokenKind) → None ≡ Some j → ⊥
+    none_some j e = cc
+
+quote_spells : (bytes : List ℕ) (k : TokenKind) (from to : ℕ) → to ≤ length bytes → OpensLiteral (slice_index bytes from) → IsSpelled k (slice_range bytes from to) → ⊥
+quote_spells bytes k from to le q s = no_spelled_quote bytes k from to le q s
+
+one_form : (bytes : List ℕ) (j k : TokenKind) (from to : ℕ) → to ≤ length bytes → Form bytes j from to → Form bytes k from to → j ≡ k
+one_form bytes j k from to le (Form.word a w o) (Form.word b x p) = a ∙ sym b
+one_form bytes j k from to le (Form.word a w o) (Form.number r b) = absurd (number_no_word bytes from to r.0 w)
+one_form bytes j k from to le (Form.word a w o) (Form.rune b h) = absurd (word_quote bytes from to w (inl h.opens))
+one_form bytes j k from to le (Form.word a w o) (Form.interpreted b h) = absurd (word_quote bytes from to w (inr (inl h.opens)))
+one_form bytes j k from to le (Form.word a w o) (Form.raw b h) = absurd (word_quote bytes from to w (inr (inr h.opens)))
+one_form bytes j k from to le (Form.word a w o) (Form.spelled s) = absurd (o k s)
+one_form bytes j k from to le (Form.number r a) (Form.word b w o) = absurd (number_no_word bytes from to r.0 w)
+one_form bytes j k from to le (Form.number r a) (Form.number q b) = some_same j k (sym a ∙ b)
+one_form bytes j k from to le (Form.number r a) (Form.rune b h) = absurd (number_quote bytes from to r (inl h.opens))
+one_form bytes j k from to le (Form.number r a) (Form.interpreted b h) = absurd (number_quote bytes from to r (inr (inl h.opens)))
+one_form bytes j k from to le (Form.number r a) (Form.raw b h) = absurd (number_quote bytes from to r (inr (inr h.opens)))
+one_form bytes j k from to le (Form.number r a) (Form.spelled s) = absurd (number_spells bytes j k from to le r a s)
+one_form bytes j k from to le (Form.rune a g) (Form.word b w o) = absurd (word_quote bytes from to w (inl g.opens))
+one_form bytes j k from to le (Form.rune a g) (Form.number r b) = absurd (number_quote bytes from to r (inl g.opens))
+one_form bytes j k from to le (Form.rune a g) (Form.rune b h) = a ∙ sym b
+one_form bytes j k from to le (Form.rune a g) (Form.interpreted b h) = absurd (apart_39_34 _ g.opens h.opens)
+one_form bytes j k from to le (Form.rune a g) (Form.raw b h) = absurd (apart_39_96 _ g.opens h.opens)
+one_form bytes j k from to le (Form.rune a g) (Form.spelled s) = absurd (quote_spells bytes k from to le (inl g.opens) s)
+one_form bytes j k from to le (Form.interpreted a g) (Form.word b w o) = absurd (word_quote bytes from to w (inr (inl g.opens)))
+one_form bytes j k from to le (Form.interpreted a g) (Form.number r b) = absurd (number_quote bytes from to r (inr (inl g.opens)))
+one_form bytes j k from to le (Form.interpreted a g) (Form.rune b h) = absurd (apart_39_34 _ h.opens g.opens)
+one_form bytes j k from to le (Form.interpreted a g) (Form.interpreted b h) = a ∙ sym b
+one_form bytes j k from to le (Form.interpreted a g) (Form.raw b h) = a ∙ sym b
+one_form bytes j k from to le (Form.interpreted a g) (Form.spelled s) = absurd (quote_spells bytes k from to le (inr (inl g.opens)) s)
+one_form bytes j k from to le (Form.raw a g) (Form.word b w o) = absurd (word_quote bytes from to w (inr (inr g.opens)))
+one_form bytes j k from to le (Form.raw a g) (Form.number r b) = absurd (number_quote bytes from to r (inr (inr g.opens)))
+one_form bytes j k from to le (Form.raw a g) (Form.rune b h) = absurd (apart_39_96 _ h.opens g.opens)
+one_form bytes j k from to le (Form.raw a g) (Form.interpreted b h) = a ∙ sym b
+one_form bytes j k from to le (Form.raw a g) (Form.raw b h) = a ∙ sym b
+one_form bytes j k from to le (Form.raw a g) (Form.spelled s) = absurd (quote_spells bytes k from to le (inr (inr g.opens)) s)
+one_form bytes j k from to le (Form.spelled s) (Form.word b w o) = absurd (o j s)
+one_form bytes j k from to le (Form.spelled s) (Form.number r b) = absurd (number_spells bytes k j from to le r b s)
+one_form bytes j k from to le (Form.spelled s) (Form.rune b h) = absurd (quote_spells bytes j from to le (inl h.opens) s)
+one_form bytes j k from to le (Form.spelled s) (Form.interpreted b h) = absurd (quote_spells bytes j from to le (inr (inl h.opens)) s)
+one_form bytes j k from to le (Form.spelled s) (Form.raw b h) = absurd (quote_spells bytes j from to le (inr (inr h.opens)) s)
+one_form bytes j k from to le (Form.spelled s) (Form.spelled t) = one_spelled (slice_range bytes from to) j k s t
 
 -- the longest token is one
-pub one_longest : (bytes : List ℕ) (j k : TokenKind) (m n : ℕ) → IsLongest bytes j m → IsLongest bytes k n → (j ≡ k) × (m ≡ n)
-one_longest bytes j k m n a b = (is_kind_of j (take m bytes) a.token ∙ ap (λ i. kind_of (take i bytes)) one_len ∙ sym (is_kind_of k (take n bytes) b.token), one_len)
+pub one_longest : (bytes : List ℕ) (j k : TokenKind) (from m n : ℕ) → IsLongest bytes j from m → IsLongest bytes k from n → (j ≡ k) × (m ≡ n)
+one_longest bytes j k from m n a b =
+    let ends = one_end in
+    let other : IsToken bytes k from m = rw ends b.token in
+    (one_form bytes j k from m a.within (form_of bytes j from m a.token) (form_of bytes k from m other), ends)
   where
-    one_len : m ≡ n
-    one_len = ⊎_elim
+    one_end : m ≡ n
+    one_end = ⊎_elim
         (λ (e : m ≡ n). e)
-        (λ other. ⊎_elim
-        (λ (lt : m < n). absurd (false≢true (sym (a.longest k n lt b.within) ∙ b.token)))
-        (λ (lt : n < m). absurd (false≢true (sym (b.longest j m lt a.within) ∙ a.token)))
-        other)
+        (λ apart. ⊎_elim
+        (λ (lt : m < n). absurd (a.longest n lt b.within (inl (k, b.token))))
+        (λ (gt : n < m). absurd (b.longest m gt a.within (inl (j, a.token))))
+        apart)
         (cases_order m n)

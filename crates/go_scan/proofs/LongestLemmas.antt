@@ -1,197 +1,190 @@
--- Lemmas on `is_token` and `IsLongest`: what a token begins with, and which runs are longest.
-use Rattle.std.proofs.Common.{◌≡◌, ℕ, zero, suc, ◌+◌, ◌<◌, ◌≤◌, ◌&&◌, ◌==◌, Bool, true, false, List, [], ◌∷◌, length, take, refl, ap, sym, ◌∙◌, ⊎_elim, arith, add-one}
-use Rattle.std.specs.Prelude.{take_while, nat_le, codes}
-use Rattle.std.specs.List.{list_all}
-use Rattle.std.proofs.lemmas.Bool.{cases_Bool, and_left, and_right, false≢true, false_from_ne_true}
+-- Lemmas on the longest token at an offset, by what begins there, and on which byte is to blame
+-- where none starts.
+use Rattle.std.proofs.Common.{◌≡◌, ℕ, suc, ◌+◌, ◌<◌, ◌≤◌, true, false, List, length, slice_index, slice_range, Some, None, refl, arith, ◌∙◌, ap, ⊎_elim, ◌⊎◌, inl, inr}
+use Rattle.std.proofs.lemmas.Bool.{cases_lt, cases_Bool}
 use Rattle.std.proofs.lemmas.Bool.Decides.{nat_tests}
-use Rattle.std.proofs.lemmas.Slice.Eq.{bytes_eq-Decides}
-use Rattle.std.proofs.lemmas.List.Sums.{take_while-cons}
-use Rattle.std.proofs.Math.Seq.{take-nil}
 use Rattle.go_tree.specs.declared.token.TokenKind.{TokenKind}
-use Rattle.go_tree.specs.declared.token.TokenKind.TheVariants.{Ident, Int, Const, Package, Add, Assign, LeftParen, RightParen, InsertedSemicolon, End}
-use Rattle.go_tree.specs.Characters.{is_letter, is_digit, is_letter_or_digit}
-use Rattle.go_tree.specs.Tokens.{same_text, is_word, is_decimal, is_token, IsLongest}
-
-pub same : (text other : List ℕ) → same_text text other ≡ true → text ≡ other
-same text other h = (bytes_eq-Decides text other).0 h
-
--- which byte a token of that kind begins with
-abbrev pub can_begin : TokenKind → ℕ → Bool
-can_begin Ident b = is_letter b
-can_begin Int b = is_digit b
-can_begin Const b = is_letter b
-can_begin Package b = is_letter b
-can_begin Add b = b == 43
-can_begin Assign b = b == 61
-can_begin LeftParen b = b == 40
-can_begin RightParen b = b == 41
-can_begin InsertedSemicolon b = false
-can_begin End b = false
-
-pub letter_no_digit : (b : ℕ) → is_letter b ≡ true → is_digit b ≡ false
-letter_no_digit b h = grind (arith, nat_tests)
-
-no_c : (b : ℕ) → is_letter b ≡ false → (b == 99) ≡ false
-no_c b h = grind (arith, nat_tests)
-
-no_p : (b : ℕ) → is_letter b ≡ false → (b == 112) ≡ false
-no_p b h = grind (arith, nat_tests)
-
-no_digit_from_1 : (b : ℕ) → is_digit b ≡ false → (nat_le 49 b && nat_le b 57) ≡ false
-no_digit_from_1 b h = grind (arith, nat_tests)
-
-pub begins_otherwise : (kind : TokenKind) (b : ℕ) (bs : List ℕ) → can_begin kind b ≡ false → is_token kind (b ∷ bs) ≡ false
-begins_otherwise Ident b bs h = and_left (is_word (b ∷ bs)) _ (and_left (is_letter b) (list_all is_letter_or_digit bs) h)
-begins_otherwise Int b [] h = h
-begins_otherwise Int b (c ∷ bs) h = let e = no_digit_from_1 b h in grind (arith, e)
-begins_otherwise Const b bs h = and_left (b == 99) _ (no_c b h)
-begins_otherwise Package b bs h = and_left (b == 112) _ (no_p b h)
-begins_otherwise Add b bs h = and_left (b == 43) _ h
-begins_otherwise Assign b bs h = and_left (b == 61) _ h
-begins_otherwise LeftParen b bs h = and_left (b == 40) _ h
-begins_otherwise RightParen b bs h = and_left (b == 41) _ h
-begins_otherwise InsertedSemicolon b bs h = refl
-begins_otherwise End b bs h = refl
-
-pub nothing_is_no_token : (kind : TokenKind) → is_token kind [] ≡ false
-nothing_is_no_token Ident = refl
-nothing_is_no_token Int = refl
-nothing_is_no_token Const = refl
-nothing_is_no_token Package = refl
-nothing_is_no_token Add = refl
-nothing_is_no_token Assign = refl
-nothing_is_no_token LeftParen = refl
-nothing_is_no_token RightParen = refl
-nothing_is_no_token InsertedSemicolon = refl
-nothing_is_no_token End = refl
-
-pub none_in_nothing : (kind : TokenKind) (len : ℕ) → is_token kind (take len []) ≡ false
-none_in_nothing kind zero = nothing_is_no_token kind
-none_in_nothing kind (suc len) = nothing_is_no_token kind
-
--- a run passes its test, and no longer front does
-run_passes : (p : ℕ → Bool) (xs : List ℕ) → list_all p (take (length (take_while p xs)) xs) ≡ true
-run_passes p [] = refl
-run_passes p (x ∷ xs) = ⊎_elim
-    (λ (yes : p x ≡ true). rw (take_while-cons p x xs, yes) (rw yes (run_passes p xs)))
-    (λ (no : p x ≡ false). rw (take_while-cons p x xs, no) refl)
-    (cases_Bool (p x))
-
-pub run_within : (p : ℕ → Bool) (xs : List ℕ) → length (take_while p xs) ≤ length xs
-run_within p [] = omega arith
-run_within p (x ∷ xs) = ⊎_elim
-    (λ (yes : p x ≡ true). rw (take_while-cons p x xs, yes) (omega (arith, run_within p xs)))
-    (λ (no : p x ≡ false). rw (take_while-cons p x xs, no) (omega arith))
-    (cases_Bool (p x))
-
-run_longest : (p : ℕ → Bool) (xs : List ℕ) (n : ℕ) → length (take_while p xs) < n → n ≤ length xs → list_all p (take n xs) ≡ false
-run_longest p [] n lt le = absurd (omega arith)
-run_longest p (x ∷ xs) zero lt le = absurd (omega arith)
-run_longest p (x ∷ xs) (suc n) lt le = ⊎_elim
-    (λ (yes : p x ≡ true). let lt' = rw (take_while-cons p x xs, yes) at lt in
-    and_right (p x) (list_all p (take n xs)) (run_longest p xs n (omega (arith, lt')) (omega arith)))
-    (λ (no : p x ≡ false). and_left (p x) (list_all p (take n xs)) no)
-    (cases_Bool (p x))
+use Rattle.go_tree.specs.declared.token.TokenKind.TheVariants.{Ident, Int, Float, Rune, Text}
+use Rattle.go_tree.specs.Characters.{is_allowed, IsForbidden}
+use Rattle.go_tree.specs.Comments.{OpensLine, OpensGeneral}
+use Rattle.go_tree.specs.Numbers.{begins_number, IsNumberRun, number_kind}
+use Rattle.go_tree.specs.Literals.{IsRuneLit, IsInterpretedLit, IsRawLit}
+use Rattle.go_tree.specs.Tokens.{IsSpelled, IsWord, IsToken, IsLexeme, IsLongest}
+use Rattle.go_tree.specs.Faults.{CanGoOn, line, general, raw, string, string_escape, rune, rune_escape, rune_closes}
+use Rattle.go_scan.specs.Blame.{IsBlamed, OpensLiteral}
+use Rattle.go_scan.specs.Reading.{IsStuck}
+use Rattle.go_scan.proofs.ByteLemmas.{byte_char, allowed_char}
+use Rattle.go_scan.specs.Ascii.{is_small_letter}
+use Rattle.go_scan.proofs.LexemeLemmas.{Form, form_of, small_word, SpelledAt, spelled_at, slice_at}
+use Rattle.go_scan.proofs.WordLemmas.{word_within}
+use Rattle.go_scan.proofs.QuotedLemmas.{one_rune, one_interpreted}
+use Rattle.go_scan.proofs.RawLemmas.{one_raw}
+use Rattle.go_scan.proofs.TokenLemmas.{word_alone, number_alone, quote_alone, other_alone, number_no_word, number_spelled, not_number, word_no_mark, Quoted}
 
 -- words
-no_keyword : (text keyword : List ℕ) → is_word keyword ≡ true → is_word text ≡ false → same_text text keyword ≡ false
-no_keyword text keyword is other = false_from_ne_true (same_text text keyword) (λ h. false≢true (sym other ∙ ap is_word (same text keyword h) ∙ is))
+pub word_is_longest : (bytes : List ℕ) (kind : TokenKind) (from to : ℕ) → IsWord bytes from to → ((n : ℕ) → IsWord bytes from n → n ≤ to) → to ≤ length bytes → IsToken bytes kind from to → IsLongest bytes kind from to
+word_is_longest bytes kind from to w ends within token = record {
+  within = within;
+  token = token;
+  longest = λ n lt le l. let other = ends n (word_alone bytes from to n w le l) in omega (arith, lt, other);
+}
 
-no_word : (kind : TokenKind) (b : ℕ) (bs : List ℕ) → is_letter b ≡ true → is_word (b ∷ bs) ≡ false → is_token kind (b ∷ bs) ≡ false
-no_word Ident b bs h other = and_left (is_word (b ∷ bs)) _ other
-no_word Const b bs h other = no_keyword (b ∷ bs) (codes "const") refl other
-no_word Package b bs h other = no_keyword (b ∷ bs) (codes "package") refl other
-no_word Int b bs h other = begins_otherwise Int b bs (letter_no_digit b h)
-no_word Add b bs h other = begins_otherwise Add b bs (grind (arith, nat_tests))
-no_word Assign b bs h other = begins_otherwise Assign b bs (grind (arith, nat_tests))
-no_word LeftParen b bs h other = begins_otherwise LeftParen b bs (grind (arith, nat_tests))
-no_word RightParen b bs h other = begins_otherwise RightParen b bs (grind (arith, nat_tests))
-no_word InsertedSemicolon b bs h other = refl
-no_word End b bs h other = refl
-
-pub word_run : (b : ℕ) (rest : List ℕ) → is_letter b ≡ true → is_word (take (length (take_while is_letter_or_digit rest) + 1) (b ∷ rest)) ≡ true
-word_run b rest h = rw add-one (rw h (run_passes is_letter_or_digit rest))
-
-pub word_longest : (kind : TokenKind) (b : ℕ) (rest : List ℕ) → is_letter b ≡ true → is_token kind (take (length (take_while is_letter_or_digit rest) + 1) (b ∷ rest)) ≡ true → IsLongest (b ∷ rest) kind (length (take_while is_letter_or_digit rest) + 1)
-word_longest kind b rest h token = record { within = omega (arith, run_within is_letter_or_digit rest); token = token; longest = longer }
-  where
-    longer : (k : TokenKind) (n : ℕ) → length (take_while is_letter_or_digit rest) + 1 < n → n ≤ length (b ∷ rest) → is_token k (take n (b ∷ rest)) ≡ false
-    longer k zero lt le = absurd (omega arith)
-    longer k (suc n) lt le = no_word k b (take n rest) h (and_right (is_letter b) (list_all is_letter_or_digit (take n rest)) (run_longest is_letter_or_digit rest n (omega arith) (omega arith)))
+-- a keyword is a token of its kind
+pub spelled_token : (bytes : List ℕ) (kind : TokenKind) (from to : ℕ) → IsSpelled kind (slice_range bytes from to) → IsToken bytes kind from to
+spelled_token bytes Ident from to s = absurd (let len : 0 ≡ length (slice_range bytes from to) = ap length s.0 in let some = s.1 in omega (arith, some, len))
+spelled_token bytes Int from to s = absurd (let len : 0 ≡ length (slice_range bytes from to) = ap length s.0 in let some = s.1 in omega (arith, some, len))
+spelled_token bytes Float from to s = absurd (let len : 0 ≡ length (slice_range bytes from to) = ap length s.0 in let some = s.1 in omega (arith, some, len))
+spelled_token bytes Rune from to s = absurd (let len : 0 ≡ length (slice_range bytes from to) = ap length s.0 in let some = s.1 in omega (arith, some, len))
+spelled_token bytes Text from to s = absurd (let len : 0 ≡ length (slice_range bytes from to) = ap length s.0 in let some = s.1 in omega (arith, some, len))
+spelled_token bytes _ from to s = s
 
 -- numbers
-no_number : (kind : TokenKind) (b : ℕ) (bs : List ℕ) → is_digit b ≡ true → is_decimal (b ∷ bs) ≡ false → is_token kind (b ∷ bs) ≡ false
-no_number Int b bs h other = other
-no_number Ident b bs h other = begins_otherwise Ident b bs (grind (arith, nat_tests))
-no_number Const b bs h other = begins_otherwise Const b bs (grind (arith, nat_tests))
-no_number Package b bs h other = begins_otherwise Package b bs (grind (arith, nat_tests))
-no_number Add b bs h other = begins_otherwise Add b bs (grind (arith, nat_tests))
-no_number Assign b bs h other = begins_otherwise Assign b bs (grind (arith, nat_tests))
-no_number LeftParen b bs h other = begins_otherwise LeftParen b bs (grind (arith, nat_tests))
-no_number RightParen b bs h other = begins_otherwise RightParen b bs (grind (arith, nat_tests))
-no_number InsertedSemicolon b bs h other = refl
-no_number End b bs h other = refl
-
-pub zero_longest : (b : ℕ) (rest : List ℕ) → b ≡ 48 → IsLongest (b ∷ rest) Int 1
-zero_longest b rest e = record { within = omega arith; token = rw e refl; longest = longer }
+pub number_is_longest : (bytes : List ℕ) (kind : TokenKind) (from to : ℕ) → IsNumberRun bytes from to → ((n : ℕ) → IsNumberRun bytes from n → n ≤ to) → from < to → to ≤ length bytes → IsToken bytes kind from to → IsLongest bytes kind from to
+number_is_longest bytes kind from to run ends some within token = record {
+  within = within;
+  token = token;
+  longest = longer;
+}
   where
-    long_zero : (bs : List ℕ) (n : ℕ) → 0 < n → n ≤ length bs → is_decimal (b ∷ take n bs) ≡ false
-    long_zero [] n lt le = absurd (omega arith)
-    long_zero (c ∷ bs) zero lt le = absurd (omega arith)
-    long_zero (c ∷ bs) (suc n) lt le = rw e refl
+    longer : (n : ℕ) → to < n → n ≤ length bytes → IsLexeme bytes from n → ⊥
+    longer n lt le l = ⊎_elim
+        (λ (short : n ≡ from + 1). omega (arith, lt, some, short))
+        (λ (other : IsNumberRun bytes from n). let past = ends n other in omega (arith, lt, past))
+        (number_alone bytes from n run.0 le l)
 
-    longer : (k : TokenKind) (n : ℕ) → 1 < n → n ≤ length (b ∷ rest) → is_token k (take n (b ∷ rest)) ≡ false
-    longer k zero lt le = absurd (omega arith)
-    longer k (suc n) lt le = no_number k b (take n rest) (rw e refl) (long_zero rest n (omega arith) (omega arith))
+pub number_token_of : (bytes : List ℕ) (kind : TokenKind) (from to : ℕ) → IsNumberRun bytes from to → number_kind (slice_range bytes from to) ≡ Some kind → (kind ≡ Int) ⊎ (kind ≡ Float) → IsToken bytes kind from to
+number_token_of bytes kind from to run is (inl int) = let e : number_kind (slice_range bytes from to) ≡ Some Int = is ∙ ap Some int in rw int (run, e)
+number_token_of bytes kind from to run is (inr float) = let e : number_kind (slice_range bytes from to) ≡ Some Float = is ∙ ap Some float in rw float (run, e)
 
-from_1 : (b : ℕ) → is_digit b ≡ true → (b ≡ 48 → ⊥) → (nat_le 49 b ≡ true) × (nat_le b 57 ≡ true)
-from_1 b h ne = (grind (arith, nat_tests), grind (arith, nat_tests))
-
-pub digits_longest : (b : ℕ) (rest : List ℕ) → is_digit b ≡ true → (b ≡ 48 → ⊥) → IsLongest (b ∷ rest) Int (length (take_while is_digit rest) + 1)
-digits_longest b rest h ne = rw add-one (record { within = omega (arith, run_within is_digit rest); token = is_run (take (length (take_while is_digit rest)) rest) (run_passes is_digit rest); longest = longer })
+-- where a number begins that is no literal, no token stands
+pub no_number_token : (bytes : List ℕ) (from to : ℕ) → IsNumberRun bytes from to → ((n : ℕ) → IsNumberRun bytes from n → n ≤ to) → from < to → to ≤ length bytes → (slice_index bytes from ≡ 46 → from + 2 ≤ to) → None ≡ number_kind (slice_range bytes from to) → (kind : TokenKind) (n : ℕ) → IsLongest bytes kind from n → ⊥
+no_number_token bytes from to run ends some within point is kind n h = at (form_of bytes kind from n h.token)
   where
-    is_run : (bs : List ℕ) → list_all is_digit bs ≡ true → is_decimal (b ∷ bs) ≡ true
-    is_run [] e = h
-    is_run (c ∷ bs) e = rw ((from_1 b h ne).0, (from_1 b h ne).1) e
+    reaches : to ≤ n
+    reaches = ⊎_elim
+        (λ (lt : n < to). absurd (h.longest to lt within (inr (inl run))))
+        (λ (ge : to ≤ n). ge)
+        (cases_lt n to)
 
-    long_run : (bs : List ℕ) (n : ℕ) → 0 < n → list_all is_digit (take n bs) ≡ false → is_decimal (b ∷ take n bs) ≡ false
-    long_run [] n lt e = absurd (false≢true (sym e ∙ rw take-nil refl))
-    long_run (c ∷ bs) zero lt e = absurd (omega arith)
-    long_run (c ∷ bs) (suc n) lt e = and_right (nat_le 49 b) _ (and_right (nat_le b 57) (list_all is_digit (c ∷ take n bs)) e)
+    at : Form bytes kind from n → ⊥
+    at (Form.word k w o) = number_no_word bytes from n run.0 w
+    at (Form.number r k) =
+        let same : n ≡ to = omega (arith, reaches, ends n r) in
+        let other : number_kind (slice_range bytes from to) ≡ Some kind = rw same at k in
+        none_some (is ∙ other)
+      where
+        none_some : None ≡ Some kind → ⊥
+        none_some e = cc
+    at (Form.rune k x) = not_number bytes from 39 x.opens refl (λ e. omega (arith, e)) run.0
+    at (Form.interpreted k x) = not_number bytes from 34 x.opens refl (λ e. omega (arith, e)) run.0
+    at (Form.raw k x) = not_number bytes from 96 x.opens refl (λ e. omega (arith, e)) run.0
+    at (Form.spelled s) = let p = number_spelled bytes kind from n h.within run.0 s in let two = point p.1 in omega (arith, p.0, two, reaches)
 
-    longer : (k : TokenKind) (n : ℕ) → suc (length (take_while is_digit rest)) < n → n ≤ length (b ∷ rest) → is_token k (take n (b ∷ rest)) ≡ false
-    longer k zero lt le = absurd (omega arith)
-    longer k (suc n) lt le = no_number k b (take n rest) h (long_run rest n (omega arith) (run_longest is_digit rest n (omega arith) (omega arith)))
+-- quotes
+pub quote_is_longest : (bytes : List ℕ) (kind : TokenKind) (from to : ℕ) → OpensLiteral (slice_index bytes from) → ((n : ℕ) → Quoted bytes from n → n ≤ to) → to ≤ length bytes → IsToken bytes kind from to → IsLongest bytes kind from to
+quote_is_longest bytes kind from to q ends within token = record {
+  within = within;
+  token = token;
+  longest = λ n lt le l. let past = ends n (quote_alone bytes from n q le l) in omega (arith, lt, past);
+}
 
--- operators and punctuation: no token of two bytes begins with one
-no_longer_mark : (kind : TokenKind) (b c : ℕ) (bs : List ℕ) → is_letter b ≡ false → is_digit b ≡ false → is_token kind (b ∷ (c ∷ bs)) ≡ false
-no_longer_mark Ident b c bs nl nd = begins_otherwise Ident b (c ∷ bs) nl
-no_longer_mark Int b c bs nl nd = begins_otherwise Int b (c ∷ bs) nd
-no_longer_mark Const b c bs nl nd = begins_otherwise Const b (c ∷ bs) nl
-no_longer_mark Package b c bs nl nd = begins_otherwise Package b (c ∷ bs) nl
-no_longer_mark Add b c bs nl nd = and_right (b == 43) _ refl
-no_longer_mark Assign b c bs nl nd = and_right (b == 61) _ refl
-no_longer_mark LeftParen b c bs nl nd = and_right (b == 40) _ refl
-no_longer_mark RightParen b c bs nl nd = and_right (b == 41) _ refl
-no_longer_mark InsertedSemicolon b c bs nl nd = refl
-no_longer_mark End b c bs nl nd = refl
+pub no_quoted_token : (bytes : List ℕ) (from : ℕ) → OpensLiteral (slice_index bytes from) → ((n : ℕ) → Quoted bytes from n → ⊥) → (kind : TokenKind) (n : ℕ) → IsLongest bytes kind from n → ⊥
+no_quoted_token bytes from q nothing kind n h = nothing n (quote_alone bytes from n q h.within (inl (kind, h.token)))
 
-pub mark_longest : (kind : TokenKind) (b : ℕ) (rest : List ℕ) → is_letter b ≡ false → is_digit b ≡ false → is_token kind (b ∷ []) ≡ true → IsLongest (b ∷ rest) kind 1
-mark_longest kind b rest nl nd token = record { within = omega arith; token = token; longest = longer }
+pub rune_alone : (bytes : List ℕ) (from n : ℕ) → slice_index bytes from ≡ 39 → Quoted bytes from n → IsRuneLit bytes from n
+rune_alone bytes from n e (inl x) = x
+rune_alone bytes from n e (inr (inl x)) = absurd (omega (arith, e, x.opens))
+rune_alone bytes from n e (inr (inr x)) = absurd (omega (arith, e, x.opens))
+
+pub interpreted_alone : (bytes : List ℕ) (from n : ℕ) → slice_index bytes from ≡ 34 → Quoted bytes from n → IsInterpretedLit bytes from n
+interpreted_alone bytes from n e (inl x) = absurd (omega (arith, e, x.opens))
+interpreted_alone bytes from n e (inr (inl x)) = x
+interpreted_alone bytes from n e (inr (inr x)) = absurd (omega (arith, e, x.opens))
+
+pub raw_alone : (bytes : List ℕ) (from n : ℕ) → slice_index bytes from ≡ 96 → Quoted bytes from n → IsRawLit bytes from n
+raw_alone bytes from n e (inl x) = absurd (omega (arith, e, x.opens))
+raw_alone bytes from n e (inr (inl x)) = absurd (omega (arith, e, x.opens))
+raw_alone bytes from n e (inr (inr x)) = x
+
+pub rune_is_longest : (bytes : List ℕ) (from to : ℕ) → slice_index bytes from ≡ 39 → IsRuneLit bytes from to → to ≤ length bytes → IsLongest bytes Rune from to
+rune_is_longest bytes from to e lit within = quote_is_longest bytes Rune from to (inl e) (λ n q. let same = one_rune bytes from n to (rune_alone bytes from n e q) lit in omega (arith, same)) within lit
+
+pub interpreted_is_longest : (bytes : List ℕ) (from to : ℕ) → slice_index bytes from ≡ 34 → IsInterpretedLit bytes from to → to ≤ length bytes → IsLongest bytes Text from to
+interpreted_is_longest bytes from to e lit within = quote_is_longest bytes Text from to (inr (inl e)) (λ n q. let same = one_interpreted bytes from n to (interpreted_alone bytes from n e q) lit in omega (arith, same)) within (inl lit)
+
+pub raw_is_longest : (bytes : List ℕ) (from to : ℕ) → slice_index bytes from ≡ 96 → IsRawLit bytes from to → to ≤ length bytes → IsLongest bytes Text from to
+raw_is_longest bytes from to e lit within = quote_is_longest bytes Text from to (inr (inr e)) (λ n q. let same = one_raw bytes from n to (raw_alone bytes from n e q) lit in omega (arith, same)) within (inr lit)
+
+-- operators and punctuation
+pub mark_is_longest : (bytes : List ℕ) (kind : TokenKind) (from to : ℕ) → to ≤ length bytes → ((n : ℕ) → IsWord bytes from n → ⊥) → begins_number bytes from ≡ false → (OpensLiteral (slice_index bytes from) → ⊥) → (OpensLine bytes from → ⊥) → (OpensGeneral bytes from → ⊥) → IsSpelled kind (slice_range bytes from to) → ((k : TokenKind) (n : ℕ) → to < n → n ≤ length bytes → IsSpelled k (slice_range bytes from n) → ⊥) → IsLongest bytes kind from to
+mark_is_longest bytes kind from to within not_word no_num no_quote no_line no_general s ends = record {
+  within = within;
+  token = spelled_token bytes kind from to s;
+  longest = λ n lt le l. let other = other_alone bytes from n (not_word n) no_num no_quote no_line no_general l in ends other.0 n lt le other.1;
+}
+
+pub no_mark_token : (bytes : List ℕ) (from : ℕ) → ((n : ℕ) → IsWord bytes from n → ⊥) → begins_number bytes from ≡ false → (OpensLiteral (slice_index bytes from) → ⊥) → (OpensLine bytes from → ⊥) → (OpensGeneral bytes from → ⊥) → ((k : TokenKind) (n : ℕ) → n ≤ length bytes → IsSpelled k (slice_range bytes from n) → ⊥) → (kind : TokenKind) (n : ℕ) → IsLongest bytes kind from n → ⊥
+no_mark_token bytes from not_word no_num no_quote no_line no_general nothing kind n h = let other = other_alone bytes from n (not_word n) no_num no_quote no_line no_general (inl (kind, h.token)) in nothing other.0 n h.within other.1
+
+-- where neither a quote nor a comment stands, nothing could go on
+pub nothing_goes_on : (bytes : List ℕ) (from n : ℕ) → (OpensLiteral (slice_index bytes from) → ⊥) → (OpensLine bytes from → ⊥) → (OpensGeneral bytes from → ⊥) → CanGoOn bytes from n → ⊥
+nothing_goes_on bytes from n no_quote no_line no_general (line o r) = no_line o
+nothing_goes_on bytes from n no_quote no_line no_general (general o r i) = no_general o
+nothing_goes_on bytes from n no_quote no_line no_general (raw o r) = no_quote (inr (inr o))
+nothing_goes_on bytes from n no_quote no_line no_general (string o r) = no_quote (inr (inl o))
+nothing_goes_on bytes from n no_quote no_line no_general (string_escape o r e) = no_quote (inr (inl o))
+nothing_goes_on bytes from _ no_quote no_line no_general (rune o) = no_quote (inl o)
+nothing_goes_on bytes from n no_quote no_line no_general (rune_escape o e) = no_quote (inl o)
+nothing_goes_on bytes from n no_quote no_line no_general (rune_closes o c) = no_quote (inl o)
+
+pub blamed_here : (bytes : List ℕ) (from : ℕ) → (OpensLiteral (slice_index bytes from) → ⊥) → (OpensLine bytes from → ⊥) → (OpensGeneral bytes from → ⊥) → IsBlamed bytes from from
+blamed_here bytes from no_quote no_line no_general = record { reached = inl refl; only = alone }
   where
-    longer_in : (k : TokenKind) (bs : List ℕ) (n : ℕ) → 0 < n → n ≤ length bs → is_token k (b ∷ take n bs) ≡ false
-    longer_in k [] n lt le = absurd (omega arith)
-    longer_in k (c ∷ bs) zero lt le = absurd (omega arith)
-    longer_in k (c ∷ bs) (suc n) lt le = no_longer_mark k b c (take n bs) nl nd
+    alone : (n : ℕ) → (n ≡ from) ⊎ CanGoOn bytes from n → IsForbidden bytes n → n ≡ from
+    alone n (inl e) f = e
+    alone n (inr could) f = absurd (nothing_goes_on bytes from n no_quote no_line no_general could)
 
-    longer : (k : TokenKind) (n : ℕ) → 1 < n → n ≤ length (b ∷ rest) → is_token k (take n (b ∷ rest)) ≡ false
-    longer k zero lt le = absurd (omega arith)
-    longer k (suc n) lt le = longer_in k rest n (omega arith) (omega arith)
+number_no_quote : (bytes : List ℕ) (from : ℕ) → begins_number bytes from ≡ true → OpensLiteral (slice_index bytes from) → ⊥
+number_no_quote bytes from h (inl e) = not_number bytes from 39 e refl (λ x. omega (arith, x)) h
+number_no_quote bytes from h (inr (inl e)) = not_number bytes from 34 e refl (λ x. omega (arith, x)) h
+number_no_quote bytes from h (inr (inr e)) = not_number bytes from 96 e refl (λ x. omega (arith, x)) h
 
-pub none_starts : (b : ℕ) (rest : List ℕ) → is_letter b ≡ false → is_digit b ≡ false → ((kind : TokenKind) → is_token kind (b ∷ []) ≡ false) → (kind : TokenKind) (len : ℕ) → is_token kind (take len (b ∷ rest)) ≡ false
-none_starts b rest nl nd alone kind zero = nothing_is_no_token kind
-none_starts b rest nl nd alone kind (suc len) = with_more (take len rest)
+pub number_blamed : (bytes : List ℕ) (from : ℕ) → begins_number bytes from ≡ true → IsBlamed bytes from from
+number_blamed bytes from h = blamed_here bytes from (number_no_quote bytes from h) (λ o. not_number bytes from 47 o.0 refl (λ x. omega (arith, x)) h) (λ o. not_number bytes from 47 o.0 refl (λ x. omega (arith, x)) h)
+
+-- where reading is stuck behind an ASCII byte, that byte is not to blame
+pub stuck_blamed : (bytes : List ℕ) (from at b : ℕ) → slice_index bytes from ≡ suc b → suc b < 128 → IsStuck bytes from at → IsBlamed bytes from at
+stuck_blamed bytes from at b byte lt s = record { reached = inr s.could; only = alone }
   where
-    with_more : (bs : List ℕ) → is_token kind (b ∷ bs) ≡ false
-    with_more [] = alone kind
-    with_more (c ∷ bs) = no_longer_mark kind b c bs nl nd
+    small : (b : ℕ) → suc b < 128 → is_allowed (suc b) ≡ true
+    small b h = grind (arith, nat_tests)
+
+    alone : (n : ℕ) → (n ≡ from) ⊎ CanGoOn bytes from n → IsForbidden bytes n → n ≡ at
+    alone n (inl e) f = let other : IsForbidden bytes from = rw e at f in absurd (allowed_char bytes from (suc b) (byte_char bytes from b byte lt) (small b lt) other)
+    alone n (inr could) f = s.only n could f
+
+-- where no word stands, no small letter does
+pub no_small_letter : (bytes : List ℕ) (from : ℕ) → ((n : ℕ) → IsWord bytes from n → ⊥) → is_small_letter (slice_index bytes from) ≡ false
+no_small_letter bytes from not_word = ⊎_elim
+    (λ (yes : is_small_letter (slice_index bytes from) ≡ true). absurd (not_word (from + 1) (small_word bytes from yes)))
+    (λ (other : is_small_letter (slice_index bytes from) ≡ false). other)
+    (cases_Bool (is_small_letter (slice_index bytes from)))
+
+-- a word that is no keyword is an identifier
+pub ident_token : (bytes : List ℕ) (from to : ℕ) → IsWord bytes from to → to ≤ length bytes → ((kind : TokenKind) → is_small_letter (slice_index (slice_range bytes from to) 0) ≡ true → IsSpelled kind (slice_range bytes from to) → ⊥) → IsToken bytes Ident from to
+ident_token bytes from to w within none = (w, other)
+  where
+    other : (kind : TokenKind) → IsSpelled kind (slice_range bytes from to) → ⊥
+    other kind s = at (spelled_at bytes kind from to within s)
+      where
+        first : slice_index (slice_range bytes from to) 0 ≡ slice_index bytes from
+        first = let some = (word_within bytes from to w).0 in let e : from + 0 ≡ from = omega arith in slice_at bytes from to 0 (omega (arith, some)) ∙ ap (λ i. slice_index bytes i) e
+
+        at : SpelledAt bytes from to → ⊥
+        at (SpelledAt.word small x) = none kind (rw first small) s
+        at (SpelledAt.mark m dots slash) = word_no_mark bytes from to w m
+
+pub third_quote : (b : ℕ) → OpensLiteral b → (b ≡ 39 → ⊥) → (b ≡ 34 → ⊥) → b ≡ 96
+third_quote b (inl e) first second = absurd (first e)
+third_quote b (inr (inl e)) first second = absurd (second e)
+third_quote b (inr (inr e)) first second = e

@@ -1,49 +1,67 @@
 -- Lemmas on `IsNext`: a text has at most one next token; where it lies, what it is, and that it
 -- leaves less of the text.
-use Rattle.std.proofs.Common.{◌≡◌, ◌≢◌, ℕ, zero, suc, ◌-◌, ◌<◌, ◌≤◌, Bool, true, false, cond, List, [], ◌∷◌, Option, Some, length, take, drop, ◌⊎◌, inl, inr, sym, ◌∙◌, subst, ⊎_elim, arith}
-use Rattle.std.specs.Prelude.{slice_range}
-use Rattle.std.proofs.lemmas.Bool.{cases_Bool, false≢true, cond-true, cond-false}
-use Rattle.std.proofs.lemmas.Bool.Decides.{when_true, when_false}
-use Rattle.std.proofs.lemmas.List.{length-drop}
+use Rattle.std.proofs.Common.{◌≡◌, ◌≢◌, ℕ, ◌<◌, ◌≤◌, Bool, true, false, cond, List, Option, Some, length, refl, sym, ◌∙◌, arith}
 use Rattle.go_tree.specs.declared.token.Token.{Token}
 use Rattle.go_tree.specs.declared.token.TokenKind.{TokenKind}
 use Rattle.go_tree.specs.declared.token.TokenKind.TheVariants.{InsertedSemicolon, End}
-use Rattle.go_tree.specs.Characters.{is_newline}
-use Rattle.go_tree.specs.Semicolons.{inserts_after, is_passed}
-use Rattle.go_tree.specs.Tokens.{is_token, IsLongest, IsFirst, IsNext}
+use Rattle.go_tree.specs.Semicolons.{inserts_after}
+use Rattle.go_tree.specs.Tokens.{IsToken, IsLongest}
+use Rattle.go_tree.specs.Scan.{Space, blank, line, general, mark, Passed, Gap, none, more, IsPlace, IsFirst, ends, newline, written, IsFirstNewline, IsNext}
 use Rattle.go_scan.specs.Weight.{scan_weight}
-use Rattle.go_scan.proofs.LongestLemmas.{nothing_is_no_token, run_within}
+use Rattle.go_scan.proofs.RunLemmas.{run_from, run_within}
+use Rattle.go_scan.proofs.CommentLemmas.{opens_within, closes_within}
+use Rattle.go_scan.proofs.SpaceLemmas.{Lies, blank_lies, mark_lies, one_space, one_newline}
 use Rattle.go_scan.proofs.KindLemmas.{one_longest}
+use Rattle.go_scan.proofs.MoveLemmas.{token_moves}
 
--- the cases of `IsFirst`
-first_at_newline : (last : Option TokenKind) (b : ℕ) (bytes : List ℕ) (kind : TokenKind) (len : ℕ) → is_newline b ≡ true → IsFirst last (b ∷ bytes) kind len → (kind ≡ InsertedSemicolon) × (len ≡ 1)
-first_at_newline last b bytes kind len = when_true ((kind ≡ InsertedSemicolon) × (len ≡ 1)) (IsLongest (b ∷ bytes) kind len)
+-- space lies within the text, and has a byte
+pub space_lies : (bytes : List ℕ) (at to : ℕ) → Space bytes at to → Lies bytes at to
+space_lies bytes at to (blank b) = blank_lies bytes at b
+space_lies bytes at to (line c) =
+    let past = run_from c.inside in
+    record { space = line c; behind = omega (arith, past); within = run_within (opens_within bytes at c.opens) c.inside }
+space_lies bytes at to (general c) =
+    let past = run_from c.inside in
+    let close = closes_within bytes c.close c.closes in
+    let end = c.ends in
+    record { space = general c; behind = omega (arith, past, end); within = omega (arith, close, end) }
+space_lies bytes at to (mark start char) = mark_lies bytes at to start char refl
 
-first_elsewhere : (last : Option TokenKind) (b : ℕ) (bytes : List ℕ) (kind : TokenKind) (len : ℕ) → is_newline b ≡ false → IsFirst last (b ∷ bytes) kind len → IsLongest (b ∷ bytes) kind len
-first_elsewhere last b bytes kind len = when_false ((kind ≡ InsertedSemicolon) × (len ≡ 1)) (IsLongest (b ∷ bytes) kind len)
+-- the same gap, by what is passed over first
+data GapOn (stops : Bool) (bytes : List ℕ) : ℕ → ℕ → Type 0 where
+  stop : {at : ℕ} → GapOn stops bytes at at
+  step : {at m to : ℕ} → Passed stops bytes at m → GapOn stops bytes m to → GapOn stops bytes at to
 
-first_at_end : (last : Option TokenKind) (kind : TokenKind) (len : ℕ) → IsFirst last [] kind len → ((inserts_after last ≡ true) × (kind ≡ InsertedSemicolon)) ⊎ (kind ≡ End)
-first_at_end last kind len h = ⊎_elim
-    (λ (yes : inserts_after last ≡ true). inl (yes, h.0 ∙ cond-true (inserts_after last) InsertedSemicolon End yes))
-    (λ (no : inserts_after last ≡ false). inr (h.0 ∙ cond-false (inserts_after last) InsertedSemicolon End no))
-    (cases_Bool (inserts_after last))
+behind_gap : {stops : Bool} {bytes : List ℕ} {from at to : ℕ} → GapOn stops bytes from at → Passed stops bytes at to → GapOn stops bytes from to
+behind_gap stop p = step p stop
+behind_gap (step q rest) p = step q (behind_gap rest p)
 
-first_cases : (last : Option TokenKind) (b : ℕ) (bytes : List ℕ) (kind : TokenKind) (len : ℕ) → IsFirst last (b ∷ bytes) kind len → ((kind ≡ InsertedSemicolon) × (len ≡ 1)) ⊎ IsLongest (b ∷ bytes) kind len
-first_cases last b bytes kind len h = ⊎_elim
-    (λ (yes : is_newline b ≡ true). inl (first_at_newline last b bytes kind len yes h))
-    (λ (no : is_newline b ≡ false). inr (first_elsewhere last b bytes kind len no h))
-    (cases_Bool (is_newline b))
+gap_on : {stops : Bool} {bytes : List ℕ} {from to : ℕ} → Gap stops bytes from to → GapOn stops bytes from to
+gap_on none = stop
+gap_on (more g p) = behind_gap (gap_on g) p
 
--- what stands first is one
-one_first : (last : Option TokenKind) (bytes : List ℕ) (j k : TokenKind) (m n : ℕ) → IsFirst last bytes j m → IsFirst last bytes k n → (j ≡ k) × (m ≡ n)
-one_first last [] j k m n a b = (a.0 ∙ sym b.0, a.1 ∙ sym b.1)
-one_first last (c ∷ bytes) j k m n a b = ⊎_elim
-    (λ (yes : is_newline c ≡ true).
-    let x = first_at_newline last c bytes j m yes a in
-    let y = first_at_newline last c bytes k n yes b in
-    (x.0 ∙ sym y.0, x.1 ∙ sym y.1))
-    (λ (no : is_newline c ≡ false). one_longest (c ∷ bytes) j k m n (first_elsewhere last c bytes j m no a) (first_elsewhere last c bytes k n no b))
-    (cases_Bool (is_newline c))
+one_gap : {stops : Bool} {bytes : List ℕ} {from m n : ℕ} → GapOn stops bytes from m → ((to : ℕ) → Passed stops bytes m to → ⊥) → GapOn stops bytes from n → ((to : ℕ) → Passed stops bytes n to → ⊥) → m ≡ n
+one_gap stop e stop f = refl
+one_gap stop e (step q h) f = absurd (e _ q)
+one_gap (step p g) e stop f = absurd (f _ p)
+one_gap {bytes = bytes} {from = from} {n = n} (step {m = a} p g) e (step {m = b} q h) f =
+    let same : b ≡ a = one_space bytes from b a q.0 p.0 in
+    one_gap g e (rw same at h) f
+
+-- there is one place for the next token
+pub one_place : (bytes : List ℕ) (at : ℕ) (last : Option TokenKind) (m n : ℕ) → IsPlace bytes at last m → IsPlace bytes at last n → m ≡ n
+one_place bytes at last m n a b = one_gap (gap_on a.gap) a.whole (gap_on b.gap) b.whole
+
+gap_from : {stops : Bool} {bytes : List ℕ} {from to : ℕ} → Gap stops bytes from to → from ≤ to
+gap_from none = omega arith
+gap_from (more g p) = let rest = gap_from g in let l = (space_lies _ _ _ p.0).behind in omega (arith, rest, l)
+
+gap_within : {stops : Bool} {bytes : List ℕ} {from to : ℕ} → from ≤ length bytes → Gap stops bytes from to → to ≤ length bytes
+gap_within le none = le
+gap_within le (more g p) = (space_lies _ _ _ p.0).within
+
+pub place_lies : (bytes : List ℕ) (at : ℕ) (last : Option TokenKind) (place : ℕ) → at ≤ length bytes → IsPlace bytes at last place → (at ≤ place) × (place ≤ length bytes)
+place_lies bytes at last place le h = (gap_from h.gap, gap_within le h.gap)
 
 abbrev token_at : TokenKind → ℕ → ℕ → Token
 token_at kind start end = record { kind = kind; start = start; end = end }
@@ -51,62 +69,58 @@ token_at kind start end = record { kind = kind; start = start; end = end }
 same_token : (j k : TokenKind) (m n from to : ℕ) → j ≡ k → m ≡ n → from ≡ to → token_at j m from ≡ token_at k n to
 same_token j k m n from to kind start end = cc
 
+longest_moves : (bytes : List ℕ) (kind : TokenKind) (from to : ℕ) → IsLongest bytes kind from to → (from < to) × (to ≤ length bytes)
+longest_moves bytes kind from to h = (token_moves bytes kind from to h.within h.token, h.within)
+
+-- what stands first is one
+one_first : (bytes : List ℕ) (last : Option TokenKind) (place : ℕ) (t u : Token) → IsFirst bytes last place t → IsFirst bytes last place u → t ≡ u
+one_first bytes last place t u (ends a k s e) (ends b l r f) = same_token t.kind u.kind t.start u.start t.end u.end (k ∙ sym l) (s ∙ sym r) (e ∙ sym f)
+one_first bytes last place t u (ends a k s e) (newline l sp n) = let w = space_lies bytes place u.end sp in let x = w.behind in let y = w.within in absurd (omega (arith, a, x, y))
+one_first bytes last place t u (ends a k s e) (written no_space start long) = let w = longest_moves bytes u.kind place u.end long in absurd (omega (arith, a, w.0, w.1))
+one_first bytes last place t u (newline l sp n) (ends a k s e) = let w = space_lies bytes place t.end sp in let x = w.behind in let y = w.within in absurd (omega (arith, a, x, y))
+one_first bytes last place t u (newline k sp n) (newline l sq o) =
+    let end : u.end ≡ t.end = one_space bytes place u.end t.end sq sp in
+    let other : IsFirstNewline bytes place t.end u.start = rw end at o in
+    same_token t.kind u.kind t.start u.start t.end u.end (k ∙ sym l) (one_newline bytes place t.end t.start u.start n other) (sym end)
+one_first bytes last place t u (newline k sp n) (written no_space start long) = absurd (no_space t.end sp)
+one_first bytes last place t u (written no_space start long) (ends a k s e) = let w = longest_moves bytes t.kind place t.end long in absurd (omega (arith, a, w.0, w.1))
+one_first bytes last place t u (written no_space start long) (newline k sp n) = absurd (no_space u.end sp)
+one_first bytes last place t u (written no_space start long) (written no_space2 start2 long2) =
+    let one = one_longest bytes t.kind u.kind place t.end u.end long long2 in
+    same_token t.kind u.kind t.start u.start t.end u.end one.0 (start ∙ sym start2) one.1
+
 -- a text has at most one next token
 pub one_next : (bytes : List ℕ) (at : ℕ) (last : Option TokenKind) (t u : Token) → IsNext bytes at last t → IsNext bytes at last u → t ≡ u
 one_next bytes at last t u a b =
-    let start : t.start ≡ u.start = a.starts ∙ sym b.starts in
-    let P : ℕ → Type 0 = λ s. IsFirst last (drop s bytes) t.kind a.len in
-    let both = one_first last (drop u.start bytes) t.kind u.kind a.len b.len (subst P start a.first) b.first in
-    let end : t.end ≡ u.end = omega (arith, a.ends, b.ends, both.1, start) in
-    same_token t.kind u.kind t.start u.start t.end u.end both.0 start end
+    let place : b.place ≡ a.place = one_place bytes at last b.place a.place b.is_place a.is_place in
+    let other : IsFirst bytes last a.place u = rw place at b.first in
+    one_first bytes last a.place t u a.first other
 
-first_within : (last : Option TokenKind) (bytes : List ℕ) (kind : TokenKind) (len : ℕ) → IsFirst last bytes kind len → len ≤ length bytes
-first_within last [] kind len h = omega (arith, h.1)
-first_within last (b ∷ bytes) kind len h = ⊎_elim
-    (λ (newline : (kind ≡ InsertedSemicolon) × (len ≡ 1)). omega (arith, newline.1))
-    (λ (longest : IsLongest (b ∷ bytes) kind len). longest.within)
-    (first_cases last b bytes kind len h)
+-- where what stands first lies
+first_lies : (bytes : List ℕ) (last : Option TokenKind) (place : ℕ) (t : Token) → place ≤ length bytes → IsFirst bytes last place t → (place ≤ t.start) × (t.start ≤ t.end) × (t.end ≤ length bytes)
+first_lies bytes last place t le (ends a k s e) = (omega (arith, s), omega (arith, s, e), omega (arith, a, e))
+first_lies bytes last place t le (newline k sp n) = let w = (space_lies bytes place t.end sp).within in let x = n.behind in let y = n.before in (x, omega (arith, y), w)
+first_lies bytes last place t le (written no_space start long) = let w = longest_moves bytes t.kind place t.end long in (omega (arith, start), omega (arith, start, w.0), w.1)
 
 -- the next token lies behind `at` and within the text
 pub next_within : (bytes : List ℕ) (at : ℕ) (last : Option TokenKind) (t : Token) → at ≤ length bytes → IsNext bytes at last t → (at ≤ t.start) × (t.start ≤ t.end) × (t.end ≤ length bytes)
 next_within bytes at last t le h =
-    let passed = run_within (is_passed last) (drop at bytes) in
-    let len = first_within last (drop t.start bytes) t.kind h.len h.first in
-    let starts = h.starts in
-    let ends = h.ends in
-    (omega (arith, starts), omega (arith, ends), omega (arith, passed, len, starts, ends, length-drop at bytes, length-drop t.start bytes))
+    let p = place_lies bytes at last h.place le h.is_place in
+    let f = first_lies bytes last h.place t p.1 h.first in
+    (omega (arith, p.0, f.0), f.1, f.2)
 
-first_text : (last : Option TokenKind) (bytes : List ℕ) (kind : TokenKind) (len : ℕ) → IsFirst last bytes kind len → kind ≢ InsertedSemicolon → kind ≢ End → is_token kind (take len bytes) ≡ true
-first_text last [] kind len h written more = absurd (⊎_elim
-    (λ (inserted : (inserts_after last ≡ true) × (kind ≡ InsertedSemicolon)). written inserted.1)
-    more
-    (first_at_end last kind len h))
-first_text last (b ∷ bytes) kind len h written more = ⊎_elim
-    (λ (newline : (kind ≡ InsertedSemicolon) × (len ≡ 1)). absurd (written newline.0))
-    (λ (longest : IsLongest (b ∷ bytes) kind len). longest.token)
-    (first_cases last b bytes kind len h)
+-- a token that is not inserted, and not the end, stands where it says
+pub next_token : (bytes : List ℕ) (at : ℕ) (last : Option TokenKind) (t : Token) → IsNext bytes at last t → t.kind ≢ InsertedSemicolon → t.kind ≢ End → IsToken bytes t.kind t.start t.end
+next_token bytes at last t h inserted end = first_token h.place h.first
+  where
+    inserts : (b : Bool) → t.kind ≡ cond b InsertedSemicolon End → ⊥
+    inserts true e = inserted e
+    inserts false e = end e
 
--- a token that is not inserted, and not the end, has a text of its kind
-pub next_text : (bytes : List ℕ) (at : ℕ) (last : Option TokenKind) (t : Token) → IsNext bytes at last t → t.kind ≢ InsertedSemicolon → t.kind ≢ End → is_token t.kind (slice_range bytes t.start t.end) ≡ true
-next_text bytes at last t h written more =
-    let ends = h.ends in
-    let len : t.end - t.start ≡ h.len = omega (arith, ends) in
-    rw len (first_text last (drop t.start bytes) t.kind h.len h.first written more)
-
--- a token has a byte, or is the semicolon that the end of the file inserts, or the end
-longest_moves : (bytes : List ℕ) (kind : TokenKind) (len : ℕ) → IsLongest bytes kind len → 0 < len
-longest_moves bytes kind zero h = absurd (false≢true (sym (nothing_is_no_token kind) ∙ h.token))
-longest_moves bytes kind (suc len) h = omega arith
-
-first_moves : (last : Option TokenKind) (bytes : List ℕ) (kind : TokenKind) (len : ℕ) → IsFirst last bytes kind len → kind ≢ End → (0 < len) ⊎ ((inserts_after last ≡ true) × (kind ≡ InsertedSemicolon))
-first_moves last [] kind len h more = ⊎_elim
-    (λ (inserted : (inserts_after last ≡ true) × (kind ≡ InsertedSemicolon)). inr inserted)
-    (λ (end : kind ≡ End). absurd (more end))
-    (first_at_end last kind len h)
-first_moves last (b ∷ bytes) kind len h more = ⊎_elim
-    (λ (newline : (kind ≡ InsertedSemicolon) × (len ≡ 1)). inl (omega (arith, newline.1)))
-    (λ (longest : IsLongest (b ∷ bytes) kind len). inl (longest_moves (b ∷ bytes) kind len longest))
-    (first_cases last b bytes kind len h)
+    first_token : (place : ℕ) → IsFirst bytes last place t → IsToken bytes t.kind t.start t.end
+    first_token place (ends a k s e) = absurd (inserts (inserts_after last) k)
+    first_token place (newline k sp n) = absurd (inserted k)
+    first_token place (written no_space start long) = rw start long.token
 
 at_most_one : (b : Bool) → cond b 1 0 ≤ 1
 at_most_one true = omega arith
@@ -114,11 +128,16 @@ at_most_one false = omega arith
 
 -- each token but the end leaves less
 pub next_progress : (bytes : List ℕ) (at : ℕ) (last : Option TokenKind) (t : Token) → at ≤ length bytes → IsNext bytes at last t → t.kind ≢ End → scan_weight (length bytes) t.end (Some t.kind) < scan_weight (length bytes) at last
-next_progress bytes at last t le h more =
-    let within = next_within bytes at last t le h in
-    let ends = h.ends in
-    let one = at_most_one (inserts_after (Some t.kind)) in
-    ⊎_elim
-    (λ (moves : 0 < h.len). omega (arith, within.0, within.1, within.2, ends, one, moves))
-    (λ (inserted : (inserts_after last ≡ true) × (t.kind ≡ InsertedSemicolon)). rw (inserted.0, inserted.1) (omega (arith, within.0, within.1, within.2)))
-    (first_moves last (drop t.start bytes) t.kind h.len h.first more)
+next_progress bytes at last t le h more_left = first_progress h.place (place_lies bytes at last h.place le h.is_place) h.first
+  where
+    one : cond (inserts_after (Some t.kind)) 1 0 ≤ 1
+    one = at_most_one (inserts_after (Some t.kind))
+
+    at_end : (b : Bool) → t.kind ≡ cond b InsertedSemicolon End → (b ≡ true) × (t.kind ≡ InsertedSemicolon)
+    at_end true e = (refl, e)
+    at_end false e = absurd (more_left e)
+
+    first_progress : (place : ℕ) → (at ≤ place) × (place ≤ length bytes) → IsFirst bytes last place t → scan_weight (length bytes) t.end (Some t.kind) < scan_weight (length bytes) at last
+    first_progress place p (ends a k s e) = let i = at_end (inserts_after last) k in rw (i.0, i.1) (omega (arith, a, e, p.0, p.1))
+    first_progress place p (newline k sp n) = let w = space_lies bytes place t.end sp in let x = w.behind in let y = w.within in omega (arith, one, p.0, p.1, x, y)
+    first_progress place p (written no_space start long) = let w = longest_moves bytes t.kind place t.end long in omega (arith, one, p.0, p.1, w.0, w.1)

@@ -1,1 +1,10 @@
+pub mod Reading
+pub mod Runs
+pub mod Gaps
+pub mod Ascii
 pub mod Weight
+pub mod Escapes
+pub mod Digits
+pub mod Blame
+pub mod Lists
+pub mod Quoted

@@ -1,18 +1,50 @@
-//! The scanner: the next token of a text, and the values of integer literals.
+//! The scanner: the next token of a text, or why there is none, and what literals stand for.
 //!
-//! `next_token` passes over blanks and inserts semicolons, `longest` finds the longest token that
-//! starts some bytes, `literal` reads literals. What the tokens of a text are is defined in go_tree.
+//! `next_token` inserts semicolons and names what is wrong, `gap` passes over blanks and comments,
+//! `token` finds the longest token by what begins it: `words` and `keywords`, `numbers`, `quoted`
+//! and `marks`. `literals` says what a literal stands for. What the tokens of a text are is defined
+//! in go_tree.
 #![tactic(auto)]
 
 mod characters;
+mod comments;
+mod digits;
+mod escapes;
+mod floats;
+mod gap;
+mod keywords;
 mod laws;
-mod literal;
-mod longest;
+mod literals;
+mod marks;
 mod next_token;
+mod numbers;
+mod quoted;
+mod reading;
+mod runs;
+mod token;
+mod token_list;
+mod values;
+mod words;
 
-pub use laws::one_next;
-pub use literal::{int_value, literal_value};
+pub use go_tree::{Token, TokenKind};
+pub use laws::{one_next, one_scan};
+pub use literals::{int_lit_value, int_value, literal_text};
 pub use next_token::{Lex, next};
+pub use token_list::{ScanFault, tokens};
 
 #[cfg(test)]
-mod tests;
+mod fault_tests;
+#[cfg(test)]
+mod literal_tests;
+#[cfg(test)]
+mod number_tests;
+#[cfg(test)]
+mod quoted_tests;
+#[cfg(test)]
+mod scan_tests;
+#[cfg(test)]
+mod semicolon_tests;
+#[cfg(test)]
+mod text_tests;
+#[cfg(test)]
+mod token_tests;

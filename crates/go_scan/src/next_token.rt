@@ -1,18 +1,23 @@
-// The next token (Go specification, "Tokens", "Semicolons").
-ghost use Rattle.std.specs.Prelude.{◌≡◌, ◌≢◌, ℕ, ◌<◌, ◌≤◌, IfOk, IfErr, IfSome, IfNone, length, take_while};
+// The next token of a text (Go specification, "Lexical elements").
+ghost use Rattle.std.specs.Prelude.{◌≡◌, ◌≢◌, ◌⊎◌, ℕ, ◌<◌, ◌≤◌, ◌&&◌, nat_lt, IfOk, IfErr, if◌then◌else◌, length, Some};
 ghost use Rattle.go_tree.specs.declared.token.Token.{Token as TokenOf};
-ghost use Rattle.go_tree.specs.declared.token.TokenKind.{TokenKind as Kind};
-ghost use Rattle.go_tree.specs.declared.token.TokenKind.TheVariants.{End};
-ghost use Rattle.go_tree.specs.Semicolons.{inserts_after, is_passed};
-ghost use Rattle.go_tree.specs.Tokens.{IsFirst, IsNext, next_start};
+ghost use Rattle.go_tree.specs.declared.token.TokenKind.TheVariants.{InsertedSemicolon, End};
+ghost use Rattle.go_tree.specs.Characters.{decoded_at, is_forbidden, IsForbidden};
+ghost use Rattle.go_tree.specs.Comments.{OpensLine, OpensGeneral};
+ghost use Rattle.go_tree.specs.Faults.{IsForbiddenByte, IsMissingToken};
+ghost use Rattle.go_tree.specs.Scan.{IsFirst, IsNext};
+ghost use Rattle.go_tree.specs.Semicolons.{inserts_after};
+ghost use Rattle.go_scan.specs.Blame.{IsBlamed};
+ghost use Rattle.go_scan.specs.Gaps.{HasNoSpace};
 ghost use Rattle.go_scan.specs.Weight.{scan_weight};
 
-use crate::characters::is_blank;
-use crate::longest::first_token;
-use go_base::{Rule, UNBUILT_FORM};
+use crate::characters::char_at;
+use crate::gap::{Here, place};
+use crate::token::token;
+use go_base::{FORBIDDEN_BYTE, MISSING_TOKEN, Rule};
 use go_tree::{Token, TokenKind};
 
-/// Where no token starts: the offset of that byte, from 0, and the rule that it breaks.
+/// Why there is no next token: the offset of a byte, from 0, and the rule that is broken there.
 #[derive(Clone, Copy, Debug, PartialEq, Eq)]
 pub struct Lex {
     pub offset: usize,
@@ -21,7 +26,9 @@ pub struct Lex {
 
 /// The next token from the byte `at` on, where a token of the kind `last` stands before.
 ///
-/// Err exactly where no token starts at the first byte that is not passed over.
+/// Err exactly where there is none: at a byte that may not stand where the token should start, or
+/// where a comment, a rune literal or a string literal that starts there could go on; else at the
+/// first byte that is not passed over.
 pub fn next(bytes: &[u8], at: usize, last: Option<TokenKind>) -> Result<Token, Lex>
     requires { at ≤ length bytes.now }
     ensures token { IfOk result (λ t. IsNext bytes.now at last t) }
@@ -32,49 +39,97 @@ pub fn next(bytes: &[u8], at: usize, last: Option<TokenKind>) -> Result<Token, L
         scan_weight (length bytes.now) t.end (Some t.kind) < scan_weight (length bytes.now) at last) }
 
     ensures no_token { IfErr result (λ _. (t : TokenOf) → IsNext bytes.now at last t → ⊥) }
-    ensures place { IfErr result (λ e. e.offset ≡ next_start bytes.now at last) }
+    ensures rule { IfErr result (λ e.
+        ((e.rule ≡ FORBIDDEN_BYTE) × IsForbiddenByte bytes.now at last e.offset)
+        ⊎ ((e.rule ≡ MISSING_TOKEN) × IsMissingToken bytes.now at last e.offset)) }
     ensures inside { IfErr result (λ e. e.offset < length bytes.now) }
-    ensures rule { IfErr result (λ e. e.rule ≡ UNBUILT_FORM) }
 {
-    let start = at + passed_len(&bytes[at..], last);
-    match first(&bytes[start..], last) {
-        Some((kind, len)) => Ok(Token {
-            kind,
+    let (place, here) = place(bytes, at, inserts_after(last));
+    match here {
+        Here::Newline(start, end) => Ok(Token {
+            kind: TokenKind::InsertedSemicolon,
             start,
-            end: start + len,
+            end,
         }),
-        None => Err(Lex {
-            offset: start,
-            rule: UNBUILT_FORM,
-        }),
+        Here::Stuck(stuck) => Err(fault(bytes, place, stuck.at)),
+        Here::Other => match written(bytes, place, last) {
+            Ok(token) => Ok(token),
+            Err(blamed) => Err(fault(bytes, place, blamed)),
+        },
     }
 }
 
-// What stands first where nothing is to be passed over: its kind and its length in bytes.
-fn first(bytes: &[u8], last: Option<TokenKind>) -> Option<(TokenKind, usize)>
-    ensures token { IfSome result (λ t. IsFirst last bytes.now t.0 t.1) }
-    ensures within { IfSome result (λ t. t.1 ≤ length bytes.now) }
-    ensures none { IfNone result ((kind : Kind) (len : ℕ) → IsFirst last bytes.now kind len → ⊥) }
-    ensures bytes { IfNone result (0 < length bytes.now) }
+// What stands at a place where neither space nor a comment does. Err, where no token starts there:
+// the offset of the byte to blame, if one is.
+fn written(bytes: &[u8], place: usize, last: Option<TokenKind>) -> Result<Token, usize>
+    requires within { place ≤ length bytes.now }
+    requires space { HasNoSpace bytes.now place }
+    requires line { OpensLine bytes.now place → ⊥ }
+    requires general { OpensGeneral bytes.now place → ⊥ }
+    ensures first { IfOk result (λ t. IsFirst bytes.now last place t) }
+    ensures none { IfErr result (λ _. (t : TokenOf) → IsFirst bytes.now last place t → ⊥) }
+    ensures blamed { IfErr result (λ at. IsBlamed bytes.now place at) }
+    ensures inside { IfErr result (λ _. place < length bytes.now) }
 {
-    match bytes.first() {
-        None if inserts_after(last) => Some((TokenKind::InsertedSemicolon, 0)),
-        None => Some((TokenKind::End, 0)),
-        Some(b'\n') => Some((TokenKind::InsertedSemicolon, 1)),
-        Some(_) => first_token(bytes),
+    if place == bytes.len() {
+        return Ok(end_token(place, last));
+    }
+    match token(bytes, place) {
+        Ok((kind, end)) => Ok(Token {
+            kind,
+            start: place,
+            end,
+        }),
+        Err(stuck) => Err(stuck.at),
     }
 }
 
-fn passed_len(bytes: &[u8], last: Option<TokenKind>) -> usize
-    ensures { result ≡ length (take_while (is_passed last) bytes.now) }
+// What stands at the end of the file: a semicolon, where the last line inserts one, or the end.
+fn end_token(place: usize, last: Option<TokenKind>) -> Token
+    ensures kind { result.kind ≡ (if inserts_after last then InsertedSemicolon else End) }
+    ensures span { (result.start ≡ place) × (result.end ≡ place) }
 {
-    bytes.iter().take_while(|b| is_passed(last, **b)).count()
+    let kind = if inserts_after(last) {
+        TokenKind::InsertedSemicolon
+    } else {
+        TokenKind::End
+    };
+    Token {
+        kind,
+        start: place,
+        end: place,
+    }
 }
 
-fn is_passed(last: Option<TokenKind>, byte: u8) -> bool
-    ensures { result ≡ is_passed last byte }
+// The fault at a place where no token starts: at the byte to blame, if it may not stand there.
+fn fault(bytes: &[u8], place: usize, blamed: usize) -> Lex
+    ensures { ((result.rule ≡ FORBIDDEN_BYTE) × (result.offset ≡ blamed) × IsForbidden bytes.now blamed)
+        ⊎ ((result.rule ≡ MISSING_TOKEN) × (result.offset ≡ place) × (IsForbidden bytes.now blamed → ⊥)) }
 {
-    is_blank(byte) && !(byte == b'\n' && inserts_after(last))
+    if is_forbidden(bytes, blamed) {
+        Lex {
+            offset: blamed,
+            rule: FORBIDDEN_BYTE,
+        }
+    } else {
+        Lex {
+            offset: place,
+            rule: MISSING_TOKEN,
+        }
+    }
+}
+
+// Whether a byte stands at an offset that may not stand there.
+fn is_forbidden(bytes: &[u8], at: usize) -> bool
+    ensures { result ≡ (nat_lt at (length bytes.now) && is_forbidden at (decoded_at bytes.now at).char) }
+{
+    if at >= bytes.len() {
+        return false;
+    }
+    match char_at(bytes, at) {
+        Some((c, _)) => c == '\0' || (c == '\u{FEFF}' && at > 0),
+        None => true,
+    }
 }
 
 fn inserts_after(last: Option<TokenKind>) -> bool
@@ -82,6 +137,21 @@ fn inserts_after(last: Option<TokenKind>) -> bool
 {
     matches!(
         last,
-        Some(TokenKind::Ident | TokenKind::Int | TokenKind::RightParen)
+        Some(
+            TokenKind::Ident
+                | TokenKind::Int
+                | TokenKind::Float
+                | TokenKind::Rune
+                | TokenKind::Text
+                | TokenKind::KwBreak
+                | TokenKind::KwContinue
+                | TokenKind::KwFallthrough
+                | TokenKind::KwReturn
+                | TokenKind::Inc
+                | TokenKind::Dec
+                | TokenKind::RightParen
+                | TokenKind::RightBracket
+                | TokenKind::RightBrace
+        )
     )
 }

@@ -1,6 +1,13 @@
+pub mod Scan
 pub mod Tokens
-pub mod Characters
+pub mod Faults
 pub mod Semicolons
+pub mod Characters
+pub mod Comments
+pub mod Numbers
 pub mod Literals
+pub mod LiteralValues
+pub mod Grammar
+pub mod Height
 pub mod Tree
 pub mod Find

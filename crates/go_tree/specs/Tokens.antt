@@ -1,72 +1,128 @@
--- Tokens (Go specification, "Lexical elements": "Tokens", "Identifiers", "Keywords", "Operators and
--- punctuation", "Integer literals").
--- Decides which tokens a text has. Not here: which blanks stand between two tokens and where
--- semicolons are inserted (`Semicolons`).
-use Rattle.std.specs.Prelude.{◌≡◌, ◌≢◌, ℕ, ◌+◌, ◌<◌, ◌≤◌, ◌&&◌, nat_le, nat_eq, not, Bool, true, false, MatchBool, if◌then◌else◌, List, [], ◌∷◌, Option, Some, None, length, take, drop, take_while, codes}
-use Rattle.std.specs.List.{list_all}
-use Rattle.std.specs.Cmp.Lexicographic.{pointwise}
-use Rattle.go_tree.specs.declared.token.Token.{Token}
+-- Tokens (Go specification): "Identifiers", "Keywords", "Operators and punctuation".
+-- Decides which tokens stand at an offset, and which is the longest. Literals: `Numbers`, `Literals`;
+-- what stands between two tokens: `Scan`.
+use Rattle.std.specs.Prelude.{◌≡◌, ℕ, ◌+◌, ◌<◌, ◌≤◌, true, List, [], length, codes, Some, ◌⊎◌, slice_range}
 use Rattle.go_tree.specs.declared.token.TokenKind.{TokenKind}
-use Rattle.go_tree.specs.declared.token.TokenKind.TheVariants.{Ident, Int, Const, Package, Add, Assign, LeftParen, RightParen, InsertedSemicolon, End}
-use Rattle.go_tree.specs.Characters.{is_letter, is_digit, is_letter_or_digit, is_newline}
-use Rattle.go_tree.specs.Semicolons.{inserts_after, is_passed}
+use Rattle.go_tree.specs.declared.token.TokenKind.TheVariants.{Ident, Int, Float, Rune, Text, KwBreak, KwCase, KwChan, KwConst, KwContinue, KwDefault, KwDefer, KwElse, KwFallthrough, KwFor, KwFunc, KwGo, KwGoto, KwIf, KwImport, KwInterface, KwMap, KwPackage, KwRange, KwReturn, KwSelect, KwStruct, KwSwitch, KwType, KwVar, Add, Sub, Mul, Quo, Rem, And, Or, Xor, Shl, Shr, AndNot, AddAssign, SubAssign, MulAssign, QuoAssign, RemAssign, AndAssign, OrAssign, XorAssign, ShlAssign, ShrAssign, AndNotAssign, LogicalAnd, LogicalOr, Arrow, Inc, Dec, Equal, Less, Greater, Assign, Not, Tilde, NotEqual, LessEqual, GreaterEqual, Define, Ellipsis, LeftParen, LeftBracket, LeftBrace, Comma, Dot, RightParen, RightBracket, RightBrace, Semicolon, Colon, InsertedSemicolon, End}
+use Rattle.go_tree.specs.Characters.{decoded_at, is_letter, is_letter_or_digit, Run}
+use Rattle.go_tree.specs.Comments.{OpensLine, OpensGeneral}
+use Rattle.go_tree.specs.Numbers.{IsNumberRun, number_kind}
+use Rattle.go_tree.specs.Literals.{IsRuneLit, IsInterpretedLit, IsRawLit}
 
-abbrev pub same_text : List ℕ → List ℕ → Bool
-same_text = pointwise nat_eq
+-- the text of a keyword, an operator or a punctuation mark; empty for the kinds that have no text of their own
+abbrev pub spelling : TokenKind → List ℕ
+spelling KwBreak = codes "break"
+spelling KwCase = codes "case"
+spelling KwChan = codes "chan"
+spelling KwConst = codes "const"
+spelling KwContinue = codes "continue"
+spelling KwDefault = codes "default"
+spelling KwDefer = codes "defer"
+spelling KwElse = codes "else"
+spelling KwFallthrough = codes "fallthrough"
+spelling KwFor = codes "for"
+spelling KwFunc = codes "func"
+spelling KwGo = codes "go"
+spelling KwGoto = codes "goto"
+spelling KwIf = codes "if"
+spelling KwImport = codes "import"
+spelling KwInterface = codes "interface"
+spelling KwMap = codes "map"
+spelling KwPackage = codes "package"
+spelling KwRange = codes "range"
+spelling KwReturn = codes "return"
+spelling KwSelect = codes "select"
+spelling KwStruct = codes "struct"
+spelling KwSwitch = codes "switch"
+spelling KwType = codes "type"
+spelling KwVar = codes "var"
+spelling Add = codes "+"
+spelling Sub = codes "-"
+spelling Mul = codes "*"
+spelling Quo = codes "/"
+spelling Rem = codes "%"
+spelling And = codes "&"
+spelling Or = codes "|"
+spelling Xor = codes "^"
+spelling Shl = codes "<<"
+spelling Shr = codes ">>"
+spelling AndNot = codes "&^"
+spelling AddAssign = codes "+="
+spelling SubAssign = codes "-="
+spelling MulAssign = codes "*="
+spelling QuoAssign = codes "/="
+spelling RemAssign = codes "%="
+spelling AndAssign = codes "&="
+spelling OrAssign = codes "|="
+spelling XorAssign = codes "^="
+spelling ShlAssign = codes "<<="
+spelling ShrAssign = codes ">>="
+spelling AndNotAssign = codes "&^="
+spelling LogicalAnd = codes "&&"
+spelling LogicalOr = codes "||"
+spelling Arrow = codes "<-"
+spelling Inc = codes "++"
+spelling Dec = codes "--"
+spelling Equal = codes "=="
+spelling Less = codes "<"
+spelling Greater = codes ">"
+spelling Assign = codes "="
+spelling Not = codes "!"
+spelling Tilde = codes "~"
+spelling NotEqual = codes "!="
+spelling LessEqual = codes "<="
+spelling GreaterEqual = codes ">="
+spelling Define = codes ":="
+spelling Ellipsis = codes "..."
+spelling LeftParen = codes "("
+spelling LeftBracket = codes "["
+spelling LeftBrace = codes "{"
+spelling Comma = codes ","
+spelling Dot = codes "."
+spelling RightParen = codes ")"
+spelling RightBracket = codes "]"
+spelling RightBrace = codes "}"
+spelling Semicolon = codes ";"
+spelling Colon = codes ":"
+spelling Ident = []
+spelling Int = []
+spelling Float = []
+spelling Rune = []
+spelling Text = []
+spelling InsertedSemicolon = []
+spelling End = []
 
 -- identifier = letter { letter | unicode_digit }
-abbrev pub is_word : List ℕ → Bool
-is_word [] = false
-is_word (b ∷ bs) = is_letter b && list_all is_letter_or_digit bs
+pub record IsWord (bytes : List ℕ) (from to : ℕ) : Type 0 where
+  pub first : ℕ
+  pub char : (decoded_at bytes from).char ≡ Some first
+  pub letter : is_letter first ≡ true
+  pub others : Run (λ before c. is_letter_or_digit c) bytes (from + (decoded_at bytes from).size) to
 
--- decimal_lit = "0" | ( "1" … "9" ) [ decimal_digits ]
-abbrev pub is_decimal : List ℕ → Bool
-is_decimal [] = false
-is_decimal (b ∷ []) = is_digit b
-is_decimal (b ∷ (c ∷ bs)) = nat_le 49 b && (nat_le b 57 && list_all is_digit (c ∷ bs))
+-- the bytes are a keyword, an operator or a punctuation mark
+abbrev pub IsSpelled : TokenKind → List ℕ → Type 0
+IsSpelled kind text = (spelling kind ≡ text) × (0 < length text)
 
--- the text is a token of that kind
-abbrev pub is_token : TokenKind → List ℕ → Bool
-is_token Ident text = is_word text && (not (same_text text (codes "const")) && not (same_text text (codes "package")))
-is_token Int text = is_decimal text
-is_token Const text = same_text text (codes "const")
-is_token Package text = same_text text (codes "package")
-is_token Add text = same_text text (codes "+")
-is_token Assign text = same_text text (codes "=")
-is_token LeftParen text = same_text text (codes "(")
-is_token RightParen text = same_text text (codes ")")
-is_token InsertedSemicolon text = false
-is_token End text = false
+-- a token of the kind stands from `from` up to `to`; "the following keywords are reserved and may not
+-- be used as identifiers", and own: a number is a token as a whole
+abbrev pub IsToken : List ℕ → TokenKind → ℕ → ℕ → Type 0
+IsToken bytes Ident from to = IsWord bytes from to × ((kind : TokenKind) → IsSpelled kind (slice_range bytes from to) → ⊥)
+IsToken bytes Int from to = IsNumberRun bytes from to × (number_kind (slice_range bytes from to) ≡ Some Int)
+IsToken bytes Float from to = IsNumberRun bytes from to × (number_kind (slice_range bytes from to) ≡ Some Float)
+IsToken bytes Rune from to = IsRuneLit bytes from to
+IsToken bytes Text from to = IsInterpretedLit bytes from to ⊎ IsRawLit bytes from to
+IsToken bytes kind from to = IsSpelled kind (slice_range bytes from to)
 
--- a token of that kind and length starts the bytes, and no longer one does
-pub record IsLongest (bytes : List ℕ) (kind : TokenKind) (len : ℕ) : Type 0 where
-  pub within : len ≤ length bytes
-  pub token : is_token kind (take len bytes) ≡ true
-  pub longest : (k : TokenKind) (n : ℕ) → len < n → n ≤ length bytes → is_token k (take n bytes) ≡ false
+-- a token, a run of a number, or what opens a comment
+abbrev pub IsLexeme : List ℕ → ℕ → ℕ → Type 0
+IsLexeme bytes from to =
+    ((kind : TokenKind) × IsToken bytes kind from to)
+    ⊎ (IsNumberRun bytes from to
+    ⊎ ((to ≡ from + 2) × (OpensLine bytes from ⊎ OpensGeneral bytes from)))
 
--- what stands first where nothing is to be passed over: at a newline the inserted semicolon, at the
--- end of the file that semicolon or the end, and else the longest token
-abbrev pub IsFirst : Option TokenKind → List ℕ → TokenKind → ℕ → Type 0
-IsFirst last [] kind len = (kind ≡ (if inserts_after last then InsertedSemicolon else End)) × (len ≡ 0)
-IsFirst last (b ∷ bs) kind len = MatchBool (is_newline b) ((kind ≡ InsertedSemicolon) × (len ≡ 1)) (IsLongest (b ∷ bs) kind len)
-
--- where the next token starts: at the first byte from `at` on that is not passed over
-abbrev pub next_start : List ℕ → ℕ → Option TokenKind → ℕ
-next_start bytes at last = at + length (take_while (is_passed last) (drop at bytes))
-
--- the next token from `at` on, where a token of the kind `last` stands before
-pub record IsNext (bytes : List ℕ) (at : ℕ) (last : Option TokenKind) (t : Token) : Type 0 where
-  pub starts : t.start ≡ next_start bytes at last
-  pub len : ℕ
-  pub ends : t.end ≡ t.start + len
-  pub first : IsFirst last (drop t.start bytes) t.kind len
-
--- the tokens from `at` on, each the next behind the one before it, the end last
-abbrev pub ScanFrom : List ℕ → ℕ → Option TokenKind → List Token → Type 0
-ScanFrom bytes at last [] = ⊥
-ScanFrom bytes at last (t ∷ []) = IsNext bytes at last t × (t.kind ≡ End)
-ScanFrom bytes at last (t ∷ (u ∷ us)) = IsNext bytes at last t × (t.kind ≢ End) × ScanFrom bytes t.end (Some t.kind) (u ∷ us)
-
--- the tokens of a text
-abbrev pub Scan : List ℕ → List Token → Type 0
-Scan bytes tokens = ScanFrom bytes 0 None tokens
+-- "the next token is the longest sequence of characters that form a valid token": a token stands
+-- there, and nothing longer does
+pub record IsLongest (bytes : List ℕ) (kind : TokenKind) (from to : ℕ) : Type 0 where
+  pub within : to ≤ length bytes
+  pub token : IsToken bytes kind from to
+  pub longest : (n : ℕ) → to < n → n ≤ length bytes → IsLexeme bytes from n → ⊥

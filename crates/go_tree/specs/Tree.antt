@@ -1,7 +1,7 @@
 -- Trees of Go files as plain data.
 -- Says what a `Node` stands for. Which tokens derive which tree is left to the grammar.
 use Rattle.std.specs.Prelude.{ℕ, ◌+◌, List, [], ◌∷◌}
-use Rattle.go_tree.specs.declared.node.NodeKind.{NodeKind}
+use Rattle.go_tree.specs.declared.node_kind.NodeKind.{NodeKind}
 use Rattle.go_tree.specs.declared.node.Node.{Node}
 use Rattle.go_tree.specs.declared.node.Node.TheOpen.{Node-F}
 use Rattle.go_tree.specs.declared.node.Node.TheFolds.{fold-Node}

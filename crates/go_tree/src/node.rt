@@ -1,29 +1,13 @@
 // Trees of Go files.
-ghost use Rattle.std.specs.Prelude.{◌≡◌, IfSome, IsSome, map};
+ghost use Rattle.std.specs.Prelude.{◌≡◌, ◌↔◌, IfSome, IsSome, IsTrue, map};
 ghost use Rattle.go_tree.specs.Tree.{Tree, tree_of, id_of, kind_of, start_of, end_of, text_of, parts_of, more_trees, no_trees, trees_of};
 
+use crate::node_kind::NodeKind;
 use go_base::Bytes;
 
 /// The number of a node. Each node of a module has its own.
 #[derive(Clone, Copy, Debug, PartialEq, Eq, Hash)]
 pub struct NodeId(pub usize);
-
-/// What a node is: the production, or the alternative of one, that it was read by.
-#[derive(Clone, Copy, Debug, PartialEq, Eq)]
-pub enum NodeKind {
-    /// a file: the name of its package, then its constants
-    File,
-    /// `X = 1`: the name, then the expression
-    ConstSpec,
-    /// `x + y`: both operands
-    AddExpr,
-    /// `(x)`: what stands in the parentheses
-    ParenExpr,
-    /// an identifier
-    Name,
-    /// an integer literal
-    IntLit,
-}
 
 /// A node: its number, its bytes from `start` up to `end` as offsets from 0, and its parts in
 /// source order. An identifier and a literal have the bytes of their span as `text`; others none.
@@ -57,6 +41,13 @@ impl Node {
         ensures { result ≡ kind_of (tree_of self.now) }
     {
         self.kind
+    }
+
+    /// Whether it was read by that production.
+    pub fn is(&self, kind: NodeKind) -> bool
+        ensures { IsTrue result ↔ (kind_of (tree_of self.now) ≡ kind) }
+    {
+        kind == self.kind()
     }
 
     /// The offset of its first byte.

@@ -1,7 +1,8 @@
-// Trees made by hand: `x + 1` with the nodes 7, 8 and 9.
-use crate::{File, Node, NodeId, NodeKind, find};
+// Trees made by hand: `x + 1` with the nodes 7, 8 and 9. Heights of tokens without places.
+use crate::{File, Node, NodeId, NodeKind, Token, TokenKind, find, height};
 use go_base::Bytes;
 use std::alloc::{AllocError, Global};
+use std::process::Abort;
 use std::test::Fail;
 
 fn leaf(
@@ -57,4 +58,63 @@ fn parts_stand_in_source_order(rt: HostRuntime) -> Result<(), Fail> {
     assert_eq!(rt; file.root.parts().len(), 2);
     assert!(rt; left.both_parts().is_none());
     Ok(())
+}
+
+// What `kinds` are the kinds of, and the height at the last of the first so many of them.
+fn has_heights(
+    rt: &impl Abort,
+    alloc: Global,
+    kinds: &[TokenKind],
+    heights: &[usize],
+) -> Result<(), Fail> {
+    let mut tokens = Vec::new(alloc);
+    assert_eq!(rt; kinds.len(), heights.len());
+    for (kind, want) in kinds.iter().zip(heights) {
+        tokens.push(Token {
+            kind: *kind,
+            start: 0,
+            end: 0,
+        })?;
+        assert_eq!(rt; height(tokens.as_slice()), *want);
+    }
+    Ok(())
+}
+
+// `x(a, b);` and `{ L: x; } else {`: at a `,` or `;` what follows the open bracket ends, and an `else`
+// and the colon of a label count on.
+#[test]
+fn heights_fall_at_separators_and_closing_brackets(rt: HostRuntime) -> Result<(), Fail> {
+    let alloc = rt.alloc();
+    assert_eq!(rt; height(&[]), 0);
+    has_heights(
+        &rt,
+        alloc,
+        &[
+            TokenKind::Ident,
+            TokenKind::LeftParen,
+            TokenKind::Ident,
+            TokenKind::Comma,
+            TokenKind::Ident,
+            TokenKind::RightParen,
+            TokenKind::Semicolon,
+        ],
+        &[1, 2, 3, 2, 3, 3, 0],
+    )?;
+    has_heights(
+        &rt,
+        alloc,
+        &[
+            TokenKind::LeftBrace,
+            TokenKind::Ident,
+            TokenKind::Colon,
+            TokenKind::Ident,
+            TokenKind::InsertedSemicolon,
+            TokenKind::RightBrace,
+            TokenKind::KwElse,
+            TokenKind::LeftBrace,
+            TokenKind::RightBrace,
+            TokenKind::Semicolon,
+        ],
+        &[1, 2, 3, 4, 2, 2, 3, 4, 5, 1],
+    )
 }

@@ -1,10 +1,10 @@
 -- Wherever the reading stands, some lexemes complete a file.
 use Rattle.std.proofs.Common.{◌≡◌, ℕ, ◌+◌, false, List, [], ◌∷◌, Option, Some, None, refl, ap, ◌∙◌}
 use Rattle.std.specs.Prelude.{option_and_then, codes}
-use Rattle.go_tree.specs.declared.token.TokenKind.{TokenKind}
-use Rattle.go_tree.specs.declared.token.TokenKind.TheVariants.{Ident, Int, Package, Assign, RightParen, InsertedSemicolon, End}
-use Rattle.go_tree.specs.declared.node.NodeKind.TheVariants.{File, Name, IntLit}
+use Rattle.go_tree.specs.declared.node_kind.NodeKind.TheVariants.{File, Name, IntLit}
 use Rattle.go_tree.specs.Tree.{Tree, branch, trees_of}
+use Rattle.gocheck.specs.declared.token.TokenKind.{TokenKind}
+use Rattle.gocheck.specs.declared.token.TokenKind.TheVariants.{Ident, Int, Package, Assign, RightParen, InsertedSemicolon, End}
 use Rattle.gocheck.specs.Taken.{is_taken}
 use Rattle.gocheck.specs.Grammar.{Lexeme, leaf}
 use Rattle.gocheck.specs.Reading.{Level, Stage, at_package, at_package_name, at_package_end, at_declaration, at_name, at_assign, at_item, behind_item, at_done, Head, State, numbered, sum_with, number_with, paren_from, step}

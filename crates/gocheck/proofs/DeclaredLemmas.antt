@@ -1,9 +1,9 @@
 -- The names that lexemes declare: one lexeme more, and those of a file's tree.
 use Rattle.std.proofs.Common.{◌≡◌, ℕ, ◌+◌, Bool, true, false, List, [], ◌∷◌, ◌++◌, Option, Some, None, refl, sym, ap, ◌∙◌, append_assoc, append-nil}
 use Rattle.std.specs.Prelude.{if◌then◌else◌}
-use Rattle.go_tree.specs.declared.token.TokenKind.{TokenKind}
-use Rattle.go_tree.specs.declared.token.TokenKind.TheVariants.{Const}
 use Rattle.go_tree.specs.Tree.{Tree, trees_of, list_of}
+use Rattle.gocheck.specs.declared.token.TokenKind.{TokenKind}
+use Rattle.gocheck.specs.declared.token.TokenKind.TheVariants.{Const}
 use Rattle.gocheck.specs.Grammar.{Lexeme, Item, name, literal, paren, Sum, one, more, ConstDecl, ConstDecls, none, some, Derives}
 use Rattle.gocheck.specs.Resolution.{constants_of, names_of}
 use Rattle.gocheck.specs.Source.{is_const, declared}

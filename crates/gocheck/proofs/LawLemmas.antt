@@ -1,6 +1,6 @@
 -- What stays of a test as the map of headers grows.
 use Rattle.std.proofs.Common.{◌≡◌, ℕ, ℤ, Bool, Option, Some, None, List, refl, ap}
-use Rattle.go_tree.specs.declared.node.NodeKind.TheVariants.{AddExpr, Name}
+use Rattle.go_tree.specs.declared.node_kind.NodeKind.TheVariants.{AddExpr, Name}
 use Rattle.go_tree.specs.Tree.{Tree, branch, no_trees, more_trees}
 use Rattle.gocheck.specs.Resolution.{resolve}
 use Rattle.gocheck.specs.Records.{Headers, record_of}

@@ -1,12 +1,16 @@
 pub mod CompletionLemmas
 pub mod DeclaredLemmas
 pub mod FieldLemmas
+pub mod KindLemmas
 pub mod LawLemmas
 pub mod LineLemmas
+pub mod LiteralLemmas
+pub mod LongestLemmas
 pub mod MachineLemmas
 pub mod MarkLemmas
 pub mod MeaningLemmas
 pub mod NameLemmas
+pub mod NextLemmas
 pub mod OnceLemmas
 pub mod OneReportLemmas
 pub mod PartLemmas

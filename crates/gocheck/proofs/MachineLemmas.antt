@@ -1,7 +1,7 @@
 -- Reading lexemes one by one: which tree they complete, read from a state on.
 use Rattle.std.proofs.Common.{◌≡◌, ℕ, ◌+◌, false, List, [], ◌∷◌, ◌++◌, Option, Some, None, refl, sym, ap, ◌∙◌, append_assoc, append-nil}
 use Rattle.std.specs.Prelude.{option_and_then}
-use Rattle.go_tree.specs.declared.node.NodeKind.TheVariants.{File, Name}
+use Rattle.go_tree.specs.declared.node_kind.NodeKind.TheVariants.{File, Name}
 use Rattle.go_tree.specs.Tree.{Tree, branch, trees_of}
 use Rattle.gocheck.specs.Taken.{is_taken}
 use Rattle.gocheck.specs.Grammar.{Lexeme, leaf, spec_of, Item, name, literal, paren, Sum, one, more, ConstDecl, ConstDecls, none, some, Derives}

@@ -1,10 +1,10 @@
 -- What the lexemes are that the reading completes a tree with: what the grammar derives.
 use Rattle.std.proofs.Common.{◌≡◌, ℕ, ◌+◌, Bool, true, false, List, [], ◌∷◌, ◌++◌, Option, Some, None, refl, sym, ap, ◌∙◌, subst, append_assoc, append-nil}
 use Rattle.std.specs.Prelude.{option_and_then, if◌then◌else◌}
-use Rattle.go_tree.specs.declared.token.TokenKind.{TokenKind}
-use Rattle.go_tree.specs.declared.token.TokenKind.TheVariants.{Ident, Int, Const, Package, Add, Assign, LeftParen, RightParen, InsertedSemicolon, End}
-use Rattle.go_tree.specs.declared.node.NodeKind.TheVariants.{File, Name, IntLit}
+use Rattle.go_tree.specs.declared.node_kind.NodeKind.TheVariants.{File, Name, IntLit}
 use Rattle.go_tree.specs.Tree.{Tree, branch, trees_of}
+use Rattle.gocheck.specs.declared.token.TokenKind.{TokenKind}
+use Rattle.gocheck.specs.declared.token.TokenKind.TheVariants.{Ident, Int, Const, Package, Add, Assign, LeftParen, RightParen, InsertedSemicolon, End}
 use Rattle.gocheck.specs.Taken.{is_taken}
 use Rattle.gocheck.specs.Grammar.{Lexeme, leaf, add_of, spec_of, IsIdent, Item, name, literal, paren, Sum, one, more, ConstDecl, ConstDecls, none, some, Derives}
 use Rattle.gocheck.specs.Reading.{Level, Stage, at_package, at_package_name, at_package_end, at_declaration, at_name, at_assign, at_item, behind_item, at_done, Head, State, starting, sum_with, number_with, paren_from, unless_taken, step_at, finished}

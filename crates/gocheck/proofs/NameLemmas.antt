@@ -8,10 +8,10 @@ use Rattle.std.proofs.lemmas.Slice.Eq.{bytes_eq-Decides}
 use Rattle.std.proofs.lemmas.List.{length-map, map-append, length-take, get_or-take, take_more}
 use Rattle.go_tree.specs.declared.node.Node.{Node}
 use Rattle.go_tree.specs.Tree.{tree_of, text_of}
-use Rattle.go_tree.specs.Tokens.{same_text}
+use Rattle.gocheck.specs.Tokens.{same_text}
 use Rattle.gocheck.specs.Source.{IsEachOnce}
-use Rattle.gocheck.proofs.OnceLemmas.{once-push}
 use Rattle.gocheck.specs.Resolution.{first_part, names_of, resolve}
+use Rattle.gocheck.proofs.OnceLemmas.{once-push}
 
 same_truth : (a b : Bool) → (a ≡ true → b ≡ true) → (b ≡ true → a ≡ true) → a ≡ b
 same_truth true b there back = sym (there refl)

@@ -7,7 +7,7 @@ use Rattle.std.proofs.lemmas.List.Quantifiers.{all_pairs_push}
 use Rattle.std.proofs.lemmas.List.Folds.{Any-from_list_any, list_any_at}
 use Rattle.std.proofs.lemmas.Slice.Eq.{bytes_eq-Decides}
 use Rattle.std.proofs.lemmas.List.{length-append, map-append, get_or_append_left, get_or_at}
-use Rattle.go_tree.specs.Tokens.{same_text}
+use Rattle.gocheck.specs.Tokens.{same_text}
 use Rattle.gocheck.specs.Source.{IsEachOnce}
 
 -- the bytes of the names

@@ -1,11 +1,11 @@
 -- A text goes wrong at one place at most, and has no tree then.
 use Rattle.std.proofs.Common.{◌≡◌, ℕ, List, [], ◌∷◌, ◌++◌, Option, Some, None, refl, sym, ◌∙◌, subst, append_assoc}
-use Rattle.go_tree.specs.declared.token.Token.{Token}
-use Rattle.go_tree.specs.declared.token.TokenKind.{TokenKind}
-use Rattle.go_tree.specs.Tokens.{IsNext, next_start}
 use Rattle.go_tree.specs.Tree.{Tree}
-use Rattle.go_scan.proofs.NextLemmas.{one_next}
+use Rattle.gocheck.specs.declared.token.Token.{Token}
+use Rattle.gocheck.specs.declared.token.TokenKind.{TokenKind}
+use Rattle.gocheck.specs.Tokens.{IsNext, next_start}
 use Rattle.gocheck.specs.Source.{ScanFront, none, more, IsTreeOf, IsFront, GoesWrongAt}
+use Rattle.gocheck.proofs.NextLemmas.{one_next}
 use Rattle.gocheck.proofs.ScanLemmas.{BeginsEach, begins-token, next_of}
 use Rattle.gocheck.proofs.SourceLemmas.{shorter_front, whole_front}
 

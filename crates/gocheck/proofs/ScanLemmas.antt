@@ -1,14 +1,14 @@
 -- The tokens of a text: there is one list of them at most, and a front of them goes on to the whole.
 use Rattle.std.proofs.Common.{◌≡◌, ◌≢◌, ℕ, List, [], ◌∷◌, ◌++◌, Option, Some, None, refl, ap, sym, ◌∙◌, subst, append_assoc}
 use Rattle.std.proofs.lemmas.List.{map-append}
-use Rattle.go_tree.specs.declared.token.Token.{Token}
-use Rattle.go_tree.specs.declared.token.TokenKind.{TokenKind}
-use Rattle.go_tree.specs.declared.token.TokenKind.TheVariants.{End}
-use Rattle.go_tree.specs.Tokens.{IsNext, ScanFrom, Scan}
-use Rattle.go_scan.proofs.NextLemmas.{one_next}
+use Rattle.gocheck.specs.declared.token.Token.{Token}
+use Rattle.gocheck.specs.declared.token.TokenKind.{TokenKind}
+use Rattle.gocheck.specs.declared.token.TokenKind.TheVariants.{End}
+use Rattle.gocheck.specs.Tokens.{IsNext, ScanFrom, Scan}
 use Rattle.gocheck.specs.Grammar.{lexemes_of}
 use Rattle.gocheck.specs.Reading.{lexeme_of}
 use Rattle.gocheck.specs.Source.{ScanFront, none, more}
+use Rattle.gocheck.proofs.NextLemmas.{one_next}
 use Rattle.gocheck.proofs.DeclaredLemmas.{last_kind, last_kind-push}
 
 pub one_scan_from : (bytes : List ℕ) (at : ℕ) (last : Option TokenKind) (ts us : List Token) → ScanFrom bytes at last ts → ScanFrom bytes at last us → ts ≡ us

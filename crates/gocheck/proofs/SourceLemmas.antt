@@ -5,16 +5,16 @@ use Rattle.std.specs.List.{list_any}
 use Rattle.std.specs.Cmp.Lexicographic.{pointwise}
 use Rattle.indexmap.specs.IndexSet.{insert_key}
 use Rattle.std.proofs.lemmas.List.{map-append}
-use Rattle.go_tree.specs.declared.token.Token.{Token}
-use Rattle.go_tree.specs.declared.token.TokenKind.{TokenKind}
-use Rattle.go_tree.specs.declared.token.TokenKind.TheVariants.{Const, End}
-use Rattle.go_tree.specs.Tokens.{IsNext, next_start}
 use Rattle.go_tree.specs.Tree.{Tree}
-use Rattle.go_scan.proofs.NextLemmas.{one_next}
+use Rattle.gocheck.specs.declared.token.Token.{Token}
+use Rattle.gocheck.specs.declared.token.TokenKind.{TokenKind}
+use Rattle.gocheck.specs.declared.token.TokenKind.TheVariants.{Const, End}
+use Rattle.gocheck.specs.Tokens.{IsNext, next_start}
 use Rattle.gocheck.specs.Grammar.{Lexeme, lexemes_of, Derives}
 use Rattle.gocheck.specs.Resolution.{constants_of, names_of}
 use Rattle.gocheck.specs.Source.{declared, IsEachOnce, IsTreeOf, ScanFront, none, more, IsFront, GoesWrongAt}
 use Rattle.gocheck.specs.Reading.{Stage, at_package, at_package_name, at_package_end, at_declaration, at_name, at_assign, at_item, behind_item, at_done, Head, State, starting, step_at, step, finished, ended, lexeme_of}
+use Rattle.gocheck.proofs.NextLemmas.{one_next}
 use Rattle.gocheck.proofs.MachineLemmas.{run, derived_runs, one_derived}
 use Rattle.gocheck.proofs.MeaningLemmas.{runs_derive}
 use Rattle.gocheck.proofs.CompletionLemmas.{completes}

@@ -1,9 +1,9 @@
 -- Where a token is refused, the step refuses it.
 use Rattle.std.proofs.Common.{◌≡◌, ◌≢◌, Bool, true, false, List, [], ◌∷◌, Option, Some, None, length, map, refl, arith}
 use Rattle.std.proofs.lemmas.List.{length-reverse, length-map}
-use Rattle.go_tree.specs.declared.token.TokenKind.{TokenKind}
-use Rattle.go_tree.specs.declared.token.TokenKind.TheVariants.{Ident, Int, LeftParen, RightParen, InsertedSemicolon, Add}
 use Rattle.go_tree.specs.Tree.{Tree}
+use Rattle.gocheck.specs.declared.token.TokenKind.{TokenKind}
+use Rattle.gocheck.specs.declared.token.TokenKind.TheVariants.{Ident, Int, LeftParen, RightParen, InsertedSemicolon, Add}
 use Rattle.gocheck.specs.Taken.{is_taken}
 use Rattle.gocheck.specs.Grammar.{Lexeme, IsIdent}
 use Rattle.gocheck.specs.Reading.{Level, at_package_name, at_name, Head, State, unless_taken, item_step, behind_step, declaration_ended, step_at, level_of, levels_of}

@@ -5,10 +5,10 @@ use Rattle.std.proofs.lemmas.List.{length-map}
 use Rattle.std.proofs.lemmas.List.Elements.{All-nil, All-cons, All-append, All-contains}
 use Rattle.std.proofs.lemmas.List.Quantifiers.{position-Some}
 use Rattle.go_tree.specs.declared.node.Node.{Node}
-use Rattle.go_tree.specs.declared.node.NodeKind.TheVariants.{File, ConstSpec, AddExpr, ParenExpr, Name, IntLit}
-use Rattle.go_tree.specs.Tokens.{same_text}
+use Rattle.go_tree.specs.declared.node_kind.NodeKind.TheVariants.{AddExpr, Name, IntLit}
 use Rattle.go_tree.specs.Tree.{Tree, branch, Trees, no_trees, more_trees, trees_of, tree_of, kind_of, text_of, parts_of, node_count, node_count_of_all}
 use Rattle.go_tree.proofs.TreeLemmas.{part_within}
+use Rattle.gocheck.specs.Tokens.{same_text}
 use Rattle.gocheck.specs.Resolution.{first_part, second_part, names_of, resolve}
 use Rattle.gocheck.specs.Records.{Headers, record_of}
 use Rattle.gocheck.specs.Tests.{name_test, sum_test, test_of}
@@ -30,15 +30,13 @@ sum_lacks (Some x) None = refl
 sum_lacks (Some x) (Some y) = refl
 
 pub lacks_none : (names : List (List ℕ)) (headers : Headers) (t : Tree) → (kind_of t ≡ Name → ⊥) → lacked (test_of names headers t) ≡ []
-lacks_none names headers (branch id from to File text parts) other = refl
-lacks_none names headers (branch id from to ConstSpec text parts) other = refl
 lacks_none names headers (branch id from to AddExpr text no_trees) other = refl
 lacks_none names headers (branch id from to AddExpr text (more_trees x no_trees)) other = refl
 lacks_none names headers (branch id from to AddExpr text (more_trees x (more_trees y no_trees))) other = sum_lacks (record_of names headers x) (record_of names headers y)
 lacks_none names headers (branch id from to AddExpr text (more_trees x (more_trees y (more_trees z zs)))) other = refl
-lacks_none names headers (branch id from to ParenExpr text parts) other = refl
 lacks_none names headers (branch id from to Name text parts) other = absurd (other refl)
 lacks_none names headers (branch id from to IntLit text parts) other = refl
+lacks_none names headers (branch id from to kind text parts) other = refl
 
 -- what a name lacks is the place of a constant
 

@@ -1,6 +1,6 @@
 -- Which nodes are not too wide.
 use Rattle.std.proofs.Common.{◌≡◌, ℕ, ℤ, Option, Some, None, List, [], refl}
-use Rattle.go_tree.specs.declared.node.NodeKind.TheVariants.{AddExpr, Name, IntLit}
+use Rattle.go_tree.specs.declared.node_kind.NodeKind.TheVariants.{AddExpr, Name, IntLit}
 use Rattle.go_tree.specs.Tree.{Tree, branch, no_trees, more_trees, kind_of, parts_of}
 use Rattle.gocheck.specs.Resolution.{resolve}
 use Rattle.gocheck.specs.Records.{Headers}

@@ -6,11 +6,11 @@
 --   Item = ident | int | "(" Sum ")" .
 -- Nodes have the numbers from 45 on, in the order in which they end.
 use Rattle.std.specs.Prelude.{◌≡◌, ℕ, ◌+◌, false, List, [], ◌∷◌, ◌++◌, map, slice_range}
-use Rattle.go_tree.specs.declared.token.Token.{Token}
-use Rattle.go_tree.specs.declared.token.TokenKind.TheVariants.{Ident, Int, Const, Package, Add, Assign, LeftParen, RightParen, InsertedSemicolon, End}
-use Rattle.go_tree.specs.declared.node.NodeKind.{NodeKind}
-use Rattle.go_tree.specs.declared.node.NodeKind.TheVariants.{File, ConstSpec, AddExpr, ParenExpr, Name, IntLit}
+use Rattle.go_tree.specs.declared.node_kind.NodeKind.{NodeKind}
+use Rattle.go_tree.specs.declared.node_kind.NodeKind.TheVariants.{File, ConstSpec, AddExpr, ParenExpr, Name, IntLit}
 use Rattle.go_tree.specs.Tree.{Tree, Trees, branch, no_trees, more_trees, trees_of, start_of, end_of}
+use Rattle.gocheck.specs.declared.token.Token.{Token}
+use Rattle.gocheck.specs.declared.token.TokenKind.TheVariants.{Ident, Int, Const, Package, Add, Assign, LeftParen, RightParen, InsertedSemicolon, End}
 use Rattle.gocheck.specs.Taken.{is_taken}
 
 -- a token and its bytes

@@ -1,7 +1,7 @@
 -- What a run writes.
 -- Decides, for the words and for a tree that tells its files, the text that a run adds to its sink
 -- and the status that it ends with.
-use Rattle.std.specs.Prelude.{◌≡◌, ℕ, ◌⊎◌, Bool, true, false, if◌then◌else◌, List, [], ◌++◌, Option, take, codes}
+use Rattle.std.specs.Prelude.{◌≡◌, ℕ, ◌+◌, ◌⊎◌, Bool, true, false, if◌then◌else◌, List, [], ◌++◌, Option, take, codes}
 use Rattle.std.specs.List.{list_any}
 use Rattle.go_base.specs.declared.rule.Broken.{Broken}
 use Rattle.go_base.specs.declared.rule.Family.{Family}
@@ -12,12 +12,12 @@ use Rattle.go_base.specs.declared.tree.MemFile.{MemFile}
 use Rattle.go_base.specs.Status.{IsReport}
 use Rattle.go_base.specs.Tree.{bytes_of}
 use Rattle.go_base.specs.Sink.{Adds}
-use Rattle.gocheck.specs.Report.{Report, accepted, refused, refused_package, ReportOf}
+use Rattle.gocheck.specs.Report.{Report, accepted, refused, refused_package, most_bytes, ReportOf}
 use Rattle.gocheck.specs.Text.{report_text}
 
 -- own: one byte more than a file may have is read, so that a longer file shows
 abbrev pub source_of : List MemFile → List ℕ → List ℕ
-source_of files root = take 16777217 (bytes_of files root (codes "a.go"))
+source_of files root = take (most_bytes + 1) (bytes_of files root (codes "a.go"))
 
 -- a rule on forms outside the language that is checked, or a limit
 abbrev pub is_beyond : Family → Bool

@@ -6,9 +6,13 @@ pub mod Text
 -- what a report rests on
 pub mod Source
 pub mod Grammar
+pub mod Tokens
+pub mod Characters
+pub mod Semicolons
 pub mod Taken
 pub mod Resolution
 pub mod Records
+pub mod Literals
 pub mod Headers
 pub mod Tests
 pub mod Waiting
@@ -19,3 +23,4 @@ pub mod Marks
 pub mod Reading
 pub mod Table
 pub mod View
+pub mod Weight

@@ -2,11 +2,11 @@
 -- What the functions that read a file tell each other: where in a file the reading stands, and where
 -- one more lexeme brings it, if a file can go on with it there.
 use Rattle.std.specs.Prelude.{ℕ, ◌+◌, List, [], ◌∷◌, ◌++◌, Option, Some, None, map, option_map, option_and_then, reverse, if◌then◌else◌, slice_range}
-use Rattle.go_tree.specs.declared.token.Token.{Token}
-use Rattle.go_tree.specs.declared.token.TokenKind.{TokenKind}
-use Rattle.go_tree.specs.declared.token.TokenKind.TheVariants.{Ident, Int, Const, Package, Add, Assign, LeftParen, RightParen, InsertedSemicolon, End}
-use Rattle.go_tree.specs.declared.node.NodeKind.TheVariants.{File, ParenExpr, Name, IntLit}
+use Rattle.go_tree.specs.declared.node_kind.NodeKind.TheVariants.{File, ParenExpr, Name, IntLit}
 use Rattle.go_tree.specs.Tree.{Tree, branch, no_trees, more_trees, trees_of, tree_of}
+use Rattle.gocheck.specs.declared.token.Token.{Token}
+use Rattle.gocheck.specs.declared.token.TokenKind.{TokenKind}
+use Rattle.gocheck.specs.declared.token.TokenKind.TheVariants.{Ident, Int, Const, Package, Add, Assign, LeftParen, RightParen, InsertedSemicolon, End}
 use Rattle.gocheck.specs.Taken.{is_taken}
 use Rattle.gocheck.specs.Grammar.{Lexeme, leaf, add_of, spec_of}
 use Rattle.gocheck.specs.declared.state.Level.{Level as LevelOf}

@@ -2,11 +2,11 @@
 -- Decides the record of an expression, which is its value, over a map of headers. Each constant
 -- here is an untyped integer constant, so that its header is its value.
 use Rattle.std.specs.Prelude.{ℕ, ℤ, pos, Option, Some, None, option_and_then, List}
-use Rattle.go_tree.specs.declared.node.NodeKind.TheVariants.{AddExpr, ParenExpr, Name, IntLit}
-use Rattle.go_tree.specs.Literals.{decimal_value}
+use Rattle.go_tree.specs.declared.node_kind.NodeKind.TheVariants.{AddExpr, ParenExpr, Name, IntLit}
 use Rattle.go_tree.specs.Tree.{Tree, branch, no_trees, more_trees}
 use Rattle.go_num.specs.declared.arithmetic.IntOp.TheVariants.{Add}
 use Rattle.go_num.specs.Arithmetic.{limited, binary_value}
+use Rattle.gocheck.specs.Literals.{decimal_value}
 use Rattle.gocheck.specs.Resolution.{resolve}
 
 -- a map of headers: what it has for the constant at each place

@@ -5,7 +5,7 @@ use Rattle.std.specs.Prelude.{◌≡◌, ℕ, ℤ, ◌+◌, ◌<◌, ◌≤◌, 
 use Rattle.std.specs.Option.{option_map_or}
 use Rattle.std.specs.List.{flat_map}
 use Rattle.go_base.specs.declared.rule.Broken.{Broken}
-use Rattle.go_tree.specs.declared.node.NodeKind.TheVariants.{Name}
+use Rattle.go_tree.specs.declared.node_kind.NodeKind.TheVariants.{Name}
 use Rattle.go_tree.specs.Tree.{Tree, branch, Trees, no_trees, more_trees, start_of, end_of, text_of}
 use Rattle.gocheck.specs.declared.line.Line.{Line}
 use Rattle.gocheck.specs.declared.line.Line.TheVariants.{Def, Use, Expr}

@@ -3,8 +3,8 @@
 -- declared at top level (outside any function) is the package block": so the order of declarations
 -- does not count. A constant is known by its place in the list of the file's constants.
 use Rattle.std.specs.Prelude.{ℕ, List, [], Option, map, position}
-use Rattle.go_tree.specs.Tokens.{same_text}
 use Rattle.go_tree.specs.Tree.{Tree, branch, no_trees, more_trees, list_of, text_of}
+use Rattle.gocheck.specs.Tokens.{same_text}
 
 -- the first and the second part of a node, or the node itself where it has none
 abbrev pub first_part : Tree → Tree

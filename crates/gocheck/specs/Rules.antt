@@ -6,7 +6,7 @@ use Rattle.std.specs.List.{flat_map}
 use Rattle.go_base.specs.declared.rule.Broken.{Broken}
 use Rattle.go_base.specs.declared.rule.Rule.{Rule}
 use Rattle.go_base.specs.declared.rule.Family.TheVariants.{U, P, C, L}
-use Rattle.go_tree.specs.declared.node.NodeKind.TheVariants.{Name}
+use Rattle.go_tree.specs.declared.node_kind.NodeKind.TheVariants.{Name}
 use Rattle.go_tree.specs.Tree.{Tree, branch, Trees, no_trees, more_trees, start_of}
 use Rattle.gocheck.specs.Resolution.{first_part, second_part, names_of, resolve}
 use Rattle.gocheck.specs.Records.{Headers}

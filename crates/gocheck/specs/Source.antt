@@ -3,11 +3,11 @@
 -- that no file begins with the tokens up to it, or that declares a name a second time. A byte where
 -- no token starts counts as such a token.
 use Rattle.std.specs.Prelude.{◌≡◌, ◌≢◌, ℕ, Bool, true, false, List, [], ◌∷◌, ◌++◌, Option, Some, None, AllPairs, if◌then◌else◌}
-use Rattle.go_tree.specs.declared.token.Token.{Token}
-use Rattle.go_tree.specs.declared.token.TokenKind.{TokenKind}
-use Rattle.go_tree.specs.declared.token.TokenKind.TheVariants.{Const, End}
-use Rattle.go_tree.specs.Tokens.{Scan, IsNext, next_start}
 use Rattle.go_tree.specs.Tree.{Tree}
+use Rattle.gocheck.specs.declared.token.Token.{Token}
+use Rattle.gocheck.specs.declared.token.TokenKind.{TokenKind}
+use Rattle.gocheck.specs.declared.token.TokenKind.TheVariants.{Const, End}
+use Rattle.gocheck.specs.Tokens.{Scan, IsNext, next_start}
 use Rattle.gocheck.specs.Grammar.{Lexeme, lexemes_of, Begins, Derives}
 
 abbrev pub is_const : TokenKind → Bool

@@ -2,7 +2,7 @@
 -- Decides which words a file can neither declare nor use as the name of a constant today.
 use Rattle.std.specs.Prelude.{ℕ, Bool, List, [], ◌∷◌, ◌++◌, codes}
 use Rattle.std.specs.List.{list_any}
-use Rattle.go_tree.specs.Tokens.{same_text}
+use Rattle.gocheck.specs.Tokens.{same_text}
 
 abbrev pub keywords : List (List ℕ)
 keywords =

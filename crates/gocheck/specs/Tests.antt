@@ -3,11 +3,11 @@
 -- literal or a sum is an integer that a constant can have. A test is asked where all operands of the
 -- node have records. It is decided, or it lacks a header.
 use Rattle.std.specs.Prelude.{ℕ, ℤ, pos, Bool, true, is_some, Option, Some, None, List}
-use Rattle.go_tree.specs.declared.node.NodeKind.TheVariants.{AddExpr, Name, IntLit}
-use Rattle.go_tree.specs.Literals.{decimal_value}
+use Rattle.go_tree.specs.declared.node_kind.NodeKind.TheVariants.{AddExpr, Name, IntLit}
 use Rattle.go_tree.specs.Tree.{Tree, branch, no_trees, more_trees}
 use Rattle.go_num.specs.declared.arithmetic.IntOp.TheVariants.{Add}
 use Rattle.go_num.specs.Arithmetic.{limited, binary_value}
+use Rattle.gocheck.specs.Literals.{decimal_value}
 use Rattle.gocheck.specs.Resolution.{resolve}
 use Rattle.gocheck.specs.Records.{Headers, record_of}
 

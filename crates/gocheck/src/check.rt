@@ -4,20 +4,22 @@ ghost use Rattle.go_tree.specs.Tree.{text_of, tree_of};
 ghost use Rattle.gocheck.specs.Report.{PackageReport, refused, ReportOf};
 ghost use Rattle.gocheck.specs.Resolution as resolution;
 ghost use Rattle.gocheck.specs.Resolution.{names_of};
-ghost use Rattle.gocheck.specs.Rules.{broken_at, unbuilt_form};
+ghost use Rattle.gocheck.specs.Rules as rules;
+ghost use Rattle.gocheck.specs.Rules.{unbuilt_form};
 ghost use Rattle.gocheck.specs.Source.{IsEachOnce};
 ghost use Rattle.gocheck.specs.View.{report_view};
 
+use crate::broken::broken_at;
 use crate::constants::check_constants;
 use crate::parts::{constants_of, first_part};
 use crate::report::Report;
 use crate::source::read_source;
-use go_base::{Broken, Bytes, NoMemory, Pos, UNBUILT_FORM};
+use go_base::{Bytes, NoMemory, UNBUILT_FORM};
 use go_tree::Node;
 use std::alloc::Global;
 
 /// The most bytes that a file may have.
-const MOST_BYTES: usize = 16_777_216;
+pub const MOST_BYTES: usize = 16_777_216;
 
 /// The report of the file with these bytes.
 pub fn check_file(alloc: Global, bytes: &[u8]) -> Result<Report, NoMemory>
@@ -43,10 +45,8 @@ fn check_package(alloc: Global, root: &Node) -> Result<Report, NoMemory>
 
 // The report of a file that goes wrong at an offset.
 fn unbuilt_at(alloc: Global, offset: usize) -> Result<Report, NoMemory>
-    ensures { IfOk result (λ report. report_view report ≡ refused (broken_at offset unbuilt_form ∷ [])) }
+    ensures { IfOk result (λ report. report_view report ≡ refused (rules.broken_at offset unbuilt_form ∷ [])) }
 {
-    let pos = Pos { file: 0, offset };
-    let rule = UNBUILT_FORM;
-    let list = vec![in alloc; Broken { pos, rule }]?;
+    let list = vec![in alloc; broken_at(offset, UNBUILT_FORM)]?;
     Ok(Report::Refused { list })
 }

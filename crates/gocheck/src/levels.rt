@@ -1,14 +1,15 @@
 // One more token of a constant's expression (Go specification, "Operands", "Operators").
 ghost use Rattle.std.specs.Prelude.{◌≡◌, ℕ, ◌≤◌, IfOk, List, length, option_map};
-ghost use Rattle.go_tree.specs.declared.token.TokenKind.TheVariants.{RightParen};
 ghost use Rattle.go_tree.specs.Tree.{tree_of};
+ghost use Rattle.gocheck.specs.declared.token.TokenKind.TheVariants.{RightParen};
 ghost use Rattle.gocheck.specs.Reading.{item_step, behind_step, with_item, declaration_ended, state_of, head_of, levels_of, lexeme_of};
 
 use crate::name::is_name;
 use crate::nodes::{leaf, number_after, pair, paren};
 use crate::state::{Head, Level, Stage, State};
+use crate::token::{Token, TokenKind};
 use go_base::NoMemory;
-use go_tree::{Node, NodeKind, Token, TokenKind};
+use go_tree::{Node, NodeKind};
 use std::alloc::Global;
 
 /// Where an operand is due: a name, a number or "(".

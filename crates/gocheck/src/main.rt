@@ -2,6 +2,7 @@
 #![tactic(auto)]
 
 mod broken;
+mod characters;
 mod check;
 mod constants;
 mod cycles;
@@ -12,8 +13,11 @@ mod headers;
 mod laws;
 mod levels;
 mod line;
+mod literal;
+mod longest;
 mod name;
 mod names;
+mod next_token;
 mod nodes;
 mod parts;
 mod paths;
@@ -29,6 +33,7 @@ mod std_sink;
 mod step;
 mod taken;
 mod text;
+mod token;
 mod undeclared;
 mod values;
 mod waits;

@@ -5,7 +5,7 @@ ghost use Rattle.gocheck.specs.Reading.{lexeme_of};
 
 use crate::nodes::text;
 use crate::taken::is_taken;
-use go_tree::{Token, TokenKind};
+use crate::token::{Token, TokenKind};
 
 /// Whether the token is a name that a file can declare and use.
 pub fn is_name(bytes: &[u8], token: Token) -> bool

@@ -1,12 +1,13 @@
 // Nodes and their numbers.
 ghost use Rattle.std.specs.Prelude.{◌≡◌, ◌≤◌, ◌+◌, [], IfOk, length, slice_range};
 ghost use Rattle.go_tree.specs.Tree.{branch, tree_of, start_of, end_of, more_trees, no_trees};
-ghost use Rattle.go_tree.specs.declared.node.NodeKind.TheVariants.{ParenExpr};
+ghost use Rattle.go_tree.specs.declared.node_kind.NodeKind.TheVariants.{ParenExpr};
 ghost use Rattle.gocheck.specs.Grammar.{leaf, both};
 ghost use Rattle.gocheck.specs.Reading.{lexeme_of};
 
+use crate::token::Token;
 use go_base::{Bytes, NoMemory};
-use go_tree::{Node, NodeId, NodeKind, Token};
+use go_tree::{Node, NodeId, NodeKind};
 use std::alloc::Global;
 
 /// The number of the first node that ends.

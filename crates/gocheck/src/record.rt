@@ -1,13 +1,13 @@
 // The records of expressions (Go specification, "Constant expressions").
 ghost use Rattle.std.specs.Prelude.{◌≡◌, IfSome, IfNone};
 ghost use Rattle.go_tree.specs.Tree.{Tree, tree_of, kind_of, parts_of, more_trees, no_trees};
-ghost use Rattle.go_tree.specs.declared.node.NodeKind.TheVariants as node_kind;
+ghost use Rattle.go_tree.specs.declared.node_kind.NodeKind.TheVariants as node_kind;
 ghost use Rattle.gocheck.specs.Records.{record_of, sum_of};
 ghost use Rattle.gocheck.specs.Table.{slot_of};
 
+use crate::literal::literal_value;
 use crate::names::Names;
 use go_num::{IntOp, int_binary};
-use go_scan::literal_value;
 use go_tree::{Node, NodeKind};
 
 /// The record of an expression, its value, over the headers that the table has; None where it has
@@ -23,7 +23,7 @@ pub fn record(names: &Names, table: &[Option<i128>], node: &Node) -> Option<i128
             let (left, right) = node.both_parts()?;
             sum(record(names, table, left), record(names, table, right))
         }
-        NodeKind::File | NodeKind::ConstSpec => None,
+        _ => None,
     }
 }
 

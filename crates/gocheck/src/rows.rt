@@ -12,6 +12,7 @@ mod folders;
 mod orders;
 mod size;
 mod streams;
+mod tokens;
 mod trees;
 mod usage;
 mod wrong;

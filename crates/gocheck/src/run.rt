@@ -6,7 +6,7 @@ ghost use Rattle.go_base.specs.Sink.{Adds, AddsPrefix};
 ghost use Rattle.gocheck.specs.Headline.{source_of, IsReportText, WritesReport, WritesFront};
 ghost use Rattle.gocheck.specs.Words.{root_of};
 
-use crate::check::check_file;
+use crate::check::{MOST_BYTES, check_file};
 use crate::report::verdict;
 use crate::text::report_text;
 use crate::words::root_word;
@@ -15,7 +15,7 @@ use std::alloc::Global;
 use std::sync::ledger::Ledger;
 
 /// The most bytes of a file that are read: one more than a file may have.
-const MOST_READ: usize = 16_777_217;
+const MOST_READ: usize = MOST_BYTES + 1;
 
 /// Checks the file `a.go` below the root that the words name, and writes its report to `out`.
 ///

@@ -5,12 +5,13 @@ ghost use Rattle.gocheck.specs.Grammar.{Lexeme, Derives};
 ghost use Rattle.gocheck.specs.Resolution.{constants_of, names_of};
 ghost use Rattle.gocheck.specs.Source.{IsTreeOf, IsEachOnce, GoesWrongAt};
 
+use crate::next_token::next;
 use crate::nodes::text;
 use crate::state::State;
 use crate::step::{end, start, step};
+use crate::token::TokenKind;
 use go_base::NoMemory;
-use go_scan::next;
-use go_tree::{File, TokenKind};
+use go_tree::File;
 use indexmap::IndexSet;
 use std::alloc::Global;
 

@@ -1,16 +1,17 @@
 // One more token of a file (Go specification, "Source file organization", "Package clause",
 // "Constant declarations").
 ghost use Rattle.std.specs.Prelude.{◌≡◌, ◌≢◌, ℕ, ◌≤◌, IfOk, List, length, option_map};
-ghost use Rattle.go_tree.specs.declared.token.TokenKind.TheVariants.{End};
 ghost use Rattle.go_tree.specs.Tree.{tree_of};
+ghost use Rattle.gocheck.specs.declared.token.TokenKind.TheVariants.{End};
 ghost use Rattle.gocheck.specs.Reading.{Head as HeadOf, starting, step, step_at, ended, state_of, head_of, lexeme_of, at_package, at_package_name, at_package_end, at_declaration, at_name, at_assign};
 
 use crate::levels::{behind, item};
 use crate::name::is_name;
 use crate::nodes::{FIRST_NUMBER, leaf, number_after};
 use crate::state::{Head, Stage, State};
+use crate::token::{Token, TokenKind};
 use go_base::{Bytes, NoMemory};
-use go_tree::{File, Node, NodeId, NodeKind, Token, TokenKind};
+use go_tree::{File, Node, NodeId, NodeKind};
 use std::alloc::Global;
 
 /// Before the first token.

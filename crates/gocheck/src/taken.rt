@@ -1,7 +1,7 @@
 // Words that cannot name a constant today.
 ghost use Rattle.std.specs.Prelude.{◌≡◌};
 ghost use Rattle.std.specs.List.{list_any};
-ghost use Rattle.go_tree.specs.Tokens.{same_text};
+ghost use Rattle.gocheck.specs.Tokens.{same_text};
 ghost use Rattle.gocheck.specs.Taken.{is_taken};
 
 const TAKEN: [&[u8]; 72] = [

@@ -1,19 +1,19 @@
 // Integers that no constant can have (Go specification, "Constants", "Constant expressions").
 ghost use Rattle.std.specs.Prelude.{◌≡◌, ◌++◌, IfOk, OnOk, Some, is_some, map, pos};
 ghost use Rattle.go_tree.specs.Tree.{Tree, tree_of, trees_of, start_of, text_of, kind_of, parts_of, more_trees, no_trees};
-ghost use Rattle.go_tree.specs.Literals.{decimal_value};
 ghost use Rattle.go_num.specs.Arithmetic.{limited};
-ghost use Rattle.go_tree.specs.declared.node.NodeKind.TheVariants as node_kind;
+ghost use Rattle.go_tree.specs.declared.node_kind.NodeKind.TheVariants as node_kind;
+ghost use Rattle.gocheck.specs.Literals.{decimal_value};
 ghost use Rattle.gocheck.specs.Records.{record_of, sum_of};
 ghost use Rattle.gocheck.specs.Rules.{wide_in, wide_among, wide_at};
 ghost use Rattle.gocheck.specs.Table.{slot_of};
 ghost use Rattle.gocheck.specs.Tests.{Decided, test_of, sum_test};
 
 use crate::broken::broken_at;
+use crate::literal::literal_value;
 use crate::names::Names;
 use crate::record::{operands, parenthesized, record, sum};
 use go_base::{Broken, NoMemory, WIDE_INTEGER};
-use go_scan::literal_value;
 use go_tree::{Node, NodeKind};
 
 /// Pushes the rule L2 at each literal and each sum of an expression whose value is outside -2^127

@@ -1,6 +1,6 @@
 use Rattle.std.proofs.Common.{refl, sym, rules, ◌≢◌}
 use Rattle.std.proofs.lemmas.Bool.{false≢true}
-use Rattle.go_tree.specs.declared.token.TokenKind.TheVariants.{Int, LeftParen}
+use Rattle.gocheck.specs.declared.token.TokenKind.TheVariants.{Int, LeftParen}
 use Rattle.gocheck.proofs.StepLemmas.{no_item}
 use Rattle.gocheck.proofs.levels.item.Goals as goal
 

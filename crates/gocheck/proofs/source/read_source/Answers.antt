@@ -1,5 +1,5 @@
 use Rattle.std.proofs.Common.{◌≡◌, ◌≢◌, Some, rules, arith, sym}
-use Rattle.go_tree.specs.declared.token.TokenKind.TheVariants.{Const, End}
+use Rattle.gocheck.specs.declared.token.TokenKind.TheVariants.{Const, End}
 use Rattle.gocheck.proofs.OnceLemmas.{was_there, was_absent}
 use Rattle.gocheck.proofs.SourceLemmas.{start_reads, reads_name, reads_other, wrong_byte, refused_token, twice_token, refused_end, whole_tree, names_once}
 use Rattle.gocheck.proofs.PlaceLemmas.{no_tree_beside}

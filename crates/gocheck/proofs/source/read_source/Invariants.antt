@@ -1,5 +1,5 @@
 use Rattle.std.proofs.Common.{◌≤◌, length}
-use Rattle.go_scan.specs.Weight.{scan_weight}
+use Rattle.gocheck.specs.Weight.{scan_weight}
 use Rattle.gocheck.specs.Reading.{state_of}
 use Rattle.gocheck.proofs.OnceLemmas.{texts}
 use Rattle.gocheck.proofs.SourceLemmas.{Reads}

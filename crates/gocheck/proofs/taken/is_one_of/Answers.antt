@@ -1,7 +1,7 @@
 use Rattle.std.proofs.Common.{List, ℕ, Bor, rules, tests}
 use Rattle.std.proofs.lemmas.Iterator.{YieldsList-from_slice}
 use Rattle.std.proofs.lemmas.Iterator.Search.{any_from_yields_List}
-use Rattle.go_tree.specs.Tokens.{same_text}
+use Rattle.gocheck.specs.Tokens.{same_text}
 use Rattle.gocheck.proofs.taken.is_one_of.Goals as goal
 
 pub returns : goal.returns

@@ -1,0 +1,8 @@
+use Rattle.std.proofs.Common.{sym, ◌∙◌}
+use Rattle.go_scan.proofs.SpaceLemmas.{blank_lies}
+use Rattle.go_scan.proofs.gap.space.Goals as goal
+
+pub returns-then-is_blank-clause-space : goal.returns-then-is_blank-clause-space
+returns-then-is_blank-clause-space c =
+    let l = blank_lies c.args.bytes.now c.args.at (rw c.byte_at-byte.ensures at (sym c.is_blank.ensures ∙ c.if-is_blank.true)) in
+    (l.space, l.behind, l.within)

@@ -1,0 +1,13 @@
+-- Which byte is to blame where no token starts.
+-- Says at which offset a byte stands that may not stand there, if one does.
+use Rattle.std.specs.Prelude.{◌≡◌, ℕ, List, ◌⊎◌}
+use Rattle.go_tree.specs.Characters.{IsForbidden}
+use Rattle.go_tree.specs.Faults.{CanGoOn}
+
+pub record IsBlamed (bytes : List ℕ) (from at : ℕ) : Type 0 where
+  pub reached : (at ≡ from) ⊎ CanGoOn bytes from at
+  pub only : (n : ℕ) → (n ≡ from) ⊎ CanGoOn bytes from n → IsForbidden bytes n → n ≡ at
+
+-- a quote that opens a rune literal, an interpreted or a raw string literal
+abbrev pub OpensLiteral : ℕ → Type 0
+OpensLiteral b = (b ≡ 39) ⊎ ((b ≡ 34) ⊎ (b ≡ 96))
