@@ -33,7 +33,7 @@ pub(crate) fn base(kind: Digits) -> u64
     u64::from(size_of_base(base_of(kind)))
 }
 
-/// One more than the greatest number that as many digits write.
+// One more than the greatest number that as many digits write.
 fn places(kind: Digits) -> u64
     ensures { result ≡ base_of kind ^ count_of kind }
 {
@@ -51,7 +51,7 @@ pub(crate) fn is_digit(kind: Digits, byte: u8) -> bool
     digits::is_digit(base_of(kind), byte)
 }
 
-/// The digits may write this number: a byte, or a code point that is no surrogate.
+// The digits may write this number: a byte, or a code point that is no surrogate.
 fn is_value(kind: Digits, value: u64) -> bool
     ensures { result ≡ is_value_of kind value }
 {
@@ -62,8 +62,8 @@ fn is_value(kind: Digits, value: u64) -> bool
     }
 }
 
-/// The digits of an escape from `from` on: Ok with the offset behind them, or Err with the offset
-/// of the first that does not fit.
+// The digits of an escape from `from` on: Ok with the offset behind them, or Err with the offset
+// of the first that does not fit.
 fn read_digits(bytes: &[u8], from: usize, kind: Digits) -> Result<usize, usize>
     requires { from ≤ length bytes.now }
     ensures whole { IfOk result (λ to. AreDigits kind (slice_range bytes.now from to)) }
@@ -117,8 +117,8 @@ pub(crate) fn character(bytes: &[u8], at: usize, quote: u8) -> Result<usize, usi
     }
 }
 
-/// An escape whose backslash stands before `from`: Ok with the offset behind it, or Err with the
-/// offset of the first byte that does not fit.
+// An escape whose backslash stands before `from`: Ok with the offset behind it, or Err with the
+// offset of the first byte that does not fit.
 fn escape(bytes: &[u8], from: usize, quote: u8) -> Result<usize, usize>
     requires quote { IsQuote quote }
     requires within { from ≤ length bytes.now }

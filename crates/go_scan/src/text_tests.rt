@@ -1,10 +1,11 @@
 // What literals stand for, and all tokens of a text, by the public calls.
 use crate::{Lex, ScanFault, int_value, literal_text, next, tokens};
-use go_base::{Bytes, MISSING_TOKEN};
+use go_base::{Bytes, FORBIDDEN_BYTE, MISSING_TOKEN};
 use go_num::TextFault;
 use go_tree::{Token, TokenKind};
 use std::alloc::{AllocError, Global};
 use std::process::Abort;
+use std::test::Fail;
 
 // The string of the literal that begins a text.
 fn text_of(alloc: Global, text: &[u8]) -> Result<Option<Bytes>, TextFault> {
@@ -106,4 +107,12 @@ fn lists_of_tokens(rt: HostRuntime) {
         tokens(rt.alloc(), b"x #").err(),
         Some(ScanFault::Lexical(fault))
     );
+}
+
+#[test]
+fn names_of_the_rules(rt: HostRuntime) -> Result<(), Fail> {
+    for (rule, name) in [(FORBIDDEN_BYTE, "S1"), (MISSING_TOKEN, "S2")] {
+        assert_eq!(rt; format!(in rt.alloc(); "{rule}")?.as_str(), name);
+    }
+    Ok(())
 }

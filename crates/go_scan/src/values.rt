@@ -20,7 +20,7 @@ pub(crate) fn rune_value(text: &[u8]) -> u32
     code_point(inside(text))
 }
 
-/// What stands between the quotes of a literal.
+// What stands between the quotes of a literal.
 fn inside(text: &[u8]) -> &[u8]
     requires { 2 ≤ length text.now }
     ensures { result.now ≡ inside_of text.now }
@@ -28,7 +28,7 @@ fn inside(text: &[u8]) -> &[u8]
     &text[1..text.len() - 1]
 }
 
-/// What stands behind the first byte.
+// What stands behind the first byte.
 fn behind(text: &[u8]) -> &[u8]
     requires { 1 ≤ length text.now }
     ensures { result.now ≡ drop 1 text.now }
@@ -36,7 +36,7 @@ fn behind(text: &[u8]) -> &[u8]
     &text[1..]
 }
 
-/// The code point that the inside of a rune literal stands for.
+// The code point that the inside of a rune literal stands for.
 fn code_point(inside: &[u8]) -> u32
     requires { IsRuneInside inside.now }
     ensures { result ≡ code_point_of inside.now }
@@ -50,7 +50,7 @@ fn code_point(inside: &[u8]) -> u32
     }
 }
 
-/// The number that an escape stands for, by what stands behind its backslash.
+// The number that an escape stands for, by what stands behind its backslash.
 fn escape_value(text: &[u8]) -> u32
     requires { IsEscapeText text.now }
     ensures { result ≡ escape_value text.now }
@@ -71,7 +71,7 @@ fn escape_value(text: &[u8]) -> u32
     simple_value(e) as u32
 }
 
-/// The number that the digits of an escape write.
+// The number that the digits of an escape write.
 fn number(digits: &[u8], kind: Digits) -> u32
     requires count { length digits.now ≤ count_of kind }
     requires digits { list_all (is_digit_of kind) digits.now ≡ true }
@@ -84,7 +84,7 @@ fn number(digits: &[u8], kind: Digits) -> u32
     value as u32
 }
 
-/// What a simple escape stands for.
+// What a simple escape stands for.
 fn simple_value(e: u8) -> u8
     ensures { result ≡ simple_value e }
 {
@@ -138,7 +138,7 @@ fn part(bytes: &[u8], from: usize, to: usize) -> &[u8]
     &bytes[from..to]
 }
 
-/// What an escape in a string stands for.
+// What an escape in a string stands for.
 #[derive(Clone, Copy, Debug, PartialEq, Eq)]
 enum Piece {
     Byte(u8),
@@ -146,7 +146,7 @@ enum Piece {
     Char(char),
 }
 
-/// What an escape in a string stands for, by what stands behind its backslash.
+// What an escape in a string stands for, by what stands behind its backslash.
 fn piece_of(text: &[u8]) -> Piece
     requires { IsEscapeText text.now }
     ensures { piece_text result ≡ escape_text text.now }
@@ -162,7 +162,7 @@ fn piece_of(text: &[u8]) -> Piece
     Piece::Byte(value as u8)
 }
 
-/// How many bytes an escape has behind its backslash, by the first of them.
+// How many bytes an escape has behind its backslash, by the first of them.
 fn escape_len(e: u8) -> usize
     ensures { (rest : List ℕ) → result ≡ escape_len (e ∷ rest) }
 {
@@ -183,7 +183,7 @@ fn piece_len(piece: Piece) -> usize
     }
 }
 
-/// What stands at `at` in a string whose inside ends at `close`, and the offset behind it.
+// What stands at `at` in a string whose inside ends at `close`, and the offset behind it.
 fn next_piece(bytes: &[u8], at: usize, close: usize) -> (Piece, usize)
     requires escapes { Escapes bytes.now close at }
     requires before { at < close }
@@ -201,7 +201,7 @@ fn next_piece(bytes: &[u8], at: usize, close: usize) -> (Piece, usize)
     (piece_of(&bytes[from..to]), to)
 }
 
-/// How many bytes the string has for which the bytes from `from` up to `close` stand.
+// How many bytes the string has for which the bytes from `from` up to `close` stand.
 fn unescaped_len(bytes: &[u8], from: usize, close: usize) -> usize
     requires { Escapes bytes.now close from }
     ensures { result ≡ length (unescaped 0 (slice_range bytes.now from close)) }
@@ -216,7 +216,7 @@ fn unescaped_len(bytes: &[u8], from: usize, close: usize) -> usize
     len
 }
 
-/// The string for which the bytes from `from` up to `close` stand.
+// The string for which the bytes from `from` up to `close` stand.
 fn unescape(alloc: Global, bytes: &[u8], from: usize, close: usize) -> Result<Vec<u8>, NoMemory>
     requires { Escapes bytes.now close from }
     ensures { IfOk result (λ text. text.items ≡ unescaped 0 (slice_range bytes.now from close)) }
@@ -244,14 +244,14 @@ fn push_piece(text: &mut Vec<u8>, piece: Piece) -> Result<(), NoMemory>
     Ok(())
 }
 
-/// How many bytes are left of a text without its carriage returns.
+// How many bytes are left of a text without its carriage returns.
 fn len_without_returns(text: &[u8]) -> usize
     ensures { result ≡ length (without_returns text.now) }
 {
     text.iter().filter(|b| **b != b'\r').count()
 }
 
-/// A text without its carriage returns.
+// A text without its carriage returns.
 fn without_returns(alloc: Global, text: &[u8]) -> Result<Vec<u8>, NoMemory>
     ensures { IfOk result (λ kept. kept.items ≡ without_returns text.now) }
 {
