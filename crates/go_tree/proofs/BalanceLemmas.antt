@@ -1,140 +1,17 @@
 -- What is read to the end leaves a node: for each production, the open nodes that it needs and leaves.
-use Rattle.std.proofs.Common.{◌≡◌, ℕ, zero, suc, Bool, true, false, List, [], ◌∷◌, ◌++◌, refl, sym, ap, subst, ◌∙◌, cond, Option, None, Some, ◌&&◌, append_assoc}
+use Rattle.std.proofs.Common.{◌≡◌, ℕ, zero, suc, Bool, true, false, List, [], ◌∷◌, ◌++◌, refl, sym, ap, subst, ◌∙◌, cond, Option, None, Some, append_assoc}
 use Rattle.go_tree.specs.declared.token.Token.{Token}
 use Rattle.go_tree.specs.declared.token.TokenKind.{TokenKind}
 use Rattle.go_tree.specs.declared.node_kind.NodeKind.{NodeKind}
 use Rattle.go_tree.specs.Tree.{Tree, start_of}
 use Rattle.go_tree.specs.Grammar.RightSide.{RightSide, Do, Call, Nothing, Seq, Or, Many, When, Act, Pass, Open, Reopen, Adopt, CheckType, Close, Ahead}
 use Rattle.go_tree.specs.Grammar.TokenKinds.{same_kind}
-use Rattle.go_tree.specs.Grammar.Reading.{State, OpenNode, Reads, at_end, does, calls, nothing, in_turn, left, right, done, again, chosen, passed_by, acted, passed, next_start, reopened, reopen, adopted, adopt, close_last, node_read, ends_in_type, newest_of, tree_read}
-
--- of the innermost open nodes, whether each surely has a part
-abbrev pub Shape : Type 0
-Shape = List Bool
-
-abbrev flow_act : Act → Shape → Option Shape
-flow_act (Pass k) σ = Some σ
-flow_act Open σ = Some (false ∷ σ)
-flow_act Reopen (true ∷ σ) = Some (true ∷ false ∷ σ)
-flow_act Reopen _ = None
-flow_act Adopt (p ∷ true ∷ σ) = Some (true ∷ false ∷ σ)
-flow_act Adopt _ = None
-flow_act CheckType σ = Some σ
-flow_act (Close k) (p ∷ q ∷ σ) = Some (true ∷ σ)
-flow_act (Close k) _ = None
-
--- the shape has at least what is needed, which is taken, and a node is left
-abbrev take_needed : Shape → Shape → Option Shape
-take_needed [] σ = Some (true ∷ σ)
-take_needed (n ∷ ns) [] = None
-take_needed (true ∷ ns) (false ∷ σ) = None
-take_needed (true ∷ ns) (true ∷ σ) = take_needed ns σ
-take_needed (false ∷ ns) (b ∷ σ) = take_needed ns σ
-
-abbrev onto : Bool → Option Shape → Option Shape
-onto b None = None
-onto b (Some σ) = Some (b ∷ σ)
-
-abbrev meet : Shape → Shape → Option Shape
-meet [] [] = Some []
-meet (a ∷ σ) (b ∷ τ) = onto (a && b) (meet σ τ)
-meet _ _ = None
-
-abbrev meet_both : Option Shape → Option Shape → Option Shape
-meet_both None y = None
-meet_both (Some σ) None = None
-meet_both (Some σ) (Some τ) = meet σ τ
-
--- what is wanted is there
-abbrev covers : Shape → Shape → Bool
-covers [] [] = true
-covers (true ∷ σ) (false ∷ τ) = false
-covers (true ∷ σ) (true ∷ τ) = covers σ τ
-covers (false ∷ σ) (b ∷ τ) = covers σ τ
-covers _ _ = false
-
-abbrev if_covered : Shape → Option Shape → Option Shape
-if_covered σ None = None
-if_covered σ (Some τ) = cond (covers σ τ) (Some σ) None
-
-abbrev then_flow : (Shape → Option Shape) → Option Shape → Option Shape
-then_flow f None = None
-then_flow f (Some σ) = f σ
-
--- what a right side makes of a shape, where the table has what each production needs
-abbrev pub flow : {N : Type 0} → (N → Shape) → RightSide N → Shape → Option Shape
-flow E (Do a) σ = flow_act a σ
-flow E (Call n) σ = take_needed (E n) σ
-flow E Nothing σ = Some σ
-flow E (Seq g h) σ = then_flow (flow E h) (flow E g σ)
-flow E (Or g h) σ = meet_both (flow E g σ) (flow E h σ)
-flow E (Many g) σ = if_covered σ (flow E g σ)
-flow E (When a g h) σ = meet_both (flow E g σ) (flow E h σ)
-
--- a node is left where the production has taken what it needs
-abbrev pub leaves_node : Option Shape → Bool
-leaves_node None = false
-leaves_node (Some σ) = covers (true ∷ []) σ
-
-abbrev HasPart : List Tree → Type 0
-HasPart [] = ⊥
-HasPart (x ∷ xs) = Unit {0}
-
-abbrev pub Fits : Shape → List OpenNode → Type 0
-Fits [] [] = Unit {0}
-Fits (b ∷ σ) (f ∷ fs) = (b ≡ true → HasPart f.parts) × Fits σ fs
-Fits [] (f ∷ fs) = ⊥
-Fits (b ∷ σ) [] = ⊥
-
-fits_covered : (σ τ : Shape) (fs : List OpenNode) → covers σ τ ≡ true → Fits τ fs → Fits σ fs
-fits_covered [] [] fs h f = f
-fits_covered [] (b ∷ τ) fs h f = cc
-fits_covered (true ∷ σ) [] fs h f = cc
-fits_covered (false ∷ σ) [] fs h f = cc
-fits_covered (true ∷ σ) (false ∷ τ) fs h f = cc
-fits_covered (true ∷ σ) (true ∷ τ) [] h f = f
-fits_covered (true ∷ σ) (true ∷ τ) (g ∷ fs) h f = (f.0, fits_covered σ τ fs h f.1)
-fits_covered (false ∷ σ) (b ∷ τ) [] h f = f
-fits_covered (false ∷ σ) (b ∷ τ) (g ∷ fs) h f = (λ e. cc, fits_covered σ τ fs h f.1)
-
-on_top : (b : Bool) (o : Option Shape) (ρ : Shape) → onto b o ≡ Some ρ → (τ : Shape) × (o ≡ Some τ) × (ρ ≡ b ∷ τ)
-on_top b None ρ h = cc
-on_top b (Some σ) ρ h = (σ, refl, cc)
-
-and_left : (a b : Bool) → (a && b) ≡ true → a ≡ true
-and_left true b h = refl
-and_left false b h = cc
-
-and_right : (a b : Bool) → (a && b) ≡ true → b ≡ true
-and_right true b h = h
-and_right false b h = cc
-
-fits_left : (σ τ ρ : Shape) (fs : List OpenNode) → meet σ τ ≡ Some ρ → Fits σ fs → Fits ρ fs
-fits_left [] [] ρ fs h f = let q : [] ≡ ρ = cc in subst (λ x. Fits x fs) q f
-fits_left [] (b ∷ τ) ρ fs h f = cc
-fits_left (a ∷ σ) [] ρ fs h f = cc
-fits_left (a ∷ σ) (b ∷ τ) ρ [] h f = absurd f
-fits_left (a ∷ σ) (b ∷ τ) ρ (g ∷ fs) h f = let z = on_top (a && b) (meet σ τ) ρ h in subst (λ x. Fits x (g ∷ fs)) (sym z.2) (λ e. f.0 (and_left a b e), fits_left σ τ z.0 fs z.1 f.1)
-
-fits_right : (σ τ ρ : Shape) (fs : List OpenNode) → meet σ τ ≡ Some ρ → Fits τ fs → Fits ρ fs
-fits_right [] [] ρ fs h f = let q : [] ≡ ρ = cc in subst (λ x. Fits x fs) q f
-fits_right [] (b ∷ τ) ρ fs h f = cc
-fits_right (a ∷ σ) [] ρ fs h f = cc
-fits_right (a ∷ σ) (b ∷ τ) ρ [] h f = absurd f
-fits_right (a ∷ σ) (b ∷ τ) ρ (g ∷ fs) h f = let z = on_top (a && b) (meet σ τ) ρ h in subst (λ x. Fits x (g ∷ fs)) (sym z.2) (λ e. f.0 (and_right a b e), fits_right σ τ z.0 fs z.1 f.1)
-
--- what is needed stands on top, and the rest below it
-parted : (ns σ ρ : Shape) (fs : List OpenNode) → take_needed ns σ ≡ Some ρ → Fits σ fs → (tops more : List OpenNode) × (τ : Shape) × (fs ≡ tops ++ more) × Fits ns tops × Fits τ more × (ρ ≡ true ∷ τ)
-parted [] σ ρ fs h f = ([], fs, σ, refl, tt, f, cc)
-parted (n ∷ ns) [] ρ fs h f = cc
-parted (n ∷ ns) (b ∷ σ) ρ [] h f = absurd f
-parted (true ∷ ns) (false ∷ σ) ρ (g ∷ fs) h f = cc
-parted (true ∷ ns) (true ∷ σ) ρ (g ∷ fs) h f = let z = parted ns σ ρ fs h f.1 in (g ∷ z.0, z.1, z.2, ap (λ x. g ∷ x) z.3, (f.0, z.4), z.5, z.6)
-parted (false ∷ ns) (b ∷ σ) ρ (g ∷ fs) h f = let z = parted ns σ ρ fs h f.1 in (g ∷ z.0, z.1, z.2, ap (λ x. g ∷ x) z.3, (λ e. cc, z.4), z.5, z.6)
+use Rattle.go_tree.specs.Grammar.Reading.{State, OpenNode, Reads, at_end, does, calls, nothing, in_turn, left, right, done, again, chosen, passed_by, looks, acted, passed, next_start, reopened, reopen, adopted, adopt, close_last, node_read, ends_in_type, newest_of, tree_read}
+use Rattle.go_tree.proofs.ShapeLemmas.{Shape, flow_act, take_needed, meet, meet_both, covers, if_covered, then_flow, flow, leaves_node, HasPart, Fits, fits_covered, single, some_part, fits_left, fits_right, parted}
 
 -- ---- readings in at most so many steps
 
-data ReadsIn (N : Type 0) (P : N → RightSide N) (bytes : List ℕ) : ℕ → List (RightSide N) → State → State → Type 0 where
+pub data ReadsIn (N : Type 0) (P : N → RightSide N) (bytes : List ℕ) : ℕ → List (RightSide N) → State → State → Type 0 where
   at_end_in : {k : ℕ} {s : State} → ReadsIn N P bytes k [] s s
   does_in : {k : ℕ} {a : Act} {gs : List (RightSide N)} {s m e : State} → acted bytes a s ≡ Some m → ReadsIn N P bytes k gs m e → ReadsIn N P bytes (suc k) (Do a ∷ gs) s e
   calls_in : {k : ℕ} {n : N} {gs : List (RightSide N)} {s e : State} → ReadsIn N P bytes k (P n ∷ gs) s e → ReadsIn N P bytes (suc k) (Call n ∷ gs) s e
@@ -144,11 +21,11 @@ data ReadsIn (N : Type 0) (P : N → RightSide N) (bytes : List ℕ) : ℕ → L
   right_in : {k : ℕ} {g h : RightSide N} {gs : List (RightSide N)} {s e : State} → ReadsIn N P bytes k (h ∷ gs) s e → ReadsIn N P bytes (suc k) (Or g h ∷ gs) s e
   done_in : {k : ℕ} {g : RightSide N} {gs : List (RightSide N)} {s e : State} → ReadsIn N P bytes k gs s e → ReadsIn N P bytes (suc k) (Many g ∷ gs) s e
   again_in : {k : ℕ} {g : RightSide N} {gs : List (RightSide N)} {s e : State} → ReadsIn N P bytes k (g ∷ Many g ∷ gs) s e → ReadsIn N P bytes (suc k) (Many g ∷ gs) s e
-  chosen_in : {k : ℕ} {a : Ahead} {g h : RightSide N} {gs : List (RightSide N)} {s e : State} → ReadsIn N P bytes k (g ∷ gs) s e → ReadsIn N P bytes (suc k) (When a g h ∷ gs) s e
-  passed_by_in : {k : ℕ} {a : Ahead} {g h : RightSide N} {gs : List (RightSide N)} {s e : State} → ReadsIn N P bytes k (h ∷ gs) s e → ReadsIn N P bytes (suc k) (When a g h ∷ gs) s e
+  chosen_in : {k : ℕ} {a : Ahead} {g h : RightSide N} {gs : List (RightSide N)} {s e : State} → looks a s.rest ≡ true → ReadsIn N P bytes k (g ∷ gs) s e → ReadsIn N P bytes (suc k) (When a g h ∷ gs) s e
+  passed_by_in : {k : ℕ} {a : Ahead} {g h : RightSide N} {gs : List (RightSide N)} {s e : State} → looks a s.rest ≡ false → ReadsIn N P bytes k (h ∷ gs) s e → ReadsIn N P bytes (suc k) (When a g h ∷ gs) s e
 
 module _ (N : Type 0) (P : N → RightSide N) (bytes : List ℕ) where
-  counted : {gs : List (RightSide N)} {s e : State} → Reads N P bytes gs s e → (k : ℕ) × ReadsIn N P bytes k gs s e
+  pub counted : {gs : List (RightSide N)} {s e : State} → Reads N P bytes gs s e → (k : ℕ) × ReadsIn N P bytes k gs s e
   counted at_end = (0, at_end_in)
   counted (does h d) = let z = counted d in (suc z.0, does_in h z.1)
   counted (calls d) = let z = counted d in (suc z.0, calls_in z.1)
@@ -158,8 +35,8 @@ module _ (N : Type 0) (P : N → RightSide N) (bytes : List ℕ) where
   counted (right d) = let z = counted d in (suc z.0, right_in z.1)
   counted (done d) = let z = counted d in (suc z.0, done_in z.1)
   counted (again d) = let z = counted d in (suc z.0, again_in z.1)
-  counted (chosen w d) = let z = counted d in (suc z.0, chosen_in z.1)
-  counted (passed_by w d) = let z = counted d in (suc z.0, passed_by_in z.1)
+  counted (chosen w d) = let z = counted d in (suc z.0, chosen_in w z.1)
+  counted (passed_by w d) = let z = counted d in (suc z.0, passed_by_in w z.1)
 
   more_steps : {k : ℕ} {gs : List (RightSide N)} {s e : State} → ReadsIn N P bytes k gs s e → ReadsIn N P bytes (suc k) gs s e
   more_steps at_end_in = at_end_in
@@ -171,13 +48,13 @@ module _ (N : Type 0) (P : N → RightSide N) (bytes : List ℕ) where
   more_steps (right_in d) = right_in (more_steps d)
   more_steps (done_in d) = done_in (more_steps d)
   more_steps (again_in d) = again_in (more_steps d)
-  more_steps (chosen_in d) = chosen_in (more_steps d)
-  more_steps (passed_by_in d) = passed_by_in (more_steps d)
+  more_steps (chosen_in w d) = chosen_in w (more_steps d)
+  more_steps (passed_by_in w d) = passed_by_in w (more_steps d)
 
-  Both_parts : ℕ → List (RightSide N) → List (RightSide N) → State → State → Type 0
+  unfoldable pub Both_parts : ℕ → List (RightSide N) → List (RightSide N) → State → State → Type 0
   Both_parts k pre A s e = (m : State) × ReadsIn N P bytes k pre s m × ReadsIn N P bytes k A m e
 
-  parts_of_reading : {k : ℕ} {all : List (RightSide N)} {s e : State} → ReadsIn N P bytes k all s e → (pre A : List (RightSide N)) → all ≡ pre ++ A → Both_parts k pre A s e
+  pub parts_of_reading : {k : ℕ} {all : List (RightSide N)} {s e : State} → ReadsIn N P bytes k all s e → (pre A : List (RightSide N)) → all ≡ pre ++ A → Both_parts k pre A s e
   unfolding Both_parts
   parts_of_reading {k = k} (at_end_in {s = s}) [] A q = (s, at_end_in, subst (λ x. ReadsIn N P bytes k x s s) q at_end_in)
   parts_of_reading at_end_in (p ∷ ps) A q = cc
@@ -193,10 +70,10 @@ module _ (N : Type 0) (P : N → RightSide N) (bytes : List ℕ) where
   parts_of_reading (left_in {k = k} {g = g} {h = h} {gs = gs} {s = s} {e = e} d) (p ∷ ps) A q = let y : gs ≡ ps ++ A = cc in let x : Or g h ≡ p = cc in let r = parts_of_reading d (g ∷ ps) A (ap (λ z. g ∷ z) y) in (r.0, subst (λ z. ReadsIn N P bytes (suc k) (z ∷ ps) s r.0) x (left_in r.1), more_steps r.2)
   parts_of_reading (right_in {k = k} {g = g} {h = h} {gs = gs} {s = s} {e = e} d) [] A q = (s, at_end_in, subst (λ x. ReadsIn N P bytes (suc k) x s e) q (right_in d))
   parts_of_reading (right_in {k = k} {g = g} {h = h} {gs = gs} {s = s} {e = e} d) (p ∷ ps) A q = let y : gs ≡ ps ++ A = cc in let x : Or g h ≡ p = cc in let r = parts_of_reading d (h ∷ ps) A (ap (λ z. h ∷ z) y) in (r.0, subst (λ z. ReadsIn N P bytes (suc k) (z ∷ ps) s r.0) x (right_in r.1), more_steps r.2)
-  parts_of_reading (chosen_in {k = k} {a = a} {g = g} {h = h} {gs = gs} {s = s} {e = e} d) [] A q = (s, at_end_in, subst (λ x. ReadsIn N P bytes (suc k) x s e) q (chosen_in d))
-  parts_of_reading (chosen_in {k = k} {a = a} {g = g} {h = h} {gs = gs} {s = s} {e = e} d) (p ∷ ps) A q = let y : gs ≡ ps ++ A = cc in let x : When a g h ≡ p = cc in let r = parts_of_reading d (g ∷ ps) A (ap (λ z. g ∷ z) y) in (r.0, subst (λ z. ReadsIn N P bytes (suc k) (z ∷ ps) s r.0) x (chosen_in r.1), more_steps r.2)
-  parts_of_reading (passed_by_in {k = k} {a = a} {g = g} {h = h} {gs = gs} {s = s} {e = e} d) [] A q = (s, at_end_in, subst (λ x. ReadsIn N P bytes (suc k) x s e) q (passed_by_in d))
-  parts_of_reading (passed_by_in {k = k} {a = a} {g = g} {h = h} {gs = gs} {s = s} {e = e} d) (p ∷ ps) A q = let y : gs ≡ ps ++ A = cc in let x : When a g h ≡ p = cc in let r = parts_of_reading d (h ∷ ps) A (ap (λ z. h ∷ z) y) in (r.0, subst (λ z. ReadsIn N P bytes (suc k) (z ∷ ps) s r.0) x (passed_by_in r.1), more_steps r.2)
+  parts_of_reading (chosen_in {k = k} {a = a} {g = g} {h = h} {gs = gs} {s = s} {e = e} w d) [] A q = (s, at_end_in, subst (λ x. ReadsIn N P bytes (suc k) x s e) q (chosen_in w d))
+  parts_of_reading (chosen_in {k = k} {a = a} {g = g} {h = h} {gs = gs} {s = s} {e = e} w d) (p ∷ ps) A q = let y : gs ≡ ps ++ A = cc in let x : When a g h ≡ p = cc in let r = parts_of_reading d (g ∷ ps) A (ap (λ z. g ∷ z) y) in (r.0, subst (λ z. ReadsIn N P bytes (suc k) (z ∷ ps) s r.0) x (chosen_in w r.1), more_steps r.2)
+  parts_of_reading (passed_by_in {k = k} {a = a} {g = g} {h = h} {gs = gs} {s = s} {e = e} w d) [] A q = (s, at_end_in, subst (λ x. ReadsIn N P bytes (suc k) x s e) q (passed_by_in w d))
+  parts_of_reading (passed_by_in {k = k} {a = a} {g = g} {h = h} {gs = gs} {s = s} {e = e} w d) (p ∷ ps) A q = let y : gs ≡ ps ++ A = cc in let x : When a g h ≡ p = cc in let r = parts_of_reading d (h ∷ ps) A (ap (λ z. h ∷ z) y) in (r.0, subst (λ z. ReadsIn N P bytes (suc k) (z ∷ ps) s r.0) x (passed_by_in w r.1), more_steps r.2)
   parts_of_reading (done_in {k = k} {g = g} {gs = gs} {s = s} {e = e} d) [] A q = (s, at_end_in, subst (λ x. ReadsIn N P bytes (suc k) x s e) q (done_in d))
   parts_of_reading (done_in {k = k} {g = g} {gs = gs} {s = s} {e = e} d) (p ∷ ps) A q = let y : gs ≡ ps ++ A = cc in let x : Many g ≡ p = cc in let r = parts_of_reading d (ps) A y in (r.0, subst (λ z. ReadsIn N P bytes (suc k) (z ∷ ps) s r.0) x (done_in r.1), more_steps r.2)
   parts_of_reading (again_in {k = k} {g = g} {gs = gs} {s = s} {e = e} d) [] A q = (s, at_end_in, subst (λ x. ReadsIn N P bytes (suc k) x s e) q (again_in d))
@@ -229,10 +106,6 @@ module _ (N : Type 0) (P : N → RightSide N) (bytes : List ℕ) where
     are = refl;
     fit = (λ e. tt, (λ e. cc, f));
   }
-
-  some_part : (xs : List Tree) (x : Tree) → HasPart (xs ++ x ∷ [])
-  some_part [] x = tt
-  some_part (y ∷ ys) x = tt
 
   adopted_on : (σ : Shape) (below : List OpenNode) (f : OpenNode) (start : ℕ) (parts : List Tree) (fs : List OpenNode) → HasPart parts → Fits σ fs → On (true ∷ false ∷ σ) below (adopted f parts start (fs ++ below))
   adopted_on σ below g start [] fs part f = absurd part
@@ -317,7 +190,7 @@ module _ (N : Type 0) (P : N → RightSide N) (bytes : List ℕ) where
   at_its_end : (k : ℕ) (σ : Shape) (below : List OpenNode) (s e : State) → ReadsIn N P bytes k [] s e → On σ below s.open_nodes → On σ below e.open_nodes
   at_its_end k σ below s e at_end_in o = o
 
-  takes_steps : {k : ℕ} {all : List (RightSide N)} {s e : State} → ReadsIn N P bytes k all s e → (g : RightSide N) (gs : List (RightSide N)) → all ≡ g ∷ gs → k ≡ 0 → ⊥
+  pub takes_steps : {k : ℕ} {all : List (RightSide N)} {s e : State} → ReadsIn N P bytes k all s e → (g : RightSide N) (gs : List (RightSide N)) → all ≡ g ∷ gs → k ≡ 0 → ⊥
   takes_steps at_end_in g gs q z = cc
   takes_steps (does_in {k = k} h d) g gs q z = cc
   takes_steps (calls_in {k = k} d) g gs q z = cc
@@ -327,8 +200,8 @@ module _ (N : Type 0) (P : N → RightSide N) (bytes : List ℕ) where
   takes_steps (right_in {k = k} d) g gs q z = cc
   takes_steps (done_in {k = k} d) g gs q z = cc
   takes_steps (again_in {k = k} d) g gs q z = cc
-  takes_steps (chosen_in {k = k} d) g gs q z = cc
-  takes_steps (passed_by_in {k = k} d) g gs q z = cc
+  takes_steps (chosen_in {k = k} w d) g gs q z = cc
+  takes_steps (passed_by_in {k = k} w d) g gs q z = cc
 
   module _ (E : N → Shape) (table_right : (n : N) → leaves_node (flow E (P n) (E n)) ≡ true) where
     Kept : ℕ → Type 0
@@ -354,8 +227,8 @@ module _ (N : Type 0) (P : N → RightSide N) (bytes : List ℕ) where
         kept h c.0 τ below r.0 e c.2 r.2 (kept g σ c.0 below s r.0 c.1 r.1 o)
     steps_kept k kept (Or g h) σ τ below s e q (left_in d) o = let z = halves (flow E g σ) (flow E h σ) τ q in weaker z.0 τ below e.open_nodes (λ gs. fits_left z.0 z.1 τ gs z.4) (kept g σ z.0 below s e z.2 d o)
     steps_kept k kept (Or g h) σ τ below s e q (right_in d) o = let z = halves (flow E g σ) (flow E h σ) τ q in weaker z.1 τ below e.open_nodes (λ gs. fits_right z.0 z.1 τ gs z.4) (kept h σ z.1 below s e z.3 d o)
-    steps_kept k kept (When a g h) σ τ below s e q (chosen_in d) o = let z = halves (flow E g σ) (flow E h σ) τ q in weaker z.0 τ below e.open_nodes (λ gs. fits_left z.0 z.1 τ gs z.4) (kept g σ z.0 below s e z.2 d o)
-    steps_kept k kept (When a g h) σ τ below s e q (passed_by_in d) o = let z = halves (flow E g σ) (flow E h σ) τ q in weaker z.1 τ below e.open_nodes (λ gs. fits_right z.0 z.1 τ gs z.4) (kept h σ z.1 below s e z.3 d o)
+    steps_kept k kept (When a g h) σ τ below s e q (chosen_in w d) o = let z = halves (flow E g σ) (flow E h σ) τ q in weaker z.0 τ below e.open_nodes (λ gs. fits_left z.0 z.1 τ gs z.4) (kept g σ z.0 below s e z.2 d o)
+    steps_kept k kept (When a g h) σ τ below s e q (passed_by_in w d) o = let z = halves (flow E g σ) (flow E h σ) τ q in weaker z.1 τ below e.open_nodes (λ gs. fits_right z.0 z.1 τ gs z.4) (kept h σ z.1 below s e z.3 d o)
     steps_kept k kept (Many g) σ τ below s e q (done_in d) o = let z = repeated σ τ (flow E g σ) q in moved σ τ below e.open_nodes e.open_nodes refl z.3 (at_its_end k σ below s e d o)
     steps_kept k kept (Many g) σ τ below s e q (again_in d) o =
         let z = repeated σ τ (flow E g σ) q in
@@ -392,11 +265,6 @@ module _ (N : Type 0) (P : N → RightSide N) (bytes : List ℕ) where
 
     over : {k : ℕ} (s e : State) → ReadsIn N P bytes k [] s e → s ≡ e
     over s e at_end_in = refl
-
-    single : (b : Bool) (fs : List OpenNode) → Fits (b ∷ []) fs → (f : OpenNode) × (fs ≡ f ∷ [])
-    single b [] f = absurd f
-    single b (g ∷ []) f = (g, refl)
-    single b (g ∷ h ∷ fs) f = absurd f.1
 
     -- what is one node from its first token to its last
     pub one_node : (n : N) (body : RightSide N) (kind : NodeKind) → P n ≡ Seq (Do Open) (Seq body (Do (Close kind))) → (b : Bool) → flow E body (false ∷ []) ≡ Some (b ∷ []) → (s e : State) (f : OpenNode) → Reads N P bytes (Call n ∷ []) s e → s.open_nodes ≡ f ∷ [] → (g : OpenNode) × (e.open_nodes ≡ record { start = f.start; parts = node_read bytes kind e.last g ∷ f.parts } ∷ [])

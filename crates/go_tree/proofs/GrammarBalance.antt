@@ -15,10 +15,11 @@ use Rattle.go_tree.specs.Grammar.Rank.{top_rank}
 use Rattle.go_tree.specs.Grammar.Fronts.{Passes}
 use Rattle.go_tree.specs.Grammar.Sentence.{production, texts, is_whole, IsA, Derives, Begins}
 use Rattle.go_tree.proofs.SentenceLemmas.{front_lem}
-use Rattle.go_tree.proofs.BalanceLemmas.{Shape, flow, leaves_node, has_node, one_node}
+use Rattle.go_tree.proofs.ShapeLemmas.{Shape, flow, leaves_node}
+use Rattle.go_tree.proofs.BalanceLemmas.{has_node, one_node}
 
 -- which of the innermost open nodes a production needs, and of which of them a part
-abbrev needs : Production → Shape
+abbrev pub needs : Production → Shape
 needs p.TypeSpecBracket = false ∷ false ∷ false ∷ []
 needs (p.More l) = true ∷ []
 needs p.TypeArgs = true ∷ []

@@ -14,9 +14,11 @@ use Rattle.go_tree.specs.Grammar.Sentence.{production, tables, Derives}
 use Rattle.go_tree.specs.Grammar.Spans.{HasSpans, HasRun}
 use Rattle.go_tree.proofs.DecidedTests.{implied}
 use Rattle.go_tree.proofs.GrammarLemmas.{tables_right}
-use Rattle.go_tree.proofs.SpanLemmas.{ends_early, has_tokens, tree_spans, last_read, whole_run}
+use Rattle.go_tree.proofs.SpanActLemmas.{ends_early, has_tokens}
+use Rattle.go_tree.proofs.SpanLemmas.{tree_spans, last_read, whole_run}
 use Rattle.go_tree.proofs.OutermostLemmas.{Begun, begun_by_node}
 use Rattle.go_tree.proofs.GrammarBalance.{inside, file_node}
+use Rattle.go_tree.proofs.TruthLemmas.{implies}
 
 -- the productions in which a node can end before a token is passed
 abbrev early : Production → Bool
@@ -128,10 +130,6 @@ tokens_checked (p.ClauseBody Comms) = refl
 tokens_checked (p.AfterClauseStmt Cases) = refl
 tokens_checked (p.AfterClauseStmt Comms) = refl
 tokens_checked _ = refl
-
-implies : (a b : Bool) → implied a b ≡ true → a ≡ true → b ≡ true
-implies true b h e = h
-implies false b h e = cc
 
 -- each node of a tree has a run of the tokens
 pub spans_lem : (bytes : List ℕ) (n : Production) (tokens : List Token) (t : Tree) → Derives bytes n tokens t → HasSpans tokens t

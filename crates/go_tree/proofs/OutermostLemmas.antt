@@ -7,6 +7,7 @@ use Rattle.go_tree.specs.Tree.{Tree, start_of}
 use Rattle.go_tree.specs.Grammar.RightSide.{RightSide, Do, Call, Seq, Act, Pass, Open, Reopen, Adopt, CheckType, Close}
 use Rattle.go_tree.specs.Grammar.TokenKinds.{same_kind}
 use Rattle.go_tree.specs.Grammar.Reading.{State, OpenNode, Reads, at_end, does, calls, nothing, in_turn, left, right, done, again, chosen, passed_by, acted, passed, next_start, reopened, reopen, adopted, adopt, close_last, node_read, ends_in_type, before}
+use Rattle.go_tree.proofs.ReadingLemmas.{in_turn_of}
 
 -- the oldest of these parts starts there
 abbrev OldestStarts : ℕ → List Tree → Type 0
@@ -117,9 +118,6 @@ module _ (N : Type 0) (P : N → RightSide N) (bytes : List ℕ) where
   called : (n : N) (s e : State) → Reads N P bytes (Call n ∷ []) s e → Reads N P bytes (P n ∷ []) s e
   called n s e (calls d) = d
 
-  turned : (g h : RightSide N) (s e : State) → Reads N P bytes (Seq g h ∷ []) s e → Reads N P bytes (g ∷ h ∷ []) s e
-  turned g h s e (in_turn d) = d
-
   opened : (tokens : List Token) (gs : List (RightSide N)) (e : State) → Reads N P bytes (Do Open ∷ gs) (before tokens) e → Begun (next_start 0 tokens) e.open_nodes
   opened tokens gs e (does {m = m} h d) =
       let q : record { last = 0; rest = tokens; open_nodes = record { start = next_start 0 tokens; parts = [] } ∷ (record { start = 0; parts = [] } ∷ []) } ≡ m = cc in
@@ -127,4 +125,4 @@ module _ (N : Type 0) (P : N → RightSide N) (bytes : List ℕ) where
 
   -- a production that begins with a node
   pub begun_by_node : (n : N) (h : RightSide N) → P n ≡ Seq (Do Open) h → (tokens : List Token) (e : State) → Reads N P bytes (Call n ∷ []) (before tokens) e → Begun (next_start 0 tokens) e.open_nodes
-  begun_by_node n h q tokens e d = opened tokens (h ∷ []) e (turned (Do Open) h (before tokens) e (subst (λ x. Reads N P bytes (x ∷ []) (before tokens) e) q (called n (before tokens) e d)))
+  begun_by_node n h q tokens e d = opened tokens (h ∷ []) e (in_turn_of (subst (λ x. Reads N P bytes (x ∷ []) (before tokens) e) q (called n (before tokens) e d)))

@@ -1,43 +1,18 @@
 -- One token decides: what is read is read by the expansion that it picks, and by no other.
 use Rattle.std.proofs.Common.{subst, ◌∙◌, ◌≡◌, ℕ, Bool, true, false, List, [], ◌∷◌, ◌++◌, refl, sym, ap, cond, None, Some, ◌||◌, ◌&&◌}
+use Rattle.std.proofs.lemmas.Bool.{and_parts, or_left, or_right}
 use Rattle.go_tree.specs.declared.token.Token.{Token}
 use Rattle.go_tree.specs.declared.token.TokenKind.{TokenKind}
 use Rattle.go_tree.specs.Grammar.RightSide.{RightSide, Do, Call, Nothing, Seq, Or, Many, When, Act, Pass, Open, Reopen, Adopt, CheckType, Close, Ahead, OneOf, Both}
-use Rattle.go_tree.specs.Grammar.Reading.{State, OpenNode, Reads, at_end, does, calls, nothing, in_turn, left, right, done, again, chosen, passed_by, looks, acted, passed, ends_in_type}
+use Rattle.go_tree.specs.Grammar.Reading.{State, OpenNode, Reads, at_end, does, calls, nothing, in_turn, left, right, done, again, chosen, passed_by, looks, acted, passed}
 use Rattle.go_tree.specs.Grammar.TokenKinds.{same_kind}
-use Rattle.go_tree.specs.Grammar.Prediction.{Tables, act_is_empty, may_look, may_miss, is_empty, begins, next_of, starts, Decided, AllDecided, AreRight, expand}
-
-or_intro_left : (a b : Bool) → a ≡ true → (a || b) ≡ true
-or_intro_left a b h = rw h refl
+use Rattle.go_tree.specs.Grammar.Prediction.{Tables, may_look, may_miss, is_empty, begins, next_of, starts, Decided, AllDecided, AreRight, expand}
+use Rattle.go_tree.proofs.EmptyLemmas.{series_empty, rest_kept, empty_read}
+use Rattle.go_tree.proofs.TruthLemmas.{again_starts, begins_so, call_starts, chosen_starts, left_starts, passed_by_starts, right_starts, seq_starts}
 
 or_cases : (a b : Bool) (P : Type 0) → (a || b) ≡ true → (a ≡ true → P) → (b ≡ true → P) → P
 or_cases true b P h f g = f refl
 or_cases false b P h f g = g h
-
-and_parts : (a b : Bool) → (a && b) ≡ true → (a ≡ true) × (b ≡ true)
-and_parts true b h = (refl, h)
-and_parts false b h = cc
-
-or_right : (a b : Bool) → b ≡ true → (a || b) ≡ true
-or_right true b h = refl
-or_right false b h = h
-
-and_intro : (a b : Bool) → a ≡ true → b ≡ true → (a && b) ≡ true
-and_intro true b h k = k
-and_intro false b h k = cc
-
-checked_rest : (b : Bool) (s m : State) → cond b (Some s) None ≡ Some m → m.rest ≡ s.rest
-checked_rest true s m h = cc
-checked_rest false s m h = cc
-
--- an act that passes no token leaves the tokens
-keeps_rest : (bytes : List ℕ) (a : Act) (s m : State) → act_is_empty a ≡ true → acted bytes a s ≡ Some m → m.rest ≡ s.rest
-keeps_rest bytes (Pass k) s m e h = cc
-keeps_rest bytes Open s m e h = cc
-keeps_rest bytes Reopen s m e h = cc
-keeps_rest bytes Adopt s m e h = cc
-keeps_rest bytes CheckType s m e h = checked_rest (ends_in_type s.open_nodes) s m h
-keeps_rest bytes (Close k) s m e h = cc
 
 pass_begins : (k : TokenKind) (t : Token) (ts : List Token) (fs : List OpenNode) (m : State) → passed k (t ∷ ts) fs ≡ Some m → same_kind k t.kind ≡ true
 pass_begins k t ts fs m h = go (same_kind k t.kind) refl h
@@ -46,48 +21,7 @@ pass_begins k t ts fs m h = go (same_kind k t.kind) refl h
     go true e h = e
     go false e h = cc
 
-seq_starts : (a b c d f : Bool) → (a || (b && (c || (d && f)))) ≡ true → ((a || (b && c)) || ((b && d) && f)) ≡ true
-seq_starts true b c d f h = refl
-seq_starts false true true d f h = refl
-seq_starts false true false d f h = h
-seq_starts false false c d f h = h
-
-left_starts : (a b c d f : Bool) → (a || (b && f)) ≡ true → ((a || c) || ((b || d) && f)) ≡ true
-left_starts true b c d f h = refl
-left_starts false true true d f h = refl
-left_starts false true false d f h = h
-left_starts false false c d f h = cc
-
-right_starts : (a b c d f : Bool) → (c || (d && f)) ≡ true → ((a || c) || ((b || d) && f)) ≡ true
-right_starts true b c d f h = refl
-right_starts false b true d f h = refl
-right_starts false true false true f h = h
-right_starts false true false false f h = cc
-right_starts false false false d f h = h
-
-call_starts : (a b c d f : Bool) → (a ≡ true → c ≡ true) → (b ≡ true → d ≡ true) → (a || (b && f)) ≡ true → (c || (d && f)) ≡ true
-call_starts true b c d f p q h = rw (p refl) refl
-call_starts false true c d f p q h = or_right c (d && f) (and_intro d f (q refl) h)
-call_starts false false c d f p q h = cc
-
-again_starts : (a b f : Bool) → (a || (b && (a || f))) ≡ true → (a || f) ≡ true
-again_starts true b f h = refl
-again_starts false true f h = h
-again_starts false false f h = cc
-
-chosen_starts : (l n a b c d f : Bool) → l ≡ true → (a || (b && f)) ≡ true → (((l && a) || (n && c)) || ((b || d) && f)) ≡ true
-chosen_starts true n true b c d f e h = refl
-chosen_starts true n false true c d f e h = or_right (n && c) f h
-chosen_starts true n false false c d f e h = cc
-chosen_starts false n a b c d f e h = cc
-
-passed_by_starts : (l n a b c d f : Bool) → n ≡ true → (c || (d && f)) ≡ true → (((l && a) || (n && c)) || ((b || d) && f)) ≡ true
-passed_by_starts l true a b true d f e h = or_intro_left ((l && a) || true) ((b || d) && f) (or_right (l && a) true refl)
-passed_by_starts l true a b false true f e h = or_right ((l && a) || false) ((b || true) && f) (and_intro (b || true) f (or_right b true refl) h)
-passed_by_starts l true a b false false f e h = cc
-passed_by_starts l false a b c d f e h = cc
-
-looks_so : (a : Ahead) (t : Token) (ts : List Token) → looks a (t ∷ ts) ≡ true → may_look a t.kind ≡ true
+pub looks_so : (a : Ahead) (t : Token) (ts : List Token) → looks a (t ∷ ts) ≡ true → may_look a t.kind ≡ true
 looks_so (OneOf ks) t ts h = h
 looks_so (Both i j) t [] h = cc
 looks_so (Both i j) t (u ∷ us) h = (and_parts (same_kind i t.kind) (same_kind j u.kind) h).0
@@ -98,12 +32,12 @@ misses_so (Both i j) t ts h = refl
 
 module _ (N : Type 0) (P : N → RightSide N) (bytes : List ℕ) (T : Tables N) (right_tables : AreRight N P T) where
   act_starts : (a : Act) (gs : List (RightSide N)) (s m : State) (t : Token) (ts : List Token) → s.rest ≡ t ∷ ts → acted bytes a s ≡ Some m → ((m.rest ≡ t ∷ ts) → starts T gs t.kind ≡ true) → starts T (Do a ∷ gs) t.kind ≡ true
-  act_starts (Pass k) gs s m t ts r h later = or_intro_left (same_kind k t.kind) _ (pass_begins k t ts s.open_nodes m (let F : List Token → Type 0 = λ x. passed k x s.open_nodes ≡ Some m in rw r at h))
-  act_starts Open gs s m t ts r h later = later (let e = keeps_rest bytes Open s m refl h in cc)
-  act_starts Reopen gs s m t ts r h later = later (let e = keeps_rest bytes Reopen s m refl h in cc)
-  act_starts Adopt gs s m t ts r h later = later (let e = keeps_rest bytes Adopt s m refl h in cc)
-  act_starts CheckType gs s m t ts r h later = later (let e = keeps_rest bytes CheckType s m refl h in cc)
-  act_starts (Close k) gs s m t ts r h later = later (let e = keeps_rest bytes (Close k) s m refl h in cc)
+  act_starts (Pass k) gs s m t ts r h later = or_left (same_kind k t.kind) _ (pass_begins k t ts s.open_nodes m (let F : List Token → Type 0 = λ x. passed k x s.open_nodes ≡ Some m in rw r at h))
+  act_starts Open gs s m t ts r h later = later (let e = rest_kept bytes Open s m refl h in cc)
+  act_starts Reopen gs s m t ts r h later = later (let e = rest_kept bytes Reopen s m refl h in cc)
+  act_starts Adopt gs s m t ts r h later = later (let e = rest_kept bytes Adopt s m refl h in cc)
+  act_starts CheckType gs s m t ts r h later = later (let e = rest_kept bytes CheckType s m refl h in cc)
+  act_starts (Close k) gs s m t ts r h later = later (let e = rest_kept bytes (Close k) s m refl h in cc)
 
   -- what is read to the end of the tokens begins with a token that can start
   pub first_token : {gs : List (RightSide N)} {s e : State} → Reads N P bytes gs s e → (t : Token) (ts : List Token) → s.rest ≡ t ∷ ts → e.rest ≡ [] → starts T gs t.kind ≡ true
@@ -214,70 +148,19 @@ module _ (N : Type 0) (P : N → RightSide N) (bytes : List ℕ) (T : Tables N) 
   swap (passed_by {a = a} {g = g} {h = h} {gs = gs} {s = s} {e = e} w d) [] A B q f = f s e (subst (λ x. Reads N P bytes x s e) q (passed_by w d))
   swap (passed_by {a = a} {g = g} {h = h} {gs = gs} {s = s} {e = e} w d) (p ∷ ps) A B q f = let y : gs ≡ ps ++ A = cc in let x : When a g h ≡ p = cc in subst (λ z. Reads N P bytes (z ∷ (ps ++ B)) s e) x (passed_by w (swap d (h ∷ ps) A B (ap (λ z. h ∷ z) y) f))
 
-  -- with no token left, all that is read is empty
-  pub all_empty : List (RightSide N) → Bool
-  all_empty [] = true
-  all_empty (g ∷ gs) = is_empty T g && all_empty gs
-
-  call_empty : (a b c : Bool) → (a ≡ true → b ≡ true) → (a && c) ≡ true → (b && c) ≡ true
-  call_empty true b c f h = rw (f refl) h
-  call_empty false b c f h = cc
-
-  three_empty : (a b c : Bool) → (a && (b && c)) ≡ true → ((a && b) && c) ≡ true
-  three_empty true b c h = h
-  three_empty false b c h = cc
-
-  left_empty : (a b c : Bool) → (a && c) ≡ true → ((a || b) && c) ≡ true
-  left_empty true b c h = h
-  left_empty false b c h = cc
-
-  right_empty : (a b c : Bool) → (b && c) ≡ true → ((a || b) && c) ≡ true
-  right_empty true true c h = h
-  right_empty true false c h = cc
-  right_empty false b c h = h
-
-  act_empty : (a : Act) (s m : State) → s.rest ≡ [] → acted bytes a s ≡ Some m → (act_is_empty a ≡ true) × (m.rest ≡ [])
-  act_empty (Pass k) s m r h = absurd (let q = ap (λ x. passed k x s.open_nodes) r in cc)
-  act_empty Open s m r h = (refl, let k = keeps_rest bytes Open s m refl h in cc)
-  act_empty Reopen s m r h = (refl, let k = keeps_rest bytes Reopen s m refl h in cc)
-  act_empty Adopt s m r h = (refl, let k = keeps_rest bytes Adopt s m refl h in cc)
-  act_empty CheckType s m r h = (refl, let k = keeps_rest bytes CheckType s m refl h in cc)
-  act_empty (Close k) s m r h = (refl, let q = keeps_rest bytes (Close k) s m refl h in cc)
-
-  no_token : {gs : List (RightSide N)} {s e : State} → Reads N P bytes gs s e → s.rest ≡ [] → all_empty gs ≡ true
-  unfolding all_empty
-  no_token at_end r = refl
-  no_token (does {a = a} {s = s} {m = m} h d) r = let x = act_empty a s m r h in rw x.0 (no_token d x.1)
-  no_token (calls {n = n} {gs = gs} d) r = call_empty (is_empty T (P n)) (T.empty n) (all_empty gs) (right_tables.empty n) (no_token d r)
-  no_token (nothing d) r = no_token d r
-  no_token (in_turn {g = g} {h = h} {gs = gs} d) r = three_empty (is_empty T g) (is_empty T h) (all_empty gs) (no_token d r)
-  no_token (left {g = g} {h = h} {gs = gs} d) r = left_empty (is_empty T g) (is_empty T h) (all_empty gs) (no_token d r)
-  no_token (right {g = g} {h = h} {gs = gs} d) r = right_empty (is_empty T g) (is_empty T h) (all_empty gs) (no_token d r)
-  no_token (chosen {g = g} {h = h} {gs = gs} p d) r = left_empty (is_empty T g) (is_empty T h) (all_empty gs) (no_token d r)
-  no_token (passed_by {g = g} {h = h} {gs = gs} p d) r = right_empty (is_empty T g) (is_empty T h) (all_empty gs) (no_token d r)
-  no_token (done d) r = no_token d r
-  no_token (again {g = g} {gs = gs} d) r = (and_parts (is_empty T g) _ (no_token d r)).1
-
   -- two ways can't both be read
   apart : (x y : RightSide N) (gs : List (RightSide N)) (s e f : State) → ((k : TokenKind) → next_of T x (starts T gs) k ≡ true → next_of T y (starts T gs) k ≡ true → ⊥) → (is_empty T x ≡ true → is_empty T y ≡ true → ⊥) → Reads N P bytes (x ∷ gs) s e → Reads N P bytes (y ∷ gs) s f → e.rest ≡ [] → f.rest ≡ [] → ⊥
-  unfolding all_empty
   apart x y gs s e f never none d d' z z' = go s.rest refl
     where
       go : (r : List Token) → s.rest ≡ r → ⊥
-      go [] q = none (and_parts (is_empty T x) (all_empty gs) (no_token d q)).0 (and_parts (is_empty T y) (all_empty gs) (no_token d' q)).0
+      go [] q = none (and_parts (is_empty T x) (series_empty T gs) (empty_read N P bytes T right_tables d q)).0 (and_parts (is_empty T y) (series_empty T gs) (empty_read N P bytes T right_tables d' q)).0
       go (t ∷ ts) q = never t.kind (first_token d t ts q z) (first_token d' t ts q z')
 
   many_apart : (g : RightSide N) (gs : List (RightSide N)) (s e f : State) → Decided T (Many g) (starts T gs) → Reads N P bytes (g ∷ Many g ∷ gs) s e → Reads N P bytes gs s f → e.rest ≡ [] → f.rest ≡ [] → ⊥
-  unfolding all_empty
   many_apart g gs s e f ok d d' z z' = go s.rest refl
     where
-      begins_so : (a b c : Bool) → b ≡ false → (a || (b && c)) ≡ true → a ≡ true
-      begins_so true b c h k = refl
-      begins_so false true c h k = cc
-      begins_so false false c h k = k
-
       go : (r : List Token) → s.rest ≡ r → ⊥
-      go [] q = let y = (and_parts (is_empty T g) _ (no_token d q)).0 in let n = ok.2 in cc
+      go [] q = let y = (and_parts (is_empty T g) _ (empty_read N P bytes T right_tables d q)).0 in let n = ok.2 in cc
       go (t ∷ ts) q = ok.1 t.kind (begins_so (begins T g t.kind) (is_empty T g) _ ok.2 (first_token d t ts q z)) (first_token d' t ts q z')
 
   pub open_act : {a : Act} {gs : List (RightSide N)} {s m e : State} → acted bytes a s ≡ Some m → Reads N P bytes (Do a ∷ gs) s e → Reads N P bytes gs m e

@@ -1,5 +1,5 @@
--- Reading in two parts, and a common front.
-use Rattle.std.proofs.Common.{ℕ, ◌≡◌, List, [], ◌∷◌, ◌++◌, refl, subst, ap, ◌↔◌}
+-- Reading in two parts.
+use Rattle.std.proofs.Common.{ℕ, ◌≡◌, List, [], ◌∷◌, ◌++◌, subst, ap}
 use Rattle.go_tree.specs.Grammar.RightSide.{RightSide, Do, Call, Nothing, Seq, Or, Many, When}
 use Rattle.go_tree.specs.Grammar.Reading.{State, Reads, at_end, does, calls, nothing, in_turn, left, right, done, again, chosen, passed_by}
 
@@ -41,17 +41,6 @@ module _ (N : Type 0) (P : N → RightSide N) (bytes : List ℕ) where
   join (done c) d = done (join c d)
   join (again c) d = again (join c d)
 
-  -- a b | a c and a (b | c) read the same
-  pub common_front : (a b c : RightSide N) (gs : List (RightSide N)) (s e : State) → Reads N P bytes (Or (Seq a b) (Seq a c) ∷ gs) s e ↔ Reads N P bytes (Seq a (Or b c) ∷ gs) s e
-  common_front a b c gs s e = (ahead, back)
-    where
-      ahead : {s e : State} → Reads N P bytes (Or (Seq a b) (Seq a c) ∷ gs) s e → Reads N P bytes (Seq a (Or b c) ∷ gs) s e
-      ahead (left (in_turn d)) = let r = split d (a ∷ []) (b ∷ gs) refl in in_turn (join r.1 (left r.2))
-      ahead (right (in_turn d)) = let r = split d (a ∷ []) (c ∷ gs) refl in in_turn (join r.1 (right r.2))
-
-      chosen_back : {m : State} → Reads N P bytes (a ∷ []) s m → Reads N P bytes (Or b c ∷ gs) m e → Reads N P bytes (Or (Seq a b) (Seq a c) ∷ gs) s e
-      chosen_back x (left d) = left (in_turn (join x d))
-      chosen_back x (right d) = right (in_turn (join x d))
-
-      back : Reads N P bytes (Seq a (Or b c) ∷ gs) s e → Reads N P bytes (Or (Seq a b) (Seq a c) ∷ gs) s e
-      back (in_turn d) = let r = split d (a ∷ []) (Or b c ∷ gs) refl in chosen_back r.1 r.2
+module _ {N : Type 0} {P : N → RightSide N} {bytes : List ℕ} where
+  pub in_turn_of : {g h : RightSide N} {gs : List (RightSide N)} {s e : State} → Reads N P bytes (Seq g h ∷ gs) s e → Reads N P bytes (g ∷ h ∷ gs) s e
+  in_turn_of (in_turn d) = d

@@ -1,5 +1,6 @@
 -- The laws of the grammar.
 use Rattle.std.proofs.Common.{◌≡◌, ℕ, List, [], ◌∷◌, ◌++◌, Bool, true, false, refl, sym, ap, ◌∙◌, Some, None, ◌&&◌, cond, nat_lt}
+use Rattle.std.proofs.lemmas.Bool.{and_parts}
 use Rattle.go_tree.specs.declared.token.Token.{Token}
 use Rattle.go_tree.specs.declared.token.TokenKind.{TokenKind}
 use Rattle.go_tree.specs.declared.production.Production.{Production}
@@ -83,23 +84,19 @@ lead_reads (repeats d) more e r = again (lead_reads d more e r)
 lead_reads {s = s} (looks_so {a = a} w h d) more e r = chosen (settled a s.rest more w ∙ h) (lead_reads d more e r)
 lead_reads {s = s} (looks_not_so {a = a} w h d) more e r = passed_by (settled a s.rest more w ∙ h) (lead_reads d more e r)
 
-both : (a b : Bool) → (a && b) ≡ true → (a ≡ true) × (b ≡ true)
-both true b h = (refl, h)
-both false b h = cc
-
 -- and what is open stays held
 lead_held : {bytes : List ℕ} {gs hs : List (RightSide Production)} {s m : State} → Leads Production production bytes gs s hs m → Held texts top_rank gs → Held texts top_rank hs
 lead_held here d = d
 lead_held (acts {gs = gs} can h l) d = lead_held l (firm_held Production production [] texts top_rank gs d.1)
 lead_held (enters {n = n} l) d = lead_held l (texts_right.parts n, d.1)
 lead_held (skips {gs = gs} l) d = lead_held l (firm_held Production production [] texts top_rank gs d.1)
-lead_held (unfolds {g = g} {h = h} l) d = let b = both (holds texts top_rank g) (holds texts top_rank h && is_there (spell texts top_rank h)) d.0 in let c = both (holds texts top_rank h) (is_there (spell texts top_rank h)) b.1 in lead_held l (b.0, (c.0, c.1, d.1))
-lead_held (takes_left {g = g} {h = h} l) d = lead_held l ((both (holds texts top_rank g) (holds texts top_rank h) d.0).0, d.1)
-lead_held (takes_right {g = g} {h = h} l) d = lead_held l ((both (holds texts top_rank g) (holds texts top_rank h) d.0).1, d.1)
+lead_held (unfolds {g = g} {h = h} l) d = let b = and_parts (holds texts top_rank g) (holds texts top_rank h && is_there (spell texts top_rank h)) d.0 in let c = and_parts (holds texts top_rank h) (is_there (spell texts top_rank h)) b.1 in lead_held l (b.0, (c.0, c.1, d.1))
+lead_held (takes_left {g = g} {h = h} l) d = lead_held l ((and_parts (holds texts top_rank g) (holds texts top_rank h) d.0).0, d.1)
+lead_held (takes_right {g = g} {h = h} l) d = lead_held l ((and_parts (holds texts top_rank g) (holds texts top_rank h) d.0).1, d.1)
 lead_held (stops {gs = gs} l) d = lead_held l (firm_held Production production [] texts top_rank gs d.1)
 lead_held (repeats l) d = lead_held l (d.0, (d.0, refl, d.1))
-lead_held (looks_so {g = g} {h = h} w q l) d = lead_held l ((both (holds texts top_rank g) (holds texts top_rank h) d.0).0, d.1)
-lead_held (looks_not_so {g = g} {h = h} w q l) d = lead_held l ((both (holds texts top_rank g) (holds texts top_rank h) d.0).1, d.1)
+lead_held (looks_so {g = g} {h = h} w q l) d = lead_held l ((and_parts (holds texts top_rank g) (holds texts top_rank h) d.0).0, d.1)
+lead_held (looks_not_so {g = g} {h = h} w q l) d = lead_held l ((and_parts (holds texts top_rank g) (holds texts top_rank h) d.0).1, d.1)
 
 ranked : (n : Production) → nat_lt (rank n) top_rank ≡ true
 ranked (p.Exprs Plain) = refl

@@ -1,6 +1,11 @@
 pub mod Sentence
 pub mod Fronts
 pub mod Spans
+pub mod PlainLists
+pub mod PlainDeclarations
+pub mod PlainTypes
+pub mod PlainExpressions
+pub mod PlainStatements
 pub mod PlainLines
 pub mod File
 pub mod Declarations
@@ -19,3 +24,4 @@ pub mod Follow
 pub mod Completion
 pub mod Brief
 pub mod Rank
+pub mod Brackets

@@ -53,7 +53,7 @@ pub fn file_has_all_tokens()
     ensures { (bytes : List ℕ) (tokens : List Token) (t : Tree) → Derives bytes File tokens t → HasRun tokens t }
 {}
 
-/// Each production that is factored so that one token decides reads what its plain line reads.
+/// Lists, and each production that is factored so that one token decides, read what their plain lines read.
 #[tactic(auto, using(crate::proofs::PlainLineLemmas::plain_lines_lem))]
 pub fn factored_lines_are_plain()
     ensures { ReadPlainLines }

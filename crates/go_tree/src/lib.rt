@@ -25,4 +25,4 @@ pub use node::{File, Node, NodeId};
 pub use node_kind::NodeKind;
 pub use production::{Clauses, Form, Items, Production};
 pub use token::{Token, TokenKind};
-pub use token_height::height;
+pub use token_height::{Role, height};
