@@ -1,0 +1,319 @@
+#!/usr/bin/env python3
+"""Writes the grammar's right sides as lines of steps, and the weight of each production.
+
+usage: bench/lines.py [--check]
+
+Reads the productions of crates/go_tree: their names in src/production.rt, their right sides in
+specs/Grammar (Words, File, Declarations, Types, Expressions, Statements, Sentence). Writes in
+crates/go_parse_x: src/file_lines.rt, src/declaration_lines.rt, src/type_lines.rt, src/expression_lines.rt,
+src/statement_lines.rt, src/lines.rt, and the table `weight` in specs/Weights.antt. With --check it writes
+nothing, and ends with status 1 where a file is not as it would write it.
+
+Nothing here is trusted: that each line stands for its production, and that the weights fall, is proved.
+"""
+import re
+import sys
+from collections import Counter
+from functools import lru_cache
+from pathlib import Path
+
+CRATES = Path(__file__).resolve().parent.parent / 'crates'
+GRAMMAR = CRATES / 'go_tree' / 'specs' / 'Grammar'
+PARSER = CRATES / 'go_parse_x'
+READ = ['Words', 'File', 'Declarations', 'Types', 'Expressions', 'Statements', 'Sentence']
+SECTIONS = ['file', 'declaration', 'type', 'expression', 'statement']
+STRENGTH = {'•': 30, '∷': 30, 'or': 20}
+WORD = re.compile(r'\s*(\[\]|[()•∷=]|[A-Za-z_][\w.]*)\s*')
+WIDTH = 100
+
+
+# Terms of the grammar's language: a name, and then the terms that it stands before.
+
+def words_of(text):
+    words, at = [], 0
+    while at < len(text):
+        word = WORD.match(text, at)
+        if not word:
+            return []
+        words.append(word.group(1))
+        at = word.end()
+    return words
+
+
+def read_term(words, strength=0):
+    """Takes a term from the front of the words; both operators group to the right."""
+    left = read_application(words)
+    while words and STRENGTH.get(words[0], -1) >= strength:
+        operator = words.pop(0)
+        left = (operator, left, read_term(words, STRENGTH[operator]))
+    return left
+
+
+def read_application(words):
+    parts = []
+    while words and words[0] not in STRENGTH and words[0] != ')':
+        word = words.pop(0)
+        if word == '(':
+            parts.append(read_term(words))
+            words.pop(0)
+        else:
+            parts.append((word.split('.')[-1],))
+    return parts[0] + tuple(parts[1:])
+
+
+def equations_in(text):
+    """The equations of a file, each on one line."""
+    for line in re.sub(r'\n    +', ' ', text).split('\n'):
+        words = words_of(line)
+        if '=' in words and words[0] not in ('use', 'abbrev', 'pub'):
+            middle = words.index('=')
+            left, right = words[:middle], words[middle + 1:]
+            yield read_term(left), read_term(right)
+
+
+def read_equations():
+    equations = {}
+    for name in READ:
+        for left, right in equations_in((GRAMMAR / f'{name}.antt').read_text()):
+            equations.setdefault(left[0], []).append((left[1:], right))
+    return equations
+
+
+EQUATIONS = read_equations()
+
+
+def is_variable(pattern):
+    return len(pattern) == 1 and (pattern[0][0].islower() or pattern[0] == '_')
+
+
+def matches(pattern, value, values):
+    if is_variable(pattern):
+        values[pattern[0]] = value
+        return True
+    if pattern[0] != value[0] or len(pattern) != len(value):
+        return False
+    return all(matches(p, v, values) for p, v in zip(pattern[1:], value[1:]))
+
+
+def apply(name, arguments):
+    for patterns, right in EQUATIONS[name]:
+        values = {}
+        if all(matches(p, v, values) for p, v in zip(patterns, arguments)):
+            return value_of(right, values)
+    raise ValueError(f'{name}: no equation')
+
+
+def value_of(term, values):
+    if term[0] in values:
+        return values[term[0]]
+    arguments = [value_of(part, values) for part in term[1:]]
+    if term[0] in EQUATIONS:
+        return apply(term[0], arguments)
+    return (term[0], *arguments)
+
+
+# Productions.
+
+def variants(text, name):
+    body = re.search(rf'pub enum {name} {{(.*?)\n}}', text, re.S).group(1)
+    return re.findall(r'^    (\w+)(?:\((\w+)\))?,', body, re.M)
+
+
+def read_productions():
+    """The productions, and the type of what the name of each is followed by."""
+    text = (CRATES / 'go_tree' / 'src' / 'production.rt').read_text()
+    productions = {}
+    for name, of in variants(text, 'Production'):
+        arguments = [((part,),) for part, _ in variants(text, of)] if of else [()]
+        productions.update({(name, *argument): of for argument in arguments})
+    return productions
+
+
+PRODUCTIONS = read_productions()
+
+
+@lru_cache(None)
+def right_side(production):
+    return apply('production', [production])
+
+
+def section_of(production):
+    """The section with a line for the production."""
+    for section in SECTIONS:
+        for (pattern,), _ in EQUATIONS[f'{section}_line']:
+            if not is_variable(pattern) and matches(pattern, production, {}):
+                return section
+    raise ValueError(f'{production[0]}: no line')
+
+
+def parts_of(side):
+    """The right sides that one is made of."""
+    return {'Seq': side[1:], 'Or': side[1:], 'Many': side[1:], 'When': side[2:]}.get(side[0], ())
+
+
+def is_empty(side):
+    empty = [is_empty(part) for part in parts_of(side)]
+    if side[0] == 'Do':
+        return side[1][0] != 'Pass'
+    if side[0] == 'Call':
+        return apply('can_be_empty', [side[1]])[0] == 'true'
+    return all(empty) if side[0] == 'Seq' else side[0] in ('Nothing', 'Many') or any(empty)
+
+
+@lru_cache(None)
+def weight(production):
+    return 1 + weigh(right_side(production))
+
+
+def weigh(side):
+    if side[0] == 'Call':
+        return weight(side[1])
+    parts = parts_of(side)
+    if side[0] == 'Seq' and not is_empty(parts[0]):
+        parts = parts[:1]
+    return 1 + sum(map(weigh, parts))
+
+
+# Steps.
+
+def asked_of(ahead):
+    known = {('OneOf', ('∷', ('LeftBrace',), ('[]',))): 'Brace',
+             ('OneOf', ('∷', ('LeftBracket',), ('[]',))): 'Bracket',
+             ('OneOf', apply('result_starts', [])): 'Result',
+             ('Both', ('Dot',), ('Ident',)): 'Qualifier',
+             ('Both', ('Arrow',), ('KwChan',)): 'Receive'}
+    return known[ahead]
+
+
+def plain(term):
+    return ' '.join([term[0], *map(plain, term[1:])])
+
+
+def steps_of(side):
+    if side[0] in ('Do', 'Call', 'Nothing'):
+        return [plain(side).removeprefix('Do ')]
+    parts = [steps_of(part) for part in parts_of(side)]
+    numbers = [str(len(parts[0]))] if len(parts) == 2 else []
+    asked = [asked_of(side[1])] if side[0] == 'When' else []
+    return [' '.join([side[0], *asked, *numbers]), *sum(parts, [])]
+
+
+# Files.
+
+def constant_of(production):
+    return re.sub(r'(?<=[a-z])(?=[A-Z])| ', '_', plain(production)).upper()
+
+
+def rows_of(steps):
+    rows, row = [], '   '
+    for step in steps:
+        if len(row) + len(step) + 2 > WIDTH:
+            rows.append(row)
+            row = '   '
+        row += f' {step},'
+    return [*rows, row]
+
+
+def line_text(production):
+    rows = '\n'.join(rows_of(steps_of(right_side(production))))
+    return f'/// {plain(production)}\npub const {constant_of(production)}: &[Step] = line![\n{rows}\n];\n'
+
+
+IMPORTS = [('crate::line::', ['Asked', 'Step']), ('crate::line_words::', ['line']),
+           ('go_tree::', ['Clauses', 'Form', 'Items', 'NodeKind', 'Production', 'TokenKind'])]
+
+
+def names_in(steps):
+    """The types that the steps are written with."""
+    words = {step.split()[0] for step in steps}
+    names = {'Step', 'line', *(PRODUCTIONS[p] for p in PRODUCTIONS if f'Call {plain(p)}' in steps)}
+    kinds = {'Pass': 'TokenKind', 'Close': 'NodeKind', 'Call': 'Production', 'When': 'Asked'}
+    return names | {kinds[word] for word in words & kinds.keys()}
+
+
+def import_lines(names):
+    for path, known in IMPORTS:
+        used = [name for name in known if name in names]
+        if used:
+            yield f'use {path}{{{", ".join(used)}}};' if len(used) > 1 else f'use {path}{used[0]};'
+
+
+def section_text(section):
+    own = [p for p in PRODUCTIONS if section_of(p) == section]
+    steps = sum((steps_of(right_side(p)) for p in own), [])
+    imports = '\n'.join(import_lines(names_in(steps)))
+    title = f'// Lines of the productions of `{section}_line`. Written by bench/lines.py.'
+    return '\n'.join([title, imports, '', '\n'.join(map(line_text, own))])
+
+
+def arm_of(production):
+    of = ''.join(f'({PRODUCTIONS[production]}::{part[0]})' for part in production[1:])
+    return f'        Production::{production[0]}{of} => {section_of(production)}_lines::{constant_of(production)},'
+
+
+def arms_text():
+    modules = ', '.join(sorted(f'{section}_lines' for section in SECTIONS))
+    return LINES.replace('MODULES', modules).replace('ARMS', '\n'.join(map(arm_of, PRODUCTIONS)))
+
+
+LINES = """\
+// The line of each production. Written by bench/lines.py.
+ghost use Rattle.std.specs.Prelude.{◌≡◌};
+ghost use Rattle.go_tree.specs.Grammar.Sentence.{production};
+ghost use Rattle.go_parse_x.specs.Lines.{side_at};
+
+use crate::line::Step;
+use crate::{MODULES};
+use go_tree::{Clauses, Form, Items, Production};
+
+/// The steps of a production's right side.
+pub fn line_of(n: Production) -> &'static [Step]
+    ensures { side_at result.now 0 ≡ production n }
+{
+    match n {
+ARMS
+    }
+}
+"""
+
+
+def weight_patterns():
+    """Patterns of productions with their weights; those that differ by an argument alone are one."""
+    by_name = {}
+    for production in PRODUCTIONS:
+        by_name.setdefault(production[0], []).append(production)
+    for name, own in by_name.items():
+        if len(own) > 1 and len({weight(production) for production in own}) == 1:
+            yield f'(p.{name} _)', weight(own[0])
+        else:
+            for production in own:
+                yield f'(p.{plain(production)})' if production[1:] else f'p.{name}', weight(production)
+
+
+def weights_text():
+    text = (PARSER / 'specs' / 'Weights.antt').read_text()
+    patterns = list(weight_patterns())
+    common = Counter(value for _, value in patterns).most_common(1)[0][0]
+    rows = [f'weight {pattern} = {value}\n' for pattern, value in patterns if value != common]
+    table = ''.join([*rows, f'weight _ = {common}\n'])
+    head = 'abbrev pub weight : Production → ℕ\n'
+    return re.sub(rf'{head}(weight .*\n)*', lambda _: head + table, text)
+
+
+def main():
+    texts = {f'src/{section}_lines.rt': section_text(section) for section in SECTIONS}
+    texts['src/lines.rt'] = arms_text()
+    texts['specs/Weights.antt'] = weights_text()
+    differs = False
+    for name, text in texts.items():
+        path = PARSER / name
+        if '--check' not in sys.argv[1:]:
+            path.write_text(text)
+        elif not path.exists() or path.read_text() != text:
+            print(f'{path}: not as the grammar has it')
+            differs = True
+    return 1 if differs else 0
+
+
+if __name__ == '__main__':
+    sys.exit(main())

@@ -1,0 +1,175 @@
+-- The end of a file is read in a file alone: no other production passes it.
+use Rattle.std.proofs.Common.{◌≡◌, ℕ, Bool, true, false, not, List, [], ◌∷◌, ◌++◌, ◌==◌, refl, sym, ap, subst, ◌∙◌, Some, ◌||◌, ◌&&◌}
+use Rattle.std.proofs.lemmas.Bool.{and_parts, eqb-true}
+use Rattle.go_tree.specs.declared.token.Token.{Token}
+use Rattle.go_tree.specs.declared.token.TokenKind.{TokenKind}
+use Rattle.go_tree.specs.declared.token.TokenKind.TheVariants.{End}
+use Rattle.go_tree.specs.declared.production.Form.TheVariants.{Plain, Header}
+use Rattle.go_tree.specs.declared.production.Items.TheVariants.{ImportSpecs, ConstSpecs, VarSpecs, TypeSpecs, TypeParamGroups, Types, Parameters, Fields, Elems, Indexes, Elements}
+use Rattle.go_tree.specs.declared.production.Clauses.TheVariants.{Cases, Comms}
+use Rattle.go_tree.specs.declared.production.Production.{Production}
+use Rattle.go_tree.specs.declared.production.Production.TheVariants as p
+use Rattle.go_tree.specs.Tree.{Tree}
+use Rattle.go_tree.specs.Grammar.RightSide.{RightSide, Do, Call, Nothing, Seq, Or, Many, When, Act, Pass, Open, Reopen, Adopt, CheckType, Close}
+use Rattle.go_tree.specs.Grammar.TokenKinds.{code, same_kind}
+use Rattle.go_tree.specs.Grammar.Reading.{State, at_end, does, calls, nothing, in_turn, left, right, done, again, chosen, passed_by, acted}
+use Rattle.go_tree.specs.Grammar.Sentence.{production, ReadsGo, Derives}
+use Rattle.go_tree.proofs.EmptyLemmas.{rest_kept}
+use Rattle.go_tree.proofs.ReadingStepLemmas.{passes}
+
+abbrev pub is_file : Production → Bool
+is_file p.File = true
+is_file _ = false
+
+-- the end of the file is not passed here
+abbrev pub is_endless : RightSide Production → Bool
+is_endless (Do (Pass k)) = not (same_kind End k)
+is_endless (Do _) = true
+is_endless (Call n) = not (is_file n)
+is_endless Nothing = true
+is_endless (Seq g h) = is_endless g && is_endless h
+is_endless (Or g h) = is_endless g && is_endless h
+is_endless (Many g) = is_endless g
+is_endless (When a g h) = is_endless g && is_endless h
+
+abbrev pub all_endless : List (RightSide Production) → Bool
+all_endless [] = true
+all_endless (g ∷ gs) = is_endless g && all_endless gs
+
+abbrev has_end : List Token → Bool
+has_end [] = false
+has_end (t ∷ ts) = same_kind End t.kind || has_end ts
+
+each_endless : (n : Production) → (is_file n || is_endless (production n)) ≡ true
+each_endless (p.Exprs Plain) = refl
+each_endless (p.Exprs Header) = refl
+each_endless (p.More ImportSpecs) = refl
+each_endless (p.More ConstSpecs) = refl
+each_endless (p.More VarSpecs) = refl
+each_endless (p.More TypeSpecs) = refl
+each_endless (p.More TypeParamGroups) = refl
+each_endless (p.More Types) = refl
+each_endless (p.More Parameters) = refl
+each_endless (p.More Fields) = refl
+each_endless (p.More Elems) = refl
+each_endless (p.More Indexes) = refl
+each_endless (p.More Elements) = refl
+each_endless (p.Expr Plain) = refl
+each_endless (p.Expr Header) = refl
+each_endless (p.OrTail Plain) = refl
+each_endless (p.OrTail Header) = refl
+each_endless (p.Conjunction Plain) = refl
+each_endless (p.Conjunction Header) = refl
+each_endless (p.AndTail Plain) = refl
+each_endless (p.AndTail Header) = refl
+each_endless (p.Comparison Plain) = refl
+each_endless (p.Comparison Header) = refl
+each_endless (p.CompareTail Plain) = refl
+each_endless (p.CompareTail Header) = refl
+each_endless (p.Sum Plain) = refl
+each_endless (p.Sum Header) = refl
+each_endless (p.AddTail Plain) = refl
+each_endless (p.AddTail Header) = refl
+each_endless (p.Product Plain) = refl
+each_endless (p.Product Header) = refl
+each_endless (p.MulTail Plain) = refl
+each_endless (p.MulTail Header) = refl
+each_endless (p.Unary Plain) = refl
+each_endless (p.Unary Header) = refl
+each_endless (p.Simple Plain) = refl
+each_endless (p.Simple Header) = refl
+each_endless (p.AfterExpr Plain) = refl
+each_endless (p.AfterExpr Header) = refl
+each_endless (p.SimpleTail Plain) = refl
+each_endless (p.SimpleTail Header) = refl
+each_endless (p.Clause Cases) = refl
+each_endless (p.Clause Comms) = refl
+each_endless (p.ClauseBody Cases) = refl
+each_endless (p.ClauseBody Comms) = refl
+each_endless (p.AfterClauseStmt Cases) = refl
+each_endless (p.AfterClauseStmt Comms) = refl
+each_endless _ = refl
+
+of_call : (b e a : Bool) → (b || e) ≡ true → (not b && a) ≡ true → (e && a) ≡ true
+of_call true e a h w = cc
+of_call false true a h w = w
+of_call false false a h w = cc
+
+of_seq : (a b c : Bool) → ((a && b) && c) ≡ true → (a && (b && c)) ≡ true
+of_seq true b c w = w
+of_seq false b c w = cc
+
+of_left : (a b c : Bool) → ((a && b) && c) ≡ true → (a && c) ≡ true
+of_left true true c w = w
+of_left true false c w = cc
+of_left false b c w = cc
+
+of_right : (a b c : Bool) → ((a && b) && c) ≡ true → (b && c) ≡ true
+of_right true b c w = w
+of_right false b c w = cc
+
+of_again : (a c : Bool) → (a && c) ≡ true → (a && (a && c)) ≡ true
+of_again true c w = w
+of_again false c w = cc
+
+not_so : (b : Bool) → not b ≡ true → b ≡ false
+not_so true h = cc
+not_so false h = refl
+
+-- a token of another kind is passed
+other_kind : (k j : TokenKind) → same_kind End k ≡ false → same_kind k j ≡ true → same_kind End j ≡ false
+other_kind k j h w = ap (λ n. code End == n) (sym (eqb-true (code k) (code j) w)) ∙ h
+
+there_still : (b c : Bool) → b ≡ false → (b || c) ≡ true → c ≡ true
+there_still true c h w = cc
+there_still false c h w = w
+
+module _ (bytes : List ℕ) where
+  token_kept : (k : TokenKind) (s m : State) → same_kind End k ≡ false → acted bytes (Pass k) s ≡ Some m → has_end s.rest ≡ true → has_end m.rest ≡ true
+  token_kept k s m n h r =
+      let x = passes bytes k s m h in
+      there_still (same_kind End x.token.kind) (has_end m.rest) (other_kind k x.token.kind n x.kind) (subst (λ ts. has_end ts ≡ true) x.row r)
+
+  same_rest : (s m : State) → m.rest ≡ s.rest → has_end s.rest ≡ true → has_end m.rest ≡ true
+  same_rest s m q r = subst (λ ts. has_end ts ≡ true) (sym q) r
+
+  act_kept : (a : Act) (s m : State) → is_endless (Do a) ≡ true → acted bytes a s ≡ Some m → has_end s.rest ≡ true → has_end m.rest ≡ true
+  act_kept (Pass k) s m w h r = token_kept k s m (not_so (same_kind End k) w) h r
+  act_kept Open s m w h r = same_rest s m (rest_kept bytes Open s m refl h) r
+  act_kept Reopen s m w h r = same_rest s m (rest_kept bytes Reopen s m refl h) r
+  act_kept Adopt s m w h r = same_rest s m (rest_kept bytes Adopt s m refl h) r
+  act_kept CheckType s m w h r = same_rest s m (rest_kept bytes CheckType s m refl h) r
+  act_kept (Close k) s m w h r = same_rest s m (rest_kept bytes (Close k) s m refl h) r
+
+  end_stays : {gs : List (RightSide Production)} {s e : State} → ReadsGo bytes gs s e → all_endless gs ≡ true → has_end s.rest ≡ true → has_end e.rest ≡ true
+  end_stays at_end w r = r
+  end_stays (does {a = a} {gs = gs} {s = s} {m = m} h d) w r =
+      let x = and_parts (is_endless (Do a)) (all_endless gs) w in end_stays d x.1 (act_kept a s m x.0 h r)
+  end_stays (calls {n = n} {gs = gs} d) w r =
+      end_stays d (of_call (is_file n) (is_endless (production n)) (all_endless gs) (each_endless n) w) r
+  end_stays (nothing d) w r = end_stays d w r
+  end_stays (in_turn {g = g} {h = h} {gs = gs} d) w r = end_stays d (of_seq (is_endless g) (is_endless h) (all_endless gs) w) r
+  end_stays (left {g = g} {h = h} {gs = gs} d) w r = end_stays d (of_left (is_endless g) (is_endless h) (all_endless gs) w) r
+  end_stays (right {g = g} {h = h} {gs = gs} d) w r = end_stays d (of_right (is_endless g) (is_endless h) (all_endless gs) w) r
+  end_stays (chosen {g = g} {h = h} {gs = gs} l d) w r = end_stays d (of_left (is_endless g) (is_endless h) (all_endless gs) w) r
+  end_stays (passed_by {g = g} {h = h} {gs = gs} l d) w r = end_stays d (of_right (is_endless g) (is_endless h) (all_endless gs) w) r
+  end_stays (done {g = g} {gs = gs} d) w r = end_stays d (and_parts (is_endless g) (all_endless gs) w).1 r
+  end_stays (again {g = g} {gs = gs} d) w r = end_stays d (of_again (is_endless g) (all_endless gs) w) r
+
+end_there : (front more : List Token) (t : Token) → t.kind ≡ End → has_end (front ++ t ∷ more) ≡ true
+end_there [] more t h = rw h refl
+end_there (x ∷ front) more t h = rw (end_there front more t h) (either_way (same_kind End x.kind))
+  where
+    either_way : (b : Bool) → (b || true) ≡ true
+    either_way true = refl
+    either_way false = refl
+
+call_endless : (n : Production) → is_file n ≡ false → all_endless (Call n ∷ []) ≡ true
+call_endless n h = rw h refl
+
+-- what another production derives has no end of the file
+pub no_end_read : (bytes : List ℕ) (n : Production) → is_file n ≡ false → (front more : List Token) (t : Token) (u : Tree) → t.kind ≡ End → Derives bytes n (front ++ t ∷ more) u → ⊥
+no_end_read bytes n f front more t u h d =
+    let x = end_stays bytes d.whole.reads (call_endless n f) (end_there front more t h) in
+    let y = subst (λ ts. has_end ts ≡ true) d.whole.all x in
+    cc

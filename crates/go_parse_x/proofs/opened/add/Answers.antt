@@ -1,0 +1,16 @@
+use Rattle.std.proofs.Common.{◌≡◌, ◌++◌, refl, sym, subst}
+use Rattle.std.proofs.lemmas.List.{append_assoc, append-nil}
+use Rattle.go_tree.specs.Tree.{tree_of}
+use Rattle.go_parse_x.specs.Opened.{numbers, numbers_in, Rises}
+use Rattle.go_parse_x.proofs.OpenedLemmas.{numbers_push, numbers_among_push, Rises-append, Rises-below, Rises-higher}
+use Rattle.go_parse_x.proofs.opened.add.Goals as goal
+
+pub returns-in_default-clause-numbers : goal.returns-in_default-clause-numbers
+returns-in_default-clause-numbers c = λ low middle next h k.
+    let same : numbers c.args.opened.now.items ≡ numbers c.pop.new.self.items = simp (c.in_default.ensures.items, append-nil) refl in
+    subst (λ ns. Rises low ns next) same (Rises-higher low (numbers c.args.opened.now.items) middle next (Rises-below middle (numbers_in (tree_of c.args.node)) next k) h)
+
+pub returns-clause-numbers : goal.returns-clause-numbers
+returns-clause-numbers c = λ low middle next h k.
+    let more : numbers c.push-2.new.self.items ≡ numbers c.args.opened.now.items ++ numbers_in (tree_of c.args.node) = simp (c.in-Some.ensures.items, c.in_ok-push-2.ensures.items, c.in_ok-push.ensures.items, numbers_push, numbers_among_push, append_assoc) refl in
+    subst (λ ns. Rises low ns next) (sym more) (Rises-append low middle next (numbers c.args.opened.now.items) (numbers_in (tree_of c.args.node)) h k)

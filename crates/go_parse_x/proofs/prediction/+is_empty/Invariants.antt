@@ -1,0 +1,6 @@
+use Rattle.go_parse_x.specs.Lines.{side}
+use Rattle.go_parse_x.specs.Sizes.{size}
+use Rattle.go_parse_x.proofs.prediction.+is_empty.Given as goal
+
+abbrev pub decreases-is_empty : goal.decreases-is_empty
+decreases-is_empty l = size (side l.place.now)

@@ -1,0 +1,14 @@
+pub mod Lines
+pub mod Shapes
+pub mod Sizes
+pub mod KindSets
+pub mod Opened
+pub mod TypeParts
+pub mod Heights
+pub mod Weights
+pub mod Turns
+pub mod Ends
+pub mod Texts
+pub mod Pieces
+pub mod Answers
+pub mod Steps

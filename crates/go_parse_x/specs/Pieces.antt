@@ -1,0 +1,112 @@
+-- Pieces: what is read as one, and what is known while it is read.
+use Rattle.std.specs.Prelude.{ℕ, ◌≡◌, ◌≤◌, true, false, List, [], ◌∷◌, ◌++◌, Option, None, Some, if◌then◌else◌}
+use Rattle.go_tree.specs.declared.token.Token.{Token}
+use Rattle.go_tree.specs.declared.token.TokenKind.{TokenKind}
+use Rattle.go_tree.specs.declared.token.TokenKind.TheVariants.{LeftBrace}
+use Rattle.go_tree.specs.declared.production.Form.TheVariants as form
+use Rattle.go_tree.specs.declared.production.Production.{Production}
+use Rattle.go_tree.specs.declared.production.Production.TheVariants as p
+use Rattle.go_tree.specs.Height.{height_of}
+use Rattle.go_tree.specs.Scan.{IsNext}
+use Rattle.go_tree.specs.Grammar.RightSide.{RightSide, Call}
+use Rattle.go_tree.specs.Grammar.Reading.{State, OpenNode, before}
+use Rattle.go_tree.specs.Grammar.Brackets.{through_all, standing}
+use Rattle.go_tree.specs.Grammar.Sentence.{production, ReadsGo, Begins}
+use Rattle.go_parse_x.specs.declared.heights.Heights.{Heights}
+use Rattle.go_parse_x.specs.declared.reading.Reading.{Reading}
+use Rattle.go_parse_x.specs.declared.reading.Reading.TheVariants.{Plain, Header, TypeOnly, Signature, Params, TypeParams}
+use Rattle.go_parse_x.specs.declared.pending.Pending.{Pending}
+use Rattle.go_parse_x.specs.Lines.{sides}
+use Rattle.go_parse_x.specs.Opened.{frames, numbers, Rises}
+use Rattle.go_parse_x.specs.Heights.{Counts}
+use Rattle.go_parse_x.specs.Turns.{at, is_asked, IsAsSeen, IsSound, IsSolid, IsFull}
+use Rattle.go_parse_x.specs.Texts.{IsBehind}
+
+-- the production that is read
+abbrev pub piece : Reading → Production
+piece Plain = p.Expr form.Plain
+piece Header = p.Expr form.Header
+piece TypeOnly = p.AnyType
+piece Signature = p.Signature
+piece Params = p.Params
+piece TypeParams = p.TypeParams
+
+-- no token has a height past what is free
+abbrev pub AllFit : ℕ → List Token → Type 0
+AllFit free tokens = (front rest : List Token) → tokens ≡ front ++ rest → height_of front ≤ free
+
+-- behind the tokens, gs reads what makes an n of them, where what follows is as it was assumed
+pub record HasRead (bytes : List ℕ) (n : Production) (front : List Token) (assumed : Option TokenKind) (gs : List (RightSide Production)) (last : ℕ) (fs : List OpenNode) : Type 0 where
+  pub there : (ts : List Token) (e : State) → IsAsSeen assumed ts → e.rest ≡ [] → ReadsGo bytes (Call n ∷ []) (before (front ++ ts)) e → ReadsGo bytes gs (at last ts fs) e
+  pub back : (ts : List Token) (e : State) → IsAsSeen assumed ts → e.rest ≡ [] → ReadsGo bytes gs (at last ts fs) e → ReadsGo bytes (Call n ∷ []) (before (front ++ ts)) e
+
+-- a piece as the definitions see it
+pub record View : Type 0 where
+  -- what is read, and the greatest height that is free
+  pub n : Production
+  pub free : ℕ
+  -- what is still to be read, and where the last token ended
+  pub rest : List (RightSide Production)
+  pub last : ℕ
+  pub nodes : List OpenNode
+  -- the heights of the tokens so far, and the numbers of the nodes so far
+  pub heights : Heights
+  pub numbers : List ℕ
+
+-- one of which something is read
+abbrev pub open_view : Pending → View
+open_view p = record { n = piece p.reading; free = p.free; rest = sides p.todo.items; last = p.last; nodes = frames p.opened.items; heights = p.heights; numbers = numbers p.opened.items }
+
+-- one of which nothing is read
+abbrev pub new_view : Pending → View
+new_view p = record { n = piece p.reading; free = p.free; rest = production (piece p.reading) ∷ []; last = 0; nodes = record { start = 0; parts = [] } ∷ []; heights = p.heights; numbers = [] }
+
+abbrev pub view_of : Pending → View
+view_of p = if p.begun then open_view p else new_view p
+
+-- nothing is read
+pub record IsNew (p : Pending) : Type 0 where
+  pub begun : p.begun ≡ false
+  pub awaits : p.awaits ≡ false
+  pub counts : Counts p.heights []
+
+-- what was assumed was asked for by the last token
+abbrev pub IsAsked : Option TokenKind → Option TokenKind → Type 0
+IsAsked None last = Unit {0}
+IsAsked (Some assumed) last = (kind : TokenKind) × (last ≡ Some kind) × (is_asked kind ≡ true)
+
+-- these tokens of the piece were read, up to the place `to` where one of the kind `kind` stands before; its nodes have
+-- numbers from `low` up to `number`
+pub record IsOpen (bytes : List ℕ) (v : View) (front : List Token) (low number to : ℕ) (kind : Option TokenKind) : Type 0 where
+  pub assumed : Option TokenKind
+  pub reads : HasRead bytes v.n front assumed v.rest v.last v.nodes
+  pub solid : IsSolid v.rest
+  pub begins : Begins bytes v.n front
+  pub asked : IsAsked assumed kind
+  pub next : (t : Token) → IsNext bytes to kind t → IsAsSeen assumed (t ∷ [])
+  pub level : ℕ
+  pub levels : through_all standing v.rest level ≡ Some 0
+  pub fit : AllFit v.free front
+  pub counts : Counts v.heights front
+  pub full : IsFull v.nodes
+  pub rises : Rises low v.numbers number
+  pub behind : IsBehind front to kind
+
+-- the same where the next token opens the block of a function literal, which is handed over
+pub record IsAwaiting (bytes : List ℕ) (v : View) (front : List Token) (low number to : ℕ) (kind : Option TokenKind) : Type 0 where
+  pub brace : Token
+  pub next : IsNext bytes to kind brace
+  pub is_brace : brace.kind ≡ LeftBrace
+  pub rest : List (RightSide Production)
+  pub block : v.rest ≡ Call p.Block ∷ rest
+  pub there : (ts : List Token) (e : State) → e.rest ≡ [] → ReadsGo bytes (Call v.n ∷ []) (before (front ++ brace ∷ ts)) e → ReadsGo bytes v.rest (at v.last (brace ∷ ts) v.nodes) e
+  pub back : (ts : List Token) (e : State) → e.rest ≡ [] → ReadsGo bytes v.rest (at v.last (brace ∷ ts) v.nodes) e → ReadsGo bytes (Call v.n ∷ []) (before (front ++ brace ∷ ts)) e
+  pub sound : IsSound v.rest
+  pub begins : Begins bytes v.n (front ++ brace ∷ [])
+  pub level : ℕ
+  pub levels : through_all standing v.rest level ≡ Some 0
+  pub fit : AllFit v.free (front ++ brace ∷ [])
+  pub counts : Counts v.heights front
+  pub full : IsFull v.nodes
+  pub rises : Rises low v.numbers number
+  pub behind : IsBehind front to kind

@@ -1,0 +1,51 @@
+//! The parser of pieces: expressions, types, signatures, parameters and type parameters.
+//!
+//! `reader` reads a piece token by token, `counting` its heights, `cursor` is the place in the text. A
+//! machine with an explicit stack does the reading: `machine` makes one step, `settle` all steps up to
+//! a token, `finish` those where no token is left, over the productions as flat tables (`lines`). The
+//! grammar is a definition of go_tree. The block of a function literal is read by the caller and
+//! handed in (`giving`): this crate knows nothing of statements.
+#![tactic(auto)]
+
+// What a call reads, and what it answers.
+mod counting;
+mod cursor;
+mod fault;
+mod giving;
+mod parsed;
+mod pending;
+mod progress;
+mod reader;
+mod reading;
+
+// The machine.
+mod acts;
+mod closing;
+mod finish;
+mod heights;
+mod machine;
+mod opened;
+mod prediction;
+mod seen;
+mod settle;
+mod type_tree;
+
+// The grammar as tables.
+mod declaration_lines;
+mod expression_lines;
+mod file_lines;
+mod firsts;
+mod kind_sets;
+mod line;
+mod line_words;
+mod lines;
+mod place;
+mod statement_lines;
+mod type_lines;
+
+pub use cursor::Cursor;
+pub use fault::ParseFault;
+pub use parsed::Parsed;
+pub use pending::Pending;
+pub use reader::parse_expr;
+pub use reading::Reading;
