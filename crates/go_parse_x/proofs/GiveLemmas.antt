@@ -1,5 +1,5 @@
 -- A block that is handed in.
-use Rattle.std.proofs.Common.{◌≡◌, ℕ, ◌≤◌, ◌+◌, ◌-◌, List, [], ◌∷◌, ◌++◌, Option, None, Some, refl, subst, sym, ap, ◌∙◌, ◌⊎◌, inl, inr, ⊎_elim, arith, append_assoc, ◌↔◌}
+use Rattle.std.proofs.Common.{true, ◌≡◌, ℕ, ◌≤◌, ◌+◌, ◌-◌, List, [], ◌∷◌, ◌++◌, Option, None, Some, refl, subst, sym, ap, ◌∙◌, ◌⊎◌, inl, inr, ⊎_elim, arith, append_assoc, ◌↔◌}
 use Rattle.std.proofs.lemmas.List.{append-nil}
 use Rattle.go_tree.specs.declared.token.Token.{Token}
 use Rattle.go_tree.specs.declared.token.TokenKind.{TokenKind}
@@ -20,11 +20,13 @@ use Rattle.go_tree.proofs.SentenceLemmas.{completes_lem}
 use Rattle.go_tree.proofs.SpanActLemmas.{ends}
 use Rattle.go_scan.proofs.NextLemmas.{one_next}
 use Rattle.go_parse_x.specs.declared.heights.Heights.{Heights}
+use Rattle.go_parse_x.specs.Braces.{all_braced}
 use Rattle.go_parse_x.specs.Heights.{Counts}
 use Rattle.go_parse_x.specs.Opened.{added, Rises}
 use Rattle.go_parse_x.specs.Pieces.{AllFit, HasRead, View, IsOpen, IsAwaiting}
 use Rattle.go_parse_x.specs.Texts.{IsBehind, none, one, Stand}
 use Rattle.go_parse_x.specs.Turns.{at, IsFull, IsSound, IsSolid}
+use Rattle.go_parse_x.proofs.BraceLemmas.{braced_behind}
 use Rattle.go_parse_x.proofs.PieceLemmas.{IsPiece, reads_begin}
 
 -- ---- where tokens end
@@ -150,6 +152,7 @@ module _ (bytes : List ℕ) (v : View) (is : IsPiece v.n) (front : List Token) (
         begins = reads_begin bytes v.n is (front ++ bs) (tokens_of (completion texts top_rank a.rest)) c.0 (read.back (tokens_of (completion texts top_rank a.rest)) c.0 tt c.2 c.1) c.2;
         asked = tt;
         next = λ t w. tt;
+        braced = braced_behind (Call p.Block) a.rest (subst (λ g. all_braced g ≡ true) a.block a.braced);
         level = a.level;
         levels = subst (λ g. through_all standing g a.level ≡ Some 0) a.block a.levels;
         fit = block_fits bytes v.free front bs d.whole fit_before fits;

@@ -6,13 +6,16 @@ pub mod LevelLemmas
 pub mod KindSetLemmas
 pub mod SpelledLemmas
 pub mod EndTokenLemmas
+pub mod BraceLemmas
 pub mod TurnLemmas
 pub mod EndLemmas
 pub mod SettleLemmas
 pub mod PieceLemmas
 pub mod OpenLemmas
+pub mod NoBlockLemmas
 pub mod AheadLemmas
 pub mod CountLemmas
 pub mod AnswerLemmas
 pub mod GiveLemmas
 pub mod ReadyLemmas
+pub mod EmptyBlockLemmas

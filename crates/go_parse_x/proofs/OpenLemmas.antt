@@ -1,8 +1,8 @@
 -- One more token of a piece, and its first.
-use Rattle.std.proofs.Common.{◌≡◌, ℕ, ◌≤◌, Bool, true, false, ◌&&◌, List, [], ◌∷◌, ◌++◌, Option, None, Some, refl, subst, sym, ap, cond}
+use Rattle.std.proofs.Common.{not, ◌≡◌, ℕ, ◌≤◌, Bool, true, false, ◌&&◌, List, [], ◌∷◌, ◌++◌, Option, None, Some, refl, subst, sym, ap, cond}
 use Rattle.go_tree.specs.declared.token.Token.{Token}
 use Rattle.go_tree.specs.declared.token.TokenKind.{TokenKind}
-use Rattle.go_tree.specs.declared.token.TokenKind.TheVariants.{LeftBrace}
+use Rattle.go_tree.specs.declared.token.TokenKind.TheVariants.{LeftBrace, Semicolon}
 use Rattle.go_tree.specs.declared.production.Production.{Production}
 use Rattle.go_tree.specs.Height.{height_of}
 use Rattle.go_tree.specs.Scan.{IsNext}
@@ -10,7 +10,7 @@ use Rattle.go_tree.specs.Grammar.RightSide.{RightSide, Call}
 use Rattle.go_tree.specs.Grammar.Reading.{State, OpenNode, calls, before}
 use Rattle.go_tree.specs.Grammar.Brackets.{through_all, standing}
 use Rattle.go_tree.specs.Grammar.Completion.{completion, tokens_of, spell, is_there}
-use Rattle.go_tree.specs.Grammar.Prediction.{AllDecided}
+use Rattle.go_tree.specs.Grammar.Prediction.{AllDecided, starts}
 use Rattle.go_tree.specs.Grammar.Rank.{top_rank}
 use Rattle.go_tree.specs.Grammar.Sentence.{production, tables, texts, ReadsGo, Begins}
 use Rattle.go_tree.proofs.PredictionLemmas.{call_decided}
@@ -24,6 +24,7 @@ use Rattle.go_parse_x.specs.declared.pending.Pending.{Pending}
 use Rattle.go_parse_x.specs.declared.reading.Reading.{Reading}
 use Rattle.go_parse_x.specs.declared.reading.Reading.TheVariants.{Plain, Header, TypeOnly, Signature, Params, TypeParams}
 use Rattle.go_parse_x.specs.declared.seen.Seen.{Seen}
+use Rattle.go_parse_x.specs.Braces.{is_brace, is_braced, all_braced}
 use Rattle.go_parse_x.specs.Heights.{Counts}
 use Rattle.go_parse_x.specs.Opened.{Rises}
 use Rattle.go_parse_x.specs.Pieces.{piece, HasRead, View, open_view, new_view, view_of, IsNew, IsAsked, IsOpen, IsAwaiting}
@@ -52,6 +53,14 @@ first_there TypeParams = refl
 and_true : (b : Bool) → b ≡ true → (b && true) ≡ true
 and_true true h = refl
 and_true false h = cc
+
+head_ok : (r : Reading) → cond (is_brace (production (piece r))) (not (starts tables [] Semicolon)) (is_braced (production (piece r))) ≡ true
+head_ok Plain = refl
+head_ok Header = refl
+head_ok TypeOnly = refl
+head_ok Signature = refl
+head_ok Params = refl
+head_ok TypeParams = refl
 
 -- nothing stands behind a piece
 pub alone_decided : (n : Production) → AllDecided tables (Call n ∷ [])
@@ -91,6 +100,7 @@ first_open bytes p low number to kind new le = let P : View → Type 0 = λ v. I
   begins = first_begins bytes p.reading;
   asked = tt;
   next = λ t h. tt;
+  braced = and_true _ (head_ok p.reading);
   level = 0;
   levels = first_levels p.reading;
   fit = none_fits p.free;
@@ -117,8 +127,8 @@ next_on : (bytes : List ℕ) (seen : Seen) (then : Option TokenKind) (gs : List 
 next_on bytes seen None gs fs right h u w = tt
 next_on bytes seen (Some k) gs fs right h u w = right k h.0 u w
 
-pub passed_open : (bytes : List ℕ) (v : View) → IsPiece v.n → (front : List Token) (low number to : ℕ) (kind : Option TokenKind) (o : IsOpen bytes v front low number to kind) (seen : Seen) → v.last ≡ seen.last → IsNext bytes to kind seen.token → IsRight bytes seen → (then : Option TokenKind) (hs : List (RightSide Production)) (es : List OpenNode) → IsPassed bytes seen then v.rest hs v.nodes es → IsAssumed bytes seen then v.rest v.nodes → GoesOn bytes seen v.rest v.nodes → IsSound v.rest → (heights : Heights) (numbers : List ℕ) (after : ℕ) → Counts heights (front ++ seen.token ∷ []) → height_of (front ++ seen.token ∷ []) ≤ v.free → Rises low numbers after → IsOpen bytes (on_view v seen hs es heights numbers) (front ++ seen.token ∷ []) low after seen.token.end (Some seen.token.kind)
-passed_open bytes v is front low number to kind o seen q next right then hs es x assumed goes sound heights numbers after counts fit rises =
+pub passed_open : (bytes : List ℕ) (v : View) → IsPiece v.n → (front : List Token) (low number to : ℕ) (kind : Option TokenKind) (o : IsOpen bytes v front low number to kind) (seen : Seen) → v.last ≡ seen.last → IsNext bytes to kind seen.token → IsRight bytes seen → (then : Option TokenKind) (hs : List (RightSide Production)) (es : List OpenNode) → seen.hands_over ≡ true → IsPassed bytes seen then v.rest hs v.nodes es → IsAssumed bytes seen then v.rest v.nodes → GoesOn bytes seen v.rest v.nodes → IsSound v.rest → (heights : Heights) (numbers : List ℕ) (after : ℕ) → Counts heights (front ++ seen.token ∷ []) → height_of (front ++ seen.token ∷ []) ≤ v.free → Rises low numbers after → IsOpen bytes (on_view v seen hs es heights numbers) (front ++ seen.token ∷ []) low after seen.token.end (Some seen.token.kind)
+passed_open bytes v is front low number to kind o seen q next right then hs es over x assumed goes sound heights numbers after counts fit rises =
     let P : ℕ → Type 0 = λ l. HasRead bytes v.n front o.assumed v.rest l v.nodes in
     let reads = subst P q o.reads in
     record {
@@ -129,6 +139,7 @@ passed_open bytes v is front low number to kind o seen q next right then hs es x
       asked = asked_on bytes seen then v.rest v.nodes assumed;
       next = next_on bytes seen then v.rest v.nodes right assumed;
       level = (x.levels o.level 0 o.levels).0;
+      braced = x.braced over o.braced;
       levels = (x.levels o.level 0 o.levels).1;
       fit = fits_on v.free front seen.token o.fit fit;
       counts = counts;
@@ -149,8 +160,8 @@ block_goes bytes seen hs es s b =
 abbrev pub block_view : View → List (RightSide Production) → List OpenNode → List ℕ → View
 block_view v hs es numbers = record { n = v.n; free = v.free; rest = hs; last = v.last; nodes = es; heights = v.heights; numbers = numbers }
 
-pub block_awaits : (bytes : List ℕ) (v : View) → IsPiece v.n → (front : List Token) (low number to : ℕ) (kind : Option TokenKind) (o : IsOpen bytes v front low number to kind) (seen : Seen) → v.last ≡ seen.last → IsNext bytes to kind seen.token → (hs : List (RightSide Production)) (es : List OpenNode) → IsSame bytes seen None v.rest hs v.nodes es → IsAtBlock seen hs hs es es → IsSound v.rest → (numbers : List ℕ) (after : ℕ) → height_of (front ++ seen.token ∷ []) ≤ v.free → Rises low numbers after → IsAwaiting bytes (block_view v hs es numbers) front low after to kind
-block_awaits bytes v is front low number to kind o seen q next hs es x block sound numbers after fit rises =
+pub block_awaits : (bytes : List ℕ) (v : View) → IsPiece v.n → (front : List Token) (low number to : ℕ) (kind : Option TokenKind) (o : IsOpen bytes v front low number to kind) (seen : Seen) → v.last ≡ seen.last → IsNext bytes to kind seen.token → (hs : List (RightSide Production)) (es : List OpenNode) → seen.hands_over ≡ true → IsSame bytes seen None v.rest hs v.nodes es → IsAtBlock seen hs hs es es → IsSound v.rest → (numbers : List ℕ) (after : ℕ) → height_of (front ++ seen.token ∷ []) ≤ v.free → Rises low numbers after → IsAwaiting bytes (block_view v hs es numbers) front low after to kind
+block_awaits bytes v is front low number to kind o seen q next hs es over x block sound numbers after fit rises =
     let P : ℕ → Type 0 = λ l. HasRead bytes v.n front o.assumed v.rest l v.nodes in
     let reads = subst P q o.reads in
     let ok = o.next seen.token next in
@@ -167,6 +178,7 @@ block_awaits bytes v is front low number to kind o seen q next hs es x block sou
       back = subst S (sym q) (λ ts e z r. reads.back (seen.token ∷ ts) e (seen_on o.assumed seen.token ts ok) z (x.back ts e tt z r));
       sound = x.sound sound;
       begins = goes_begin bytes v.n is front o.assumed seen v.rest v.nodes reads ok goes;
+      braced = x.braced over o.braced;
       level = o.level;
       levels = x.levels o.level 0 o.levels;
       fit = fits_on v.free front seen.token o.fit fit;

@@ -1,5 +1,5 @@
 -- What the next token makes of the first right side that is to be read.
-use Rattle.std.proofs.Common.{◌≡◌, ℕ, Bool, true, false, List, [], ◌∷◌, Option, None, Some, refl, subst, sym, ap, ◌∙◌, cond, ◌&&◌, ◌||◌, inr, ◌++◌}
+use Rattle.std.proofs.Common.{◌≡◌, ℕ, Bool, true, false, not, List, [], ◌∷◌, Option, None, Some, refl, subst, sym, ap, ◌∙◌, cond, ◌&&◌, ◌||◌, inr, ◌++◌}
 use Rattle.std.proofs.lemmas.Bool.{and_parts, eq-eqb}
 use Rattle.std.proofs.lemmas.List.{reverse-append, map_push}
 use Rattle.go_tree.specs.declared.token.Token.{Token}
@@ -30,6 +30,8 @@ use Rattle.go_tree.proofs.GrammarBrackets.{brackets_expand}
 use Rattle.go_tree.proofs.StartLemmas.{all_begin, whens_begin, IsSure, act_starts_same}
 use Rattle.go_tree.proofs.GrammarStarts.{starts_expand, begin_expand}
 use Rattle.go_tree.proofs.NestingLemmas.{same_kinds}
+use Rattle.go_parse_x.specs.Braces.{is_block, all_braced}
+use Rattle.go_parse_x.proofs.BraceLemmas.{not_block, expand_braced, braced_behind, brace_passed}
 use Rattle.go_parse_x.proofs.SpelledLemmas.{expand_spelled, parts_spelled}
 
 -- tokens that are as they were seen
@@ -42,7 +44,7 @@ is_sample None = tt
 is_sample (Some k) = refl
 
 pub same_self : (bytes : List ℕ) (seen : Seen) (assumed : Option TokenKind) (gs : List (RightSide Production)) (fs : List OpenNode) → IsSame bytes seen assumed gs gs fs fs
-same_self bytes seen assumed gs fs = record { there = λ ts e a z r. r; back = λ ts e a z r. r; sound = λ s. s; levels = λ l m h. h; starts = λ q s. refl; full = λ h. h }
+same_self bytes seen assumed gs fs = record { there = λ ts e a z r. r; back = λ ts e a z r. r; sound = λ s. s; levels = λ l m h. h; starts = λ q s. refl; full = λ h. h; braced = λ o h. h }
 
 pub same_then : (bytes : List ℕ) (seen : Seen) (assumed : Option TokenKind) (gs hs is : List (RightSide Production)) (fs es ds : List OpenNode) → IsSame bytes seen assumed gs hs fs es → IsSame bytes seen assumed hs is es ds → IsSame bytes seen assumed gs is fs ds
 same_then bytes seen assumed gs hs is fs es ds x y = record {
@@ -52,11 +54,12 @@ same_then bytes seen assumed gs hs is fs es ds x y = record {
   levels = λ l m h. y.levels l m (x.levels l m h);
   starts = λ q s. x.starts q s ∙ y.starts q (x.sound s);
   full = λ h. y.full (x.full h);
+  braced = λ o h. y.braced o (x.braced o h);
 }
 
 -- what holds whatever follows holds where something is assumed
 pub same_anyway : (bytes : List ℕ) (seen : Seen) (assumed : Option TokenKind) (gs hs : List (RightSide Production)) (fs es : List OpenNode) → IsSame bytes seen None gs hs fs es → IsSame bytes seen assumed gs hs fs es
-same_anyway bytes seen assumed gs hs fs es x = record { there = λ ts e a z r. x.there ts e tt z r; back = λ ts e a z r. x.back ts e tt z r; sound = x.sound; levels = x.levels; starts = λ q s. x.starts refl s; full = x.full }
+same_anyway bytes seen assumed gs hs fs es x = record { there = λ ts e a z r. x.there ts e tt z r; back = λ ts e a z r. x.back ts e tt z r; sound = x.sound; levels = x.levels; starts = λ q s. x.starts refl s; full = x.full; braced = x.braced }
 
 pub same_passed : (bytes : List ℕ) (seen : Seen) (assumed : Option TokenKind) (gs hs is : List (RightSide Production)) (fs es ds : List OpenNode) → IsSame bytes seen assumed gs hs fs es → IsPassed bytes seen None hs is es ds → IsPassed bytes seen assumed gs is fs ds
 same_passed bytes seen assumed gs hs is fs es ds x y = record {
@@ -65,6 +68,8 @@ same_passed bytes seen assumed gs hs is fs es ds x y = record {
   solid = λ s. y.solid (x.sound s);
   levels = λ l m h. y.levels l m (x.levels l m h);
   full = λ h. y.full (x.full h);
+  braced = λ o h. y.braced o (x.braced o h);
+  no_block = λ o h. y.no_block o (x.braced o h);
 }
 
 pub same_stuck : (bytes : List ℕ) (seen : Seen) (assumed : Option TokenKind) (gs hs : List (RightSide Production)) (fs es : List OpenNode) → IsSame bytes seen assumed gs hs fs es → IsStuck bytes seen None hs es → IsStuck bytes seen assumed gs fs
@@ -89,42 +94,43 @@ sound_expanded g gs t ts s = record {
 }
 
 -- an expansion by the token, and by what is assumed of those behind it
-pub by_expansion : (bytes : List ℕ) (seen : Seen) (assumed : Option TokenKind) (g : RightSide Production) (gs hs : List (RightSide Production)) (fs : List OpenNode) → IsSound (g ∷ gs) → (assumed ≡ None → IsSure g seen.token []) → ((ts : List Token) → IsAsSeen assumed ts → expand production tables seen.token ts g gs ≡ hs) → IsSame bytes seen assumed (g ∷ gs) hs fs fs
-by_expansion bytes seen assumed g gs hs fs s sure q = record {
+pub by_expansion : (bytes : List ℕ) (seen : Seen) (assumed : Option TokenKind) (g : RightSide Production) (gs hs : List (RightSide Production)) (fs : List OpenNode) → IsSound (g ∷ gs) → (assumed ≡ None → IsSure g seen.token []) → (seen.hands_over ≡ true → not_block g ≡ true) → ((ts : List Token) → IsAsSeen assumed ts → expand production tables seen.token ts g gs ≡ hs) → IsSame bytes seen assumed (g ∷ gs) hs fs fs
+by_expansion bytes seen assumed g gs hs fs s sure free q = record {
   there = λ ts e a z r. subst (λ x. ReadsGo bytes x (at seen.last (seen.token ∷ ts) fs) e) (q ts a) (expand_reads Production production bytes tables tables_right r seen.token ts s.decided.0 refl z);
   back = λ ts e a z r. expand_back Production production bytes tables tables_right g gs (at seen.last (seen.token ∷ ts) fs) e seen.token ts refl (subst (λ x. ReadsGo bytes x (at seen.last (seen.token ∷ ts) fs) e) (sym (q ts a)) r);
   sound = λ s. subst IsSound (q (sample assumed) (is_sample assumed)) (sound_expanded g gs seen.token (sample assumed) s);
   levels = λ l m h. subst (λ x. through_all standing x l ≡ Some m) (q (sample assumed) (is_sample assumed)) (brackets_expand g gs seen.token (sample assumed) l m h);
   starts = λ none s. sym (subst (λ x. starts tables x seen.token.kind ≡ starts tables (g ∷ gs) seen.token.kind) (q [] (subst (λ a. IsAsSeen a []) (sym none) tt)) (starts_expand g gs seen.token [] (and_parts (whens_begin tables g) (all_begin tables gs) s.begun).0 (sure none)));
   full = λ h. h;
+  braced = λ o h. subst (λ x. all_braced x ≡ true) (q (sample assumed) (is_sample assumed)) (expand_braced g gs seen.token (sample assumed) (free o) h);
 }
 
-pub call_same : (bytes : List ℕ) (seen : Seen) (n : Production) (gs : List (RightSide Production)) (fs : List OpenNode) → IsSound (Call n ∷ gs) → IsSame bytes seen None (Call n ∷ gs) (production n ∷ gs) fs fs
-call_same bytes seen n gs fs s = by_expansion bytes seen None (Call n) gs (production n ∷ gs) fs s (λ q. tt) (λ ts a. refl)
+pub call_same : (bytes : List ℕ) (seen : Seen) (n : Production) (gs : List (RightSide Production)) (fs : List OpenNode) → IsSound (Call n ∷ gs) → (seen.hands_over ≡ true → is_block n ≡ false) → IsSame bytes seen None (Call n ∷ gs) (production n ∷ gs) fs fs
+call_same bytes seen n gs fs s free = by_expansion bytes seen None (Call n) gs (production n ∷ gs) fs s (λ q. tt) (λ o. ap not (free o)) (λ ts a. refl)
 
 pub nothing_same : (bytes : List ℕ) (seen : Seen) (gs : List (RightSide Production)) (fs : List OpenNode) → IsSound (Nothing ∷ gs) → IsSame bytes seen None (Nothing ∷ gs) gs fs fs
-nothing_same bytes seen gs fs s = by_expansion bytes seen None Nothing gs gs fs s (λ q. tt) (λ ts a. refl)
+nothing_same bytes seen gs fs s = by_expansion bytes seen None Nothing gs gs fs s (λ q. tt) (λ o. refl) (λ ts a. refl)
 
 pub seq_same : (bytes : List ℕ) (seen : Seen) (g h : RightSide Production) (gs : List (RightSide Production)) (fs : List OpenNode) → IsSound (Seq g h ∷ gs) → IsSame bytes seen None (Seq g h ∷ gs) (g ∷ h ∷ gs) fs fs
-seq_same bytes seen g h gs fs s = by_expansion bytes seen None (Seq g h) gs (g ∷ h ∷ gs) fs s (λ q. tt) (λ ts a. refl)
+seq_same bytes seen g h gs fs s = by_expansion bytes seen None (Seq g h) gs (g ∷ h ∷ gs) fs s (λ q. tt) (λ o. refl) (λ ts a. refl)
 
 pub left_same : (bytes : List ℕ) (seen : Seen) (g h : RightSide Production) (gs : List (RightSide Production)) (fs : List OpenNode) → IsSound (Or g h ∷ gs) → next_of tables g (starts tables gs) seen.token.kind ≡ true → IsSame bytes seen None (Or g h ∷ gs) (g ∷ gs) fs fs
-left_same bytes seen g h gs fs s q = by_expansion bytes seen None (Or g h) gs (g ∷ gs) fs s (λ q. tt) (λ ts a. rw q refl)
+left_same bytes seen g h gs fs s q = by_expansion bytes seen None (Or g h) gs (g ∷ gs) fs s (λ q. tt) (λ o. refl) (λ ts a. rw q refl)
 
 pub right_same : (bytes : List ℕ) (seen : Seen) (g h : RightSide Production) (gs : List (RightSide Production)) (fs : List OpenNode) → IsSound (Or g h ∷ gs) → next_of tables g (starts tables gs) seen.token.kind ≡ false → IsSame bytes seen None (Or g h ∷ gs) (h ∷ gs) fs fs
-right_same bytes seen g h gs fs s q = by_expansion bytes seen None (Or g h) gs (h ∷ gs) fs s (λ q. tt) (λ ts a. rw q refl)
+right_same bytes seen g h gs fs s q = by_expansion bytes seen None (Or g h) gs (h ∷ gs) fs s (λ q. tt) (λ o. refl) (λ ts a. rw q refl)
 
 pub again_same : (bytes : List ℕ) (seen : Seen) (g : RightSide Production) (gs : List (RightSide Production)) (fs : List OpenNode) → IsSound (Many g ∷ gs) → begins tables g seen.token.kind ≡ true → IsSame bytes seen None (Many g ∷ gs) (g ∷ Many g ∷ gs) fs fs
-again_same bytes seen g gs fs s q = by_expansion bytes seen None (Many g) gs (g ∷ Many g ∷ gs) fs s (λ q. tt) (λ ts a. rw q refl)
+again_same bytes seen g gs fs s q = by_expansion bytes seen None (Many g) gs (g ∷ Many g ∷ gs) fs s (λ q. tt) (λ o. refl) (λ ts a. rw q refl)
 
 pub done_same : (bytes : List ℕ) (seen : Seen) (g : RightSide Production) (gs : List (RightSide Production)) (fs : List OpenNode) → IsSound (Many g ∷ gs) → begins tables g seen.token.kind ≡ false → IsSame bytes seen None (Many g ∷ gs) gs fs fs
-done_same bytes seen g gs fs s q = by_expansion bytes seen None (Many g) gs gs fs s (λ q. tt) (λ ts a. rw q refl)
+done_same bytes seen g gs fs s q = by_expansion bytes seen None (Many g) gs gs fs s (λ q. tt) (λ o. refl) (λ ts a. rw q refl)
 
 pub chosen_same : (bytes : List ℕ) (seen : Seen) (assumed : Option TokenKind) (w : Ahead) (g h : RightSide Production) (gs : List (RightSide Production)) (fs : List OpenNode) → IsSound (When w g h ∷ gs) → ((ts : List Token) → IsAsSeen assumed ts → looks w (seen.token ∷ ts) ≡ true) → (assumed ≡ None → IsSure (When w g h) seen.token []) → IsSame bytes seen assumed (When w g h ∷ gs) (g ∷ gs) fs fs
-chosen_same bytes seen assumed w g h gs fs s q sure = by_expansion bytes seen assumed (When w g h) gs (g ∷ gs) fs s sure (λ ts a. rw (q ts a) refl)
+chosen_same bytes seen assumed w g h gs fs s q sure = by_expansion bytes seen assumed (When w g h) gs (g ∷ gs) fs s sure (λ o. refl) (λ ts a. rw (q ts a) refl)
 
 pub passed_by_same : (bytes : List ℕ) (seen : Seen) (assumed : Option TokenKind) (w : Ahead) (g h : RightSide Production) (gs : List (RightSide Production)) (fs : List OpenNode) → IsSound (When w g h ∷ gs) → ((ts : List Token) → IsAsSeen assumed ts → looks w (seen.token ∷ ts) ≡ false) → (assumed ≡ None → IsSure (When w g h) seen.token []) → IsSame bytes seen assumed (When w g h ∷ gs) (h ∷ gs) fs fs
-passed_by_same bytes seen assumed w g h gs fs s q sure = by_expansion bytes seen assumed (When w g h) gs (h ∷ gs) fs s sure (λ ts a. rw (q ts a) refl)
+passed_by_same bytes seen assumed w g h gs fs s q sure = by_expansion bytes seen assumed (When w g h) gs (h ∷ gs) fs s sure (λ o. refl) (λ ts a. rw (q ts a) refl)
 
 -- where two tokens decide, some text goes on with the first
 pub pair_asked : (bytes : List ℕ) (seen : Seen) (i j : TokenKind) (g h : RightSide Production) (gs : List (RightSide Production)) (fs : List OpenNode) → IsSound (When (Both i j) g h ∷ gs) → same_kind i seen.token.kind ≡ true → is_asked seen.token.kind ≡ true → IsAsked bytes seen (When (Both i j) g h ∷ gs) fs
@@ -160,6 +166,20 @@ asked_for bytes seen Bracket g h gs fs s w = absurd w
 asked_for bytes seen Result g h gs fs s w = absurd w
 asked_for bytes seen Qualifier g h gs fs s w = pair_asked bytes seen Dot Ident g h gs fs s w (asked_kind Dot seen.token.kind refl w)
 asked_for bytes seen Receive g h gs fs s w = pair_asked bytes seen Arrow KwChan g h gs fs s w (asked_kind Arrow seen.token.kind refl w)
+
+-- what cannot start with the token is stuck
+pub never_starts : (bytes : List ℕ) (seen : Seen) (gs : List (RightSide Production)) (fs : List OpenNode) → starts tables gs seen.token.kind ≡ false → IsStuck bytes seen None gs fs
+never_starts bytes seen gs fs h = record { inside = λ none s w l. absurd (let q = sym h ∙ w in cc); never = λ ts e w z r. absurd (let y = first_token Production production bytes tables tables_right r seen.token ts refl z in let q = sym h ∙ y in cc) }
+
+or_nothing : (b c : Bool) → b ≡ false → ((b || false) || (false && c)) ≡ false
+or_nothing true c h = cc
+or_nothing false c h = refl
+
+-- no block begins with another token
+pub block_stuck : (bytes : List ℕ) (seen : Seen) (n : Production) (gs : List (RightSide Production)) (fs : List OpenNode) → n ≡ Block → same_kind LeftBrace seen.token.kind ≡ false → IsStuck bytes seen None (Call n ∷ gs) fs
+block_stuck bytes seen n gs fs q h =
+    let P : Production → Type 0 = λ m. IsStuck bytes seen None (Call m ∷ gs) fs in
+    subst P (sym q) (never_starts bytes seen (Call Block ∷ gs) fs (or_nothing (same_kind LeftBrace seen.token.kind) (starts tables gs seen.token.kind) h))
 
 pub at_block : (seen : Seen) (n : Production) (gs : List (RightSide Production)) (fs : List OpenNode) → n ≡ Block → seen.token.kind ≡ LeftBrace → IsAtBlock seen (Call n ∷ gs) (Call n ∷ gs) fs fs
 at_block seen n gs fs q brace = record { rest = gs; block = rw q refl; brace = brace; stays = refl; nodes = refl }
@@ -228,6 +248,7 @@ act_same bytes seen a gs fs es q = record {
   sound = λ s. solid_sound gs (sound_behind a gs s);
   levels = λ l m h. through_act Production standing a gs l m (made_empty bytes a seen fs es q) h;
   starts = λ none s. sym (act_starts_same Production production tables a gs seen.token.kind (made_empty bytes a seen fs es q));
+  braced = λ o h. braced_behind (Do a) gs h;
   full = λ h. acted_full bytes a (at seen.last (seen.token ∷ []) fs) (at seen.last (seen.token ∷ []) es) (q []) h;
 }
 
@@ -261,6 +282,8 @@ pass_passed bytes seen k gs fs h = record {
   solid = sound_behind (Pass k) gs;
   levels = λ l m x. let z = through_pass Production standing k gs l m x in (z.0, z.2);
   full = λ f. f;
+  braced = λ o x. braced_behind (Do (Pass k)) gs x;
+  no_block = λ o x brace. brace_passed k gs seen.token x h brace;
 }
 
 pub pass_stuck : (bytes : List ℕ) (seen : Seen) (k : TokenKind) (gs : List (RightSide Production)) (fs : List OpenNode) → same_kind k seen.token.kind ≡ false → IsStuck bytes seen None (Do (Pass k) ∷ gs) fs
@@ -271,10 +294,6 @@ over bytes s e t ts q z at_end = let y = sym q ∙ z in cc
 
 pub none_stuck : (bytes : List ℕ) (seen : Seen) (fs : List OpenNode) → IsStuck bytes seen None [] fs
 none_stuck bytes seen fs = record { inside = λ none s h l. cc; never = λ ts e w z r. over bytes (at seen.last (seen.token ∷ ts) fs) e seen.token ts refl z r }
-
--- what cannot start with the token is stuck
-pub never_starts : (bytes : List ℕ) (seen : Seen) (gs : List (RightSide Production)) (fs : List OpenNode) → starts tables gs seen.token.kind ≡ false → IsStuck bytes seen None gs fs
-never_starts bytes seen gs fs h = record { inside = λ none s w l. absurd (let q = sym h ∙ w in cc); never = λ ts e w z r. absurd (let y = first_token Production production bytes tables tables_right r seen.token ts refl z in let q = sym h ∙ y in cc) }
 
 -- ---- a stack of places
 

@@ -16,7 +16,7 @@ use Rattle.go_parse_x.specs.declared.parsed.Parsed.{Parsed}
 use Rattle.go_parse_x.specs.declared.parsed.Parsed.TheVariants as parsed
 use Rattle.go_parse_x.specs.declared.pending.Pending.{Pending}
 use Rattle.go_parse_x.specs.Opened.{tree_without, numbers_in, Rises}
-use Rattle.go_parse_x.specs.Pieces.{AllFit, IsNew, open_view, view_of, IsOpen, IsAwaiting}
+use Rattle.go_parse_x.specs.Pieces.{AllFit, OpensBlock, PassesNoBlock, IsNew, open_view, view_of, IsOpen, IsAwaiting}
 use Rattle.go_parse_x.specs.Texts.{Stand, IsLex}
 
 -- a place between tokens: its offset, and the kind of the token before it
@@ -27,14 +27,15 @@ pub record Spot : Type 0 where
 abbrev pub spot_of : Cursor → Spot
 spot_of c = record { at = c.at; last = c.last }
 
--- the tokens of a piece, so many of them before a place and the others from there to another place: they begin an n, and
--- none has a height past what is free
+-- the tokens of a piece, some before a place and the others, which are passed, from there to another: they begin an n, none
+-- has a height past what is free, and none that is passed opens the block of a function literal
 pub record Went (bytes : List ℕ) (n : Production) (free : ℕ) (front : List Token) (from to : Spot) (all : List Token) : Type 0 where
   pub passed : List Token
   pub are : all ≡ front ++ passed
   pub stand : Stand bytes from.at from.last passed to.at to.last
   pub begins : Begins bytes n all
   pub fit : AllFit free all
+  pub no_block : PassesNoBlock bytes n front passed
 
 -- no n begins with the tokens and the next one
 pub record EndsAt (bytes : List ℕ) (n : Production) (all : List Token) (to : Spot) (token : Token) : Type 0 where
@@ -64,10 +65,19 @@ pub record IsHigh (bytes : List ℕ) (n : Production) (free : ℕ) (all : List T
   pub past : free < height_of (all ++ token ∷ [])
   pub place : token.start ≡ k
 
+-- the next token opens the block of a function literal, an n begins with the tokens up to it, and none of these has a
+-- height past what is free
+pub record IsBlock (bytes : List ℕ) (n : Production) (free : ℕ) (all : List Token) (to : Spot) : Type 0 where
+  pub brace : Token
+  pub next : IsNext bytes to.at to.last brace
+  pub opens : OpensBlock bytes n all brace
+  pub begins : Begins bytes n (all ++ brace ∷ [])
+  pub fit : AllFit free (all ++ brace ∷ [])
+
 -- what the answer says of the tokens
 abbrev pub Says : List ℕ → Production → ℕ → List Token → Spot → ℕ → ℕ → Pending → Result Parsed ParseFault → Type 0
 Says bytes n free all to low number p (Ok (parsed.Whole node)) = IsWhole bytes n all to low number node × IsNew p
-Says bytes n free all to low number p (Ok parsed.Block) = (p.begun ≡ true) × (p.awaits ≡ true) × IsAwaiting bytes (open_view p) all low number to.at to.last
+Says bytes n free all to low number p (Ok parsed.Block) = IsBlock bytes n free all to × (p.begun ≡ true) × (p.awaits ≡ true) × IsAwaiting bytes (open_view p) all low number to.at to.last
 Says bytes n free all to low number p (Err (Lexical e)) = IsLex bytes to.at to.last e
 Says bytes n free all to low number p (Err (Syntax k)) = IsSyntax bytes n all to k
 Says bytes n free all to low number p (Err (High k)) = IsHigh bytes n free all to k

@@ -6,9 +6,11 @@ pub mod Opened
 pub mod TypeParts
 pub mod Heights
 pub mod Weights
+pub mod Braces
 pub mod Turns
 pub mod Ends
 pub mod Texts
 pub mod Pieces
 pub mod Answers
 pub mod Steps
+pub mod EmptyBlocks

@@ -11,11 +11,14 @@ use Rattle.go_tree.specs.Scan.{IsNext}
 use Rattle.go_tree.specs.Grammar.RightSide.{RightSide, Call}
 use Rattle.go_tree.specs.Grammar.Reading.{State, OpenNode, before}
 use Rattle.go_tree.specs.Grammar.Brackets.{through_all, standing}
-use Rattle.go_tree.specs.Grammar.Sentence.{production, ReadsGo, Begins}
+use Rattle.go_tree.specs.Grammar.Completion.{Firm}
+use Rattle.go_tree.specs.Grammar.Rank.{top_rank}
+use Rattle.go_tree.specs.Grammar.Sentence.{production, texts, ReadsGo, Begins}
 use Rattle.go_parse_x.specs.declared.heights.Heights.{Heights}
 use Rattle.go_parse_x.specs.declared.reading.Reading.{Reading}
 use Rattle.go_parse_x.specs.declared.reading.Reading.TheVariants.{Plain, Header, TypeOnly, Signature, Params, TypeParams}
 use Rattle.go_parse_x.specs.declared.pending.Pending.{Pending}
+use Rattle.go_parse_x.specs.Braces.{all_braced}
 use Rattle.go_parse_x.specs.Lines.{sides}
 use Rattle.go_parse_x.specs.Opened.{frames, numbers, Rises}
 use Rattle.go_parse_x.specs.Heights.{Counts}
@@ -75,6 +78,20 @@ abbrev pub IsAsked : Option TokenKind → Option TokenKind → Type 0
 IsAsked None last = Unit {0}
 IsAsked (Some assumed) last = (kind : TokenKind) × (last ≡ Some kind) × (is_asked kind ≡ true)
 
+-- behind these tokens of an n a brace opens a block, here that of a function literal: what is still to be read begins with one
+pub record OpensBlock (bytes : List ℕ) (n : Production) (front : List Token) (brace : Token) : Type 0 where
+  pub is_brace : brace.kind ≡ LeftBrace
+  pub rest : List (RightSide Production)
+  pub last : ℕ
+  pub nodes : List OpenNode
+  pub there : (ts : List Token) (e : State) → e.rest ≡ [] → ReadsGo bytes (Call n ∷ []) (before (front ++ brace ∷ ts)) e → ReadsGo bytes (Call p.Block ∷ rest) (at last (brace ∷ ts) nodes) e
+  pub back : (ts : List Token) (e : State) → e.rest ≡ [] → ReadsGo bytes (Call p.Block ∷ rest) (at last (brace ∷ ts) nodes) e → ReadsGo bytes (Call n ∷ []) (before (front ++ brace ∷ ts)) e
+  pub firm : Firm texts top_rank rest
+
+-- none of the tokens that are passed behind the front opens one
+abbrev pub PassesNoBlock : List ℕ → Production → List Token → List Token → Type 0
+PassesNoBlock bytes n front passed = (xs ys : List Token) (t : Token) → passed ≡ xs ++ t ∷ ys → OpensBlock bytes n (front ++ xs) t → ⊥
+
 -- these tokens of the piece were read, up to the place `to` where one of the kind `kind` stands before; its nodes have
 -- numbers from `low` up to `number`
 pub record IsOpen (bytes : List ℕ) (v : View) (front : List Token) (low number to : ℕ) (kind : Option TokenKind) : Type 0 where
@@ -84,6 +101,7 @@ pub record IsOpen (bytes : List ℕ) (v : View) (front : List Token) (low number
   pub begins : Begins bytes v.n front
   pub asked : IsAsked assumed kind
   pub next : (t : Token) → IsNext bytes to kind t → IsAsSeen assumed (t ∷ [])
+  pub braced : all_braced v.rest ≡ true
   pub level : ℕ
   pub levels : through_all standing v.rest level ≡ Some 0
   pub fit : AllFit v.free front
@@ -103,6 +121,7 @@ pub record IsAwaiting (bytes : List ℕ) (v : View) (front : List Token) (low nu
   pub back : (ts : List Token) (e : State) → e.rest ≡ [] → ReadsGo bytes v.rest (at v.last (brace ∷ ts) v.nodes) e → ReadsGo bytes (Call v.n ∷ []) (before (front ++ brace ∷ ts)) e
   pub sound : IsSound v.rest
   pub begins : Begins bytes v.n (front ++ brace ∷ [])
+  pub braced : all_braced v.rest ≡ true
   pub level : ℕ
   pub levels : through_all standing v.rest level ≡ Some 0
   pub fit : AllFit v.free (front ++ brace ∷ [])

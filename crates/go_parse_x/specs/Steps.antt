@@ -17,7 +17,7 @@ use Rattle.go_parse_x.specs.declared.parsed.Parsed.TheVariants.{Whole, Block}
 use Rattle.go_parse_x.specs.Opened.{tree_without, numbers_in, Rises}
 use Rattle.go_parse_x.specs.Answers.{Spot, IsAnswer}
 use Rattle.go_parse_x.specs.Heights.{Counts}
-use Rattle.go_parse_x.specs.Pieces.{open_view, IsOpen, IsAwaiting}
+use Rattle.go_parse_x.specs.Pieces.{OpensBlock, open_view, IsOpen, IsAwaiting}
 use Rattle.go_parse_x.specs.Texts.{IsLex}
 
 -- the height at the token is free
@@ -41,7 +41,7 @@ IsStray bytes free token heights from to fault = (to ≡ from) × IsTooHigh free
 
 -- what a token makes of a piece
 abbrev pub IsProgress : List ℕ → Production → ℕ → List Token → Spot → Spot → ℕ → ℕ → Pending → Token → Result Progress ParseFault → Type 0
-IsProgress bytes n free front from to low number p token (Ok Passed) = (to ≡ behind token) × IsOpen bytes (open_view p) (front ++ token ∷ []) low number to.at to.last
+IsProgress bytes n free front from to low number p token (Ok Passed) = (to ≡ behind token) × (OpensBlock bytes n front token → ⊥) × IsOpen bytes (open_view p) (front ++ token ∷ []) low number to.at to.last
 IsProgress bytes n free front from to low number p token (Ok AtBlock) = (to ≡ from) × (p.awaits ≡ true) × IsAwaiting bytes (open_view p) front low number to.at to.last
 IsProgress bytes n free front from to low number p token (Err fault) = IsAnswer bytes n free front from to low number p (Err fault)
 

@@ -3,7 +3,7 @@
 use Rattle.std.specs.Prelude.{ℕ, ◌≡◌, ◌<◌, Bool, true, false, List, [], ◌∷◌, ◌&&◌, Option, None, Some}
 use Rattle.go_tree.specs.declared.token.Token.{Token}
 use Rattle.go_tree.specs.declared.token.TokenKind.{TokenKind}
-use Rattle.go_tree.specs.declared.token.TokenKind.TheVariants.{Arrow, Dot, LeftBrace}
+use Rattle.go_tree.specs.declared.token.TokenKind.TheVariants.{Arrow, Dot, LeftBrace, Semicolon}
 use Rattle.go_tree.specs.declared.production.Production.{Production}
 use Rattle.go_tree.specs.declared.production.Production.TheVariants.{Block}
 use Rattle.go_tree.specs.Grammar.RightSide.{RightSide, Do, Call, Nothing, Seq, Or, Many, When, OneOf, Both}
@@ -20,6 +20,7 @@ use Rattle.go_parse_x.specs.declared.line.Asked.TheVariants.{Qualifier, Receive}
 use Rattle.go_parse_x.specs.declared.seen.Seen.{Seen}
 use Rattle.go_parse_x.specs.declared.seen.Turn.{Turn}
 use Rattle.go_parse_x.specs.declared.seen.Turn.TheVariants.{Passed, Turned, Asked, Stuck, Astray, Unseen, AtBlock}
+use Rattle.go_parse_x.specs.Braces.{all_braced}
 use Rattle.go_parse_x.specs.Weights.{cost}
 
 -- a reading that stands before a token
@@ -99,6 +100,7 @@ pub record IsSame (bytes : List ℕ) (seen : Seen) (assumed : Option TokenKind) 
   pub levels : (l m : ℕ) → through_all standing gs l ≡ Some m → through_all standing hs l ≡ Some m
   pub starts : assumed ≡ None → IsSound gs → starts tables gs seen.token.kind ≡ starts tables hs seen.token.kind
   pub full : IsFull fs → IsFull es
+  pub braced : seen.hands_over ≡ true → all_braced gs ≡ true → all_braced hs ≡ true
 
 -- gs before the token reads what hs reads behind it
 pub record IsPassed (bytes : List ℕ) (seen : Seen) (assumed : Option TokenKind) (gs hs : List (RightSide Production)) (fs es : List OpenNode) : Type 0 where
@@ -107,6 +109,9 @@ pub record IsPassed (bytes : List ℕ) (seen : Seen) (assumed : Option TokenKind
   pub solid : IsSound gs → IsSolid hs
   pub levels : (l m : ℕ) → through_all standing gs l ≡ Some m → (b : ℕ) × (through_all standing hs b ≡ Some m)
   pub full : IsFull fs → IsFull es
+  pub braced : seen.hands_over ≡ true → all_braced gs ≡ true → all_braced hs ≡ true
+  -- the token opens no block
+  pub no_block : seen.hands_over ≡ true → all_braced gs ≡ true → seen.token.kind ≡ LeftBrace → starts tables hs Semicolon ≡ false
 
 -- nothing reads the token; where it could stand here, a bracket is open
 pub record IsStuck (bytes : List ℕ) (seen : Seen) (assumed : Option TokenKind) (gs : List (RightSide Production)) (fs : List OpenNode) : Type 0 where

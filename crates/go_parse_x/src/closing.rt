@@ -1,5 +1,5 @@
 // The end of an open node: its number, its text, its place among the parts of the next one.
-ghost use Rattle.std.specs.Prelude.{◌≡◌, ℕ, ◌+◌, [], ◌∷◌, ◌++◌, map, OnOk, IfOk, OnErr};
+ghost use Rattle.std.specs.Prelude.{◌≡◌, ◌^◌, ℕ, ◌+◌, [], ◌∷◌, ◌++◌, map, OnOk, IfOk, OnErr};
 ghost use Rattle.go_tree.specs.Tree.{tree_of, trees_of};
 ghost use Rattle.go_tree.specs.Grammar.Reading.{has_text, text_between, node_read, close_last};
 ghost use Rattle.go_parse_x.specs.Opened.{frame, frames, numbers, numbers_in, numbers_among, tree_without, Rises};
@@ -14,6 +14,7 @@ pub fn next_number(number: &mut usize) -> Result<NodeId, NoMemory>
     ensures taken { IfOk result (λ id. id.0 ≡ number.old) }
     ensures next { OnOk result (number.new ≡ number.old + 1) }
     ensures kept { OnErr result (number.new ≡ number.old) }
+    ensures used_up { OnErr result (number.old + 1 ≡ 2 ^ 64) }
 {
     let id = NodeId(*number);
     match number.checked_add(1) {

@@ -1,5 +1,5 @@
 // A place between the tokens of a text.
-ghost use Rattle.std.specs.Prelude.{◌≡◌, ◌≢◌, ◌+◌, ◌≤◌, ◌<◌, length, None, Some, IfOk, IfErr, IfSome, IfNone, OnErr};
+ghost use Rattle.std.specs.Prelude.{◌≡◌, ◌^◌, ◌≢◌, ◌+◌, ◌≤◌, ◌<◌, length, None, Some, IfOk, IfErr, IfSome, IfNone, OnErr};
 ghost use Rattle.go_tree.specs.declared.token.Token.{Token as TokenOf};
 ghost use Rattle.go_tree.specs.declared.token.TokenKind.TheVariants.{End};
 ghost use Rattle.go_tree.specs.Scan.{IsNext};
@@ -14,7 +14,7 @@ use go_tree::{NodeId, Token, TokenKind};
 
 /// A place between the tokens of a text, the number for the next node, and the fault that ended the
 /// reading, if one did.
-#[derive(Debug)]
+#[derive(Debug, Drop)]
 pub struct Cursor<'a> {
     pub(crate) bytes: &'a [u8],
     pub(crate) at: usize,
@@ -78,6 +78,7 @@ impl<'a> Cursor<'a> {
         requires { self.old.fault ≡ None }
         ensures number { IfOk result (λ id. (id.0 ≡ self.old.number) × (self.new.number ≡ self.old.number + 1)) }
         ensures kept { OnErr result (self.new.number ≡ self.old.number) }
+        ensures used_up { OnErr result (self.old.number + 1 ≡ 2 ^ 64) }
         ensures others { (self.new.bytes.now ≡ self.old.bytes.now) × (self.new.at ≡ self.old.at) × (self.new.last ≡ self.old.last) × (self.new.fault ≡ self.old.fault) }
     {
         next_number(&mut self.number)

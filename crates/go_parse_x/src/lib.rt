@@ -49,3 +49,28 @@ pub use parsed::Parsed;
 pub use pending::Pending;
 pub use reader::parse_expr;
 pub use reading::Reading;
+
+#[cfg(test)]
+mod behind_tests;
+#[cfg(test)]
+mod composite_tests;
+#[cfg(test)]
+mod cursor_tests;
+#[cfg(test)]
+mod cut_tests;
+#[cfg(test)]
+mod expression_tests;
+#[cfg(test)]
+mod height_tests;
+#[cfg(test)]
+mod literal_tests;
+#[cfg(test)]
+mod piece_tests;
+#[cfg(test)]
+mod refusal_tests;
+#[cfg(test)]
+mod signature_tests;
+#[cfg(test)]
+mod span_tests;
+#[cfg(test)]
+mod type_tests;

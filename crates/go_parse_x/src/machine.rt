@@ -1,10 +1,10 @@
 // One step of the machine: what the next token makes of what is to be read.
-ghost use Rattle.std.specs.Prelude.{◌≡◌, ℕ, ◌∷◌, List, OnOk, IfOk, IsTrue};
+ghost use Rattle.std.specs.Prelude.{◌≡◌, ℕ, ◌∷◌, true, false, List, OnOk, IfOk, IsTrue, IsFalse};
 ghost use Rattle.go_tree.specs.Grammar.RightSide.{RightSide, Do, Call, Seq, Or, Many, When, Pass};
 ghost use Rattle.go_tree.specs.Grammar.Reading.{OpenNode as Opened};
 ghost use Rattle.go_tree.specs.declared.production.Production.{Production as ProductionOf};
 ghost use Rattle.go_tree.specs.declared.production.Production.TheVariants.{Block};
-ghost use Rattle.go_tree.specs.declared.token.TokenKind.TheVariants.{LeftBrace};
+ghost use Rattle.go_parse_x.specs.Braces.{is_block};
 ghost use Rattle.go_parse_x.specs.Lines.{ahead_of, side, sides};
 ghost use Rattle.go_parse_x.specs.Opened.{frames, numbers, Rises};
 ghost use Rattle.go_parse_x.specs.Shapes.{side_of, act_of};
@@ -104,19 +104,32 @@ fn pass(kind: TokenKind, seen: Seen) -> Turn
     }
 }
 
-// A production, or a block that is handed over.
+// A production; a block may be handed over.
 fn call(todo: &mut Vec<Place>, place: Place, n: Production, seen: Seen) -> Result<Turn, NoMemory>
     requires call { side place ≡ Call n }
     requires sound { IsSound (Call n ∷ sides todo.old.items) }
     ensures turn { IfOk result (λ turn. (bytes : List ℕ) (fs : List Opened) → IsTurn bytes seen turn (Call n ∷ sides todo.old.items) (sides todo.new.items) fs fs) }
     ensures cheaper { IfOk result (λ turn. IsCheaper turn (Call n ∷ sides todo.old.items) (sides todo.new.items)) }
 {
-    if opens_block(n, seen) {
-        todo.push(place)?;
-        return Ok(Turn::AtBlock);
+    if hands_over(n, seen) {
+        return block(todo, place, n, seen);
     }
     todo.push(Place::start(n))?;
     Ok(Turn::Turned)
+}
+
+// A block that is handed over.
+fn block(todo: &mut Vec<Place>, place: Place, n: Production, seen: Seen) -> Result<Turn, NoMemory>
+    requires call { side place ≡ Call n }
+    requires block { n ≡ Block }
+    ensures turn { IfOk result (λ turn. (bytes : List ℕ) (fs : List Opened) → IsTurn bytes seen turn (Call n ∷ sides todo.old.items) (sides todo.new.items) fs fs) }
+    ensures cheaper { IfOk result (λ turn. IsCheaper turn (Call n ∷ sides todo.old.items) (sides todo.new.items)) }
+{
+    if same(TokenKind::LeftBrace, seen.token.kind) {
+        todo.push(place)?;
+        return Ok(Turn::AtBlock);
+    }
+    Ok(Turn::Stuck)
 }
 
 // One of two.
@@ -198,12 +211,13 @@ fn pair(
     }
 }
 
-// Whether the token opens a block that is handed over.
-fn opens_block(n: Production, seen: Seen) -> bool
-    ensures { IsTrue result → (n ≡ Block) × (seen.token.kind ≡ LeftBrace) }
+// Whether it is a block, and blocks are handed over.
+fn hands_over(n: Production, seen: Seen) -> bool
+    ensures yes { IsTrue result → n ≡ Block }
+    ensures no { IsFalse result → seen.hands_over ≡ true → is_block n ≡ false }
 {
-    match (n, seen.token.kind) {
-        (Production::Block, TokenKind::LeftBrace) => seen.hands_over,
+    match n {
+        Production::Block => seen.hands_over,
         _ => false,
     }
 }

@@ -1,7 +1,7 @@
 use Rattle.go_parse_x.specs.Answers.{spot_of}
 use Rattle.go_parse_x.specs.Pieces.{open_view}
 use Rattle.go_parse_x.proofs.PieceLemmas.{piece_is}
-use Rattle.go_parse_x.proofs.AnswerLemmas.{asked_answer, unfinished_answer, whole_answer}
+use Rattle.go_parse_x.proofs.AnswerLemmas.{memory_answer, asked_answer, unfinished_answer, whole_answer}
 use Rattle.go_parse_x.proofs.reader.end.Goals as goal
 
 pub returns-then-ends_asked-clause-answer : goal.returns-then-ends_asked-clause-answer
@@ -15,3 +15,7 @@ returns-in-Ok-true-clause-answer c = λ front low o.
 pub returns-in-Ok-false-clause-answer : goal.returns-in-Ok-false-clause-answer
 returns-in-Ok-false-clause-answer c = λ front low o.
     unfinished_answer _ (open_view c.args.pending.now) (piece_is c.args.pending.now.reading) front low _ (spot_of c.args.cursor.now) o _ _ c.args.token c.requires.next c.requires.last (rw c.if-ends_asked.false at c.ends_asked.ensures) (rw c.in-Ok-false.field-0-test at c.in-Ok-false.ensures.whole)
+
+pub returns-in-Err-clause-answer : goal.returns-in-Err-clause-answer
+returns-in-Err-clause-answer c = λ front low o.
+    memory_answer _ (open_view c.args.pending.now) (piece_is c.args.pending.now.reading) front low _ (spot_of c.args.cursor.now) o _ _
