@@ -26,11 +26,13 @@ use Rattle.go_parse_x.specs.declared.progress.Progress.TheVariants.{Passed, AtBl
 use Rattle.go_parse_x.specs.declared.seen.Seen.{Seen}
 use Rattle.go_parse_x.specs.Answers.{Spot, Went, IsAnswer, IsBlock, IsReady, spot_of}
 use Rattle.go_parse_x.specs.Opened.{tree_without, Rises}
-use Rattle.go_parse_x.specs.Pieces.{HasRead, View, IsNew, IsAsked, IsOpen, IsAwaiting, open_view, OpensBlock, PassesNoBlock, piece, new_view}
+use Rattle.go_parse_x.specs.Pieces.{HasRead, View, IsNew, IsAsked, IsOpen, IsAwaiting, open_view, OpensBlock, PassesNoBlock, new_view}
 use Rattle.go_parse_x.specs.Steps.{IsTooHigh, IsStray, IsProgress, IsRead, HasNumbers, behind}
+use Rattle.go_parse_x.specs.Targets.{piece, hands}
 use Rattle.go_parse_x.specs.Texts.{one, Stand, IsLex}
 use Rattle.go_parse_x.specs.Turns as turns
-use Rattle.go_parse_x.specs.Turns.{at, is_asked, IsAsSeen, IsSound, IsStuck, GoesOn}
+use Rattle.go_parse_x.specs.Turns.{at, is_asked, IsSound, IsStuck, GoesOn}
+use Rattle.go_parse_x.proofs.EndTokenLemmas.{is_file}
 use Rattle.go_parse_x.proofs.PieceLemmas.{IsPiece, fits_on, goes_begin, stuck_never, astray_never, asked_no_whole, inside_no_whole, end_whole, end_no_whole, end_token_never, piece_is}
 use Rattle.go_parse_x.proofs.NoBlockLemmas.{none_passed, one_passed, both_passed}
 use Rattle.go_parse_x.proofs.OpenLemmas.{alone_decided}
@@ -127,9 +129,9 @@ module _ (bytes : List ℕ) (v : View) (is : IsPiece v.n) (front : List Token) (
       (stuck_never bytes v.n is front o.assumed seen v.rest v.nodes (subst P q o.reads) (o.next seen.token next) x)
       (asked_whole o.assumed o.reads o.asked (x.inside refl sound begun))
 
-  pub end_never : (t : Token) → IsNext bytes s.at s.last t → (t.kind ≡ End) ⊎ (starts tables v.rest t.kind ≡ false) → Begins bytes v.n (front ++ t ∷ []) → ⊥
-  end_never t next (inl q) b = end_token_never bytes v.n is front t q b
-  end_never t next (inr q) b =
+  pub end_never : (t : Token) → is_file v.n ≡ false → IsNext bytes s.at s.last t → (t.kind ≡ End) ⊎ (starts tables v.rest t.kind ≡ false) → Begins bytes v.n (front ++ t ∷ []) → ⊥
+  end_never t not_file next (inl q) b = end_token_never bytes v.n not_file front t q b
+  end_never t not_file next (inr q) b =
       let seen : Seen = record { token = t; ahead = None; last = v.last; hands_over = true } in
       stuck_never bytes v.n is front o.assumed seen v.rest v.nodes o.reads (o.next t next) (never_starts bytes seen v.rest v.nodes q) b
 
@@ -141,11 +143,11 @@ module _ (bytes : List ℕ) (v : View) (is : IsPiece v.n) (front : List Token) (
   sure_read : ((kind : TokenKind) → s.last ≡ Some kind → is_asked kind ≡ false) → HasRead bytes v.n front None v.rest v.last v.nodes
   sure_read h = let P : Option TokenKind → Type 0 = λ a. HasRead bytes v.n front a v.rest v.last v.nodes in subst P (sure_of o.assumed o.asked h) o.reads
 
-  pub asked_answer : (after : ℕ) (p : Pending) (t : Token) → IsNext bytes s.at s.last t → (t.kind ≡ End) ⊎ (starts tables v.rest t.kind ≡ false) → (kind : TokenKind) × (s.last ≡ Some kind) × (is_asked kind ≡ true) → IsAnswer bytes v.n v.free front s s low after p (Err (Syntax t.start))
-  asked_answer after p t next last a = syntax_answer after p t next (end_never t next last) (asked_no_whole bytes v.n is front s.at s.last a.0 o.behind a.1 a.2)
+  pub asked_answer : (after : ℕ) (p : Pending) (t : Token) → is_file v.n ≡ false → IsNext bytes s.at s.last t → (t.kind ≡ End) ⊎ (starts tables v.rest t.kind ≡ false) → (kind : TokenKind) × (s.last ≡ Some kind) × (is_asked kind ≡ true) → IsAnswer bytes v.n v.free front s s low after p (Err (Syntax t.start))
+  asked_answer after p t not_file next last a = syntax_answer after p t next (end_never t not_file next last) (asked_no_whole bytes v.n is front s.at s.last a.0 o.behind a.1 a.2)
 
-  pub unfinished_answer : (after : ℕ) (p : Pending) (t : Token) → IsNext bytes s.at s.last t → (t.kind ≡ End) ⊎ (starts tables v.rest t.kind ≡ false) → ((kind : TokenKind) → s.last ≡ Some kind → is_asked kind ≡ false) → ((e : State) → ReadsGo bytes v.rest (at v.last [] v.nodes) e → ⊥) → IsAnswer bytes v.n v.free front s s low after p (Err (Syntax t.start))
-  unfinished_answer after p t next last sure never = syntax_answer after p t next (end_never t next last) (end_no_whole bytes v.n front v.rest v.last v.nodes (sure_read sure) never)
+  pub unfinished_answer : (after : ℕ) (p : Pending) (t : Token) → is_file v.n ≡ false → IsNext bytes s.at s.last t → (t.kind ≡ End) ⊎ (starts tables v.rest t.kind ≡ false) → ((kind : TokenKind) → s.last ≡ Some kind → is_asked kind ≡ false) → ((e : State) → ReadsGo bytes v.rest (at v.last [] v.nodes) e → ⊥) → IsAnswer bytes v.n v.free front s s low after p (Err (Syntax t.start))
+  unfinished_answer after p t not_file next last sure never = syntax_answer after p t next (end_never t not_file next last) (end_no_whole bytes v.n front v.rest v.last v.nodes (sure_read sure) never)
 
   -- what is read to the end has a node
   has_node : (es : List OpenNode) → HasRead bytes v.n front None v.rest v.last v.nodes → ReadsGo bytes v.rest (at v.last [] v.nodes) (at v.last [] es) → tree_read es ≡ None → ⊥
@@ -156,22 +158,22 @@ module _ (bytes : List ℕ) (v : View) (is : IsPiece v.n) (front : List Token) (
       let w : tree_read es ≡ Some z.0 = ap (λ (x : State). tree_read x.open_nodes) (sym q) ∙ z.1.tree in
       absurd (let u = sym none ∙ w in cc)
 
-  pub whole_answer : (after : ℕ) (p : Pending) (t : Token) → IsNext bytes s.at s.last t → (t.kind ≡ End) ⊎ (starts tables v.rest t.kind ≡ false) → ((kind : TokenKind) → s.last ≡ Some kind → is_asked kind ≡ false) → (es : List OpenNode) → ReadsGo bytes v.rest (at v.last [] v.nodes) (at v.last [] es) → (numbers : List ℕ) → Rises low numbers after → (result : Result Parsed ParseFault) → IsRead es result → HasNumbers numbers result → IfOk result (λ _. IsNew p) → IsAnswer bytes v.n v.free front s s low after p result
-  whole_answer after p t next last sure es r numbers rises (Ok (Whole node)) read has new = record {
+  pub whole_answer : (after : ℕ) (p : Pending) (t : Token) → is_file v.n ≡ false → IsNext bytes s.at s.last t → (t.kind ≡ End) ⊎ (starts tables v.rest t.kind ≡ false) → ((kind : TokenKind) → s.last ≡ Some kind → is_asked kind ≡ false) → (es : List OpenNode) → ReadsGo bytes v.rest (at v.last [] v.nodes) (at v.last [] es) → (numbers : List ℕ) → Rises low numbers after → (result : Result Parsed ParseFault) → IsRead es result → HasNumbers numbers result → IfOk result (λ _. IsNew p) → IsAnswer bytes v.n v.free front s s low after p result
+  whole_answer after p t not_file next last sure es r numbers rises (Ok (Whole node)) read has new = record {
     all = front;
     went = went_none;
     says = (
       record {
         tree = end_whole bytes v.n front v.rest v.last v.nodes es (sure_read sure) r (tree_without node) read;
         token = t;
-        ends = record { next = next; never = end_never t next last };
+        ends = record { next = next; never = end_never t not_file next last };
         rises = has low after rises;
       },
       new,
     );
   }
-  whole_answer after p t next last sure es r numbers rises (Ok Block) read has new = absurd read
-  whole_answer after p t next last sure es r numbers rises (Err fault) read has new = absurd (has_node es (sure_read sure) r read)
+  whole_answer after p t not_file next last sure es r numbers rises (Ok Block) read has new = absurd read
+  whole_answer after p t not_file next last sure es r numbers rises (Err fault) read has new = absurd (has_node es (sure_read sure) r read)
 
   -- ---- a token more
 
@@ -212,20 +214,20 @@ module _ (bytes : List ℕ) (v : View) (is : IsPiece v.n) (front : List Token) (
       (λ u w. astray_never bytes v.n is front o.assumed seen v.rest v.nodes (subst P q o.reads) (o.next seen.token next) kind u (right u w) x)
       to fault h
 
-  pub passed_progress : (after : ℕ) (p : Pending) (seen : Seen) → v.last ≡ seen.last → IsNext bytes s.at s.last seen.token → GoesOn bytes seen v.rest v.nodes → (to : Spot) (result : Result Progress ParseFault) → IfOk result (λ progress. (progress ≡ Passed) × (to ≡ behind seen.token)) → IfErr result (λ fault. (to ≡ s) × IsTooHigh v.free seen.token v.heights fault) → (OpensBlock bytes v.n front seen.token → ⊥) → OnOk result (IsOpen bytes (open_view p) (front ++ seen.token ∷ []) low after seen.token.end (Some seen.token.kind)) → IsProgress bytes v.n v.free front s to low after p seen.token result
+  pub passed_progress : (after : ℕ) (p : Pending) (seen : Seen) → v.last ≡ seen.last → IsNext bytes s.at s.last seen.token → GoesOn bytes seen v.rest v.nodes → (to : Spot) (result : Result Progress ParseFault) → IfOk result (λ progress. (progress ≡ Passed) × (to ≡ behind seen.token)) → IfErr result (λ fault. (to ≡ s) × IsTooHigh v.free seen.token v.heights fault) → (hands p.reading ≡ true → OpensBlock bytes v.n front seen.token → ⊥) → OnOk result (IsOpen bytes (open_view p) (front ++ seen.token ∷ []) low after seen.token.end (Some seen.token.kind)) → IsProgress bytes v.n v.free front s to low after p seen.token result
   passed_progress after p seen q next goes to (Ok Passed) h high over opened = (h.1, over, let P : Spot → Type 0 = λ x. IsOpen bytes (open_view p) (front ++ seen.token ∷ []) low after x.at x.last in subst P (sym h.1) opened)
   passed_progress after p seen q next goes to (Ok AtBlock) h high over opened = absurd (let z = h.0 in cc)
   passed_progress after p seen q next goes to (Err fault) h high over opened = high_answer after p seen.token next (begins_seen seen q next goes) to high.0 fault high.1
 
-  pub block_progress : (after : ℕ) (p : Pending) (seen : Seen) → v.last ≡ seen.last → IsNext bytes s.at s.last seen.token → GoesOn bytes seen v.rest v.nodes → (result : Result Progress ParseFault) → IfOk result (λ progress. (progress ≡ AtBlock) × (p.awaits ≡ true)) → IfErr result (λ fault. IsTooHigh v.free seen.token v.heights fault) → OnOk result (IsAwaiting bytes (open_view p) front low after s.at s.last) → IsProgress bytes v.n v.free front s s low after p seen.token result
-  block_progress after p seen q next goes (Ok Passed) h high awaits = absurd (let z = h.0 in cc)
-  block_progress after p seen q next goes (Ok AtBlock) h high awaits = (refl, h.1, awaits)
-  block_progress after p seen q next goes (Err fault) h high awaits = high_answer after p seen.token next (begins_seen seen q next goes) s refl fault high
+  pub block_progress : (after : ℕ) (p : Pending) (seen : Seen) → v.last ≡ seen.last → IsNext bytes s.at s.last seen.token → GoesOn bytes seen v.rest v.nodes → (result : Result Progress ParseFault) → IfOk result (λ progress. (progress ≡ AtBlock) × (p.awaits ≡ true)) → hands p.reading ≡ true → IfErr result (λ fault. IsTooHigh v.free seen.token v.heights fault) → OnOk result (IsAwaiting bytes (open_view p) front low after s.at s.last) → IsProgress bytes v.n v.free front s s low after p seen.token result
+  block_progress after p seen q next goes (Ok Passed) h over high awaits = absurd (let z = h.0 in cc)
+  block_progress after p seen q next goes (Ok AtBlock) h over high awaits = (refl, h.1, over, awaits)
+  block_progress after p seen q next goes (Err fault) h over high awaits = high_answer after p seen.token next (begins_seen seen q next goes) s refl fault high
 
   pub block_answer : (after : ℕ) (p : Pending) (token : Token) (to : Spot) → v.n ≡ (open_view p).n → v.free ≡ (open_view p).free → p.begun ≡ true → IsProgress bytes v.n v.free front s to low after p token (Ok AtBlock) → IsAnswer bytes v.n v.free front s to low after p (Ok Block)
   block_answer after p token to qn qf begun h =
       let P : Spot → Type 0 = λ x. Went bytes v.n v.free front s x front in
-      record { all = front; went = subst P (sym h.0) went_none; says = (is_block p to after v.n v.free qn qf h.2, begun, h.1, h.2) }
+      record { all = front; went = subst P (sym h.0) went_none; says = (is_block p to after v.n v.free qn qf h.3, begun, h.1, h.3) }
     where
       is_block : (p : Pending) (to : Spot) (after : ℕ) (n : Production) (free : ℕ) → n ≡ (open_view p).n → free ≡ (open_view p).free → IsAwaiting bytes (open_view p) front low after to.at to.last → IsBlock bytes n free front to
       is_block p to after n free qn qf a =

@@ -1,5 +1,5 @@
 -- A `;` follows the brace of a block alone.
-use Rattle.std.proofs.Common.{◌≡◌, Bool, true, false, not, List, [], ◌∷◌, ◌&&◌, ◌||◌, refl, subst, sym, ap, ◌∙◌, cond}
+use Rattle.std.proofs.Common.{◌≡◌, Bool, true, false, not, List, ◌∷◌, ◌&&◌, ◌||◌, refl, subst, sym, ◌∙◌, cond}
 use Rattle.std.proofs.lemmas.Bool.{and_parts, and_from}
 use Rattle.go_tree.specs.declared.token.Token.{Token}
 use Rattle.go_tree.specs.declared.token.TokenKind.{TokenKind}
@@ -9,7 +9,7 @@ use Rattle.go_tree.specs.declared.production.Form.TheVariants.{Plain, Header}
 use Rattle.go_tree.specs.declared.production.Items.TheVariants.{ImportSpecs, ConstSpecs, VarSpecs, TypeSpecs, TypeParamGroups, Types, Parameters, Fields, Elems, Indexes, Elements}
 use Rattle.go_tree.specs.declared.production.Clauses.TheVariants.{Cases, Comms}
 use Rattle.go_tree.specs.declared.production.Production.TheVariants as p
-use Rattle.go_tree.specs.Grammar.RightSide.{RightSide, Do, Call, Nothing, Seq, Or, Many, When, Act, Pass, Open, Reopen, Adopt, CheckType, Close}
+use Rattle.go_tree.specs.Grammar.RightSide.{RightSide, Do, Call, Nothing, Seq, Or, Many, When, Act, Pass}
 use Rattle.go_tree.specs.Grammar.TokenKinds.{same_kind}
 use Rattle.go_tree.specs.Grammar.Reading.{looks}
 use Rattle.go_tree.specs.Grammar.Prediction.{begins, is_empty, starts, next_of, expand}

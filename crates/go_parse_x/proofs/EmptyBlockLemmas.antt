@@ -1,22 +1,23 @@
 -- The block `{}` is a block.
-use Rattle.std.proofs.Common.{◌≡◌, ℕ, suc, ◌≤◌, ◌<◌, ◌+◌, ◌-◌, true, List, [], ◌∷◌, ◌++◌, Option, refl, subst, sym, ap, ◌∙◌, length, arith}
+use Rattle.go_parse_x.specs.Targets.{hands}
+use Rattle.std.proofs.Common.{◌≡◌, ℕ, ◌≤◌, ◌-◌, true, List, [], ◌∷◌, refl, subst, sym, ap, length, arith}
 use Rattle.go_tree.specs.declared.node.Node.{Node}
 use Rattle.go_tree.specs.declared.node_kind.NodeKind.TheVariants as k
 use Rattle.go_tree.specs.declared.token.Token.{Token}
 use Rattle.go_tree.specs.declared.token.TokenKind.{TokenKind}
 use Rattle.go_tree.specs.declared.token.TokenKind.TheVariants.{LeftBrace, RightBrace}
 use Rattle.go_tree.specs.declared.production.Production.TheVariants as p
-use Rattle.go_tree.specs.Height.{Mark, height_of, counted}
-use Rattle.go_tree.specs.Tree.{Tree, branch, no_trees, tree_of}
+use Rattle.go_tree.specs.Height.{Mark, height_of}
+use Rattle.go_tree.specs.Tree.{Tree, branch, no_trees}
 use Rattle.go_tree.specs.Grammar.TokenKinds.{same_kind}
 use Rattle.go_tree.specs.Grammar.Reading.{OpenNode, close_last, at_end, does, calls, nothing, in_turn, right, done}
 use Rattle.go_tree.specs.Grammar.Sentence.{IsA, Derives}
 use Rattle.go_tree.proofs.GrammarBlocks.{block_counts}
 use Rattle.go_parse_x.specs.declared.cursor.Cursor.{Cursor}
 use Rattle.go_parse_x.specs.declared.pending.Pending.{Pending}
-use Rattle.go_parse_x.specs.Answers.{Spot, spot_of, IsBlockRead}
+use Rattle.go_parse_x.specs.Answers.{spot_of, IsBlockRead}
 use Rattle.go_parse_x.specs.EmptyBlocks.{IsEmptyBlock}
-use Rattle.go_parse_x.specs.Opened.{unnumbered, numbers_in, tree_without, Rises}
+use Rattle.go_parse_x.specs.Opened.{unnumbered, numbers_in, Rises}
 use Rattle.go_parse_x.specs.Pieces.{AllFit, IsAwaiting, open_view}
 use Rattle.go_parse_x.specs.Texts.{Stand}
 use Rattle.go_parse_x.specs.Turns.{at}
@@ -58,8 +59,8 @@ empty_fits bytes free t u opens is le (x ∷ (y ∷ [])) ys q =
 empty_fits bytes free t u opens is le (x ∷ (y ∷ (z ∷ xs))) ys q = cc
 
 -- what the tests hand in is the block that is awaited
-pub empty_read : (c d : Cursor) (pending : Pending) (front : List Token) (low : ℕ) (node : Node) → pending.begun ≡ true → IsAwaiting c.bytes.now (open_view pending) front low c.number c.at c.last → IsEmptyBlock c d node → d.bytes.now ≡ c.bytes.now → 2 ≤ pending.free - height_of front → IsBlockRead d pending front low node
-empty_read c d pending front low node begun a e q le =
+pub empty_read : (c d : Cursor) (pending : Pending) (front : List Token) (low : ℕ) (node : Node) → pending.begun ≡ true → hands pending.reading ≡ true → IsAwaiting c.bytes.now (open_view pending) front low c.number c.at c.last → IsEmptyBlock c d node → d.bytes.now ≡ c.bytes.now → 2 ≤ pending.free - height_of front → IsBlockRead d pending front low node
+empty_read c d pending front low node begun piece a e q le =
     let tokens = e.opening ∷ (e.closing ∷ []) in
     let A : List ℕ → Type 0 = λ b. IsAwaiting b (open_view pending) front low c.number c.at c.last in
     let S : List ℕ → Type 0 = λ b. Stand b c.at c.last tokens d.at d.last in
@@ -69,6 +70,7 @@ empty_read c d pending front low node begun a e q le =
     let number = e.number in
     record {
       begun = begun;
+      piece = piece;
       number = c.number;
       spot = spot_of c;
       awaits = subst A (sym q) a;

@@ -137,14 +137,14 @@ module _ (bytes : List ℕ) (v : View) (is : IsPiece v.n) (front : List Token) (
   fit_before : AllFit v.free front
   fit_before xs ys q = a.fit xs (ys ++ a.brace ∷ []) (ap (λ x. x ++ a.brace ∷ []) q ∙ append_assoc xs ys (a.brace ∷ []))
 
-  pub given_open : (bs : List Token) (to : ℕ) (then : Option TokenKind) → Stand bytes at0 kind bs to then → Derives bytes p.Block bs tree → AllFit (v.free - height_of front) bs → (rest : List (RightSide Production)) → rest ≡ a.rest → (nodes : List OpenNode) → nodes ≡ added tree v.nodes → (heights : Heights) (numbers : List ℕ) (after : ℕ) → Counts heights (front ++ bs) → Rises low numbers after → IsOpen bytes (record { n = v.n; free = v.free; rest = rest; last = to; nodes = nodes; heights = heights; numbers = numbers }) (front ++ bs) low after to then
+  pub given_open : (bs : List Token) (to : ℕ) (then : Option TokenKind) → Stand bytes at0 kind bs to then → Derives bytes p.Block bs tree → AllFit (v.free - height_of front) bs → (rest : List (RightSide Production)) → rest ≡ a.rest → (nodes : List OpenNode) → nodes ≡ added tree v.nodes → (heights : Heights) (numbers : List ℕ) (after : ℕ) → Counts heights (front ++ bs) → Rises low numbers after → IsOpen bytes (record { n = v.n; free = v.free; rest = rest; last = to; nodes = nodes; heights = heights; numbers = numbers; hands_over = v.hands_over }) (front ++ bs) low after to then
   given_open bs to then h d fits rest qr nodes qn heights numbers after counts rises =
       let b = brace_first bs to then h d.whole in
       let e = behind_brace bs b.0 to then b.1 h in
       let read = given_read bs to then h d e.1 in
       let c = completes_lem bytes a.rest solid_rest.firm to (added tree v.nodes) in
-      let P : List (RightSide Production) → Type 0 = λ r. IsOpen bytes (record { n = v.n; free = v.free; rest = r; last = to; nodes = nodes; heights = heights; numbers = numbers }) (front ++ bs) low after to then in
-      let Q : List OpenNode → Type 0 = λ m. IsOpen bytes (record { n = v.n; free = v.free; rest = a.rest; last = to; nodes = m; heights = heights; numbers = numbers }) (front ++ bs) low after to then in
+      let P : List (RightSide Production) → Type 0 = λ r. IsOpen bytes (record { n = v.n; free = v.free; rest = r; last = to; nodes = nodes; heights = heights; numbers = numbers; hands_over = v.hands_over }) (front ++ bs) low after to then in
+      let Q : List OpenNode → Type 0 = λ m. IsOpen bytes (record { n = v.n; free = v.free; rest = a.rest; last = to; nodes = m; heights = heights; numbers = numbers; hands_over = v.hands_over }) (front ++ bs) low after to then in
       subst P (sym qr) (subst Q (sym qn) (record {
         assumed = None;
         reads = read;
@@ -152,7 +152,7 @@ module _ (bytes : List ℕ) (v : View) (is : IsPiece v.n) (front : List Token) (
         begins = reads_begin bytes v.n is (front ++ bs) (tokens_of (completion texts top_rank a.rest)) c.0 (read.back (tokens_of (completion texts top_rank a.rest)) c.0 tt c.2 c.1) c.2;
         asked = tt;
         next = λ t w. tt;
-        braced = braced_behind (Call p.Block) a.rest (subst (λ g. all_braced g ≡ true) a.block a.braced);
+        braced = λ h. braced_behind (Call p.Block) a.rest (subst (λ g. all_braced g ≡ true) a.block (a.braced h));
         level = a.level;
         levels = subst (λ g. through_all standing g a.level ≡ Some 0) a.block a.levels;
         fit = block_fits bytes v.free front bs d.whole fit_before fits;

@@ -6,6 +6,7 @@ pub mod LevelLemmas
 pub mod KindSetLemmas
 pub mod SpelledLemmas
 pub mod EndTokenLemmas
+pub mod FileEndLemmas
 pub mod BraceLemmas
 pub mod TurnLemmas
 pub mod EndLemmas
@@ -17,5 +18,6 @@ pub mod AheadLemmas
 pub mod CountLemmas
 pub mod AnswerLemmas
 pub mod GiveLemmas
+pub mod TextLemmas
 pub mod ReadyLemmas
 pub mod EmptyBlockLemmas

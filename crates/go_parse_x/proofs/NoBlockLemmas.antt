@@ -1,5 +1,5 @@
 -- A token that is passed opens no block: behind the brace of a block a `;` can stand, and behind no other.
-use Rattle.std.proofs.Common.{◌≡◌, ℕ, true, false, List, [], ◌∷◌, ◌++◌, Option, None, Some, refl, subst, sym, ap, ◌∙◌, ◌⊎◌, inl, inr, ⊎_elim, append_assoc}
+use Rattle.std.proofs.Common.{◌≡◌, ℕ, true, List, [], ◌∷◌, ◌++◌, Option, None, Some, refl, subst, sym, ap, ◌∙◌, ◌⊎◌, inl, inr, ⊎_elim, append_assoc}
 use Rattle.std.proofs.lemmas.List.{append-nil}
 use Rattle.go_tree.specs.declared.token.Token.{Token}
 use Rattle.go_tree.specs.declared.token.TokenKind.{TokenKind}
@@ -9,9 +9,8 @@ use Rattle.go_tree.specs.declared.production.Production.{Production}
 use Rattle.go_tree.specs.declared.production.Production.TheVariants as p
 use Rattle.go_tree.specs.Grammar.RightSide.{RightSide, Call}
 use Rattle.go_tree.specs.Grammar.TokenKinds.{same_kind}
-use Rattle.go_tree.specs.Grammar.Reading.{State, OpenNode, close_last, does, calls, nothing, in_turn, left, right, done, again, before}
+use Rattle.go_tree.specs.Grammar.Reading.{State, OpenNode, close_last, does, calls, nothing, in_turn, left, right, done, again}
 use Rattle.go_tree.specs.Grammar.Completion.{Firm, completion, tokens_of}
-use Rattle.go_tree.specs.Grammar.Prediction.{starts}
 use Rattle.go_tree.specs.Grammar.Rank.{top_rank}
 use Rattle.go_tree.specs.Grammar.Sentence.{production, tables, texts, ReadsGo}
 use Rattle.go_tree.proofs.PredictionLemmas.{first_token}

@@ -22,12 +22,15 @@ use Rattle.go_tree.proofs.SentenceLemmas.{completes_lem}
 use Rattle.go_parse_x.specs.declared.heights.Heights.{Heights}
 use Rattle.go_parse_x.specs.declared.pending.Pending.{Pending}
 use Rattle.go_parse_x.specs.declared.reading.Reading.{Reading}
+use Rattle.go_parse_x.specs.declared.reading.Target.{Target}
+use Rattle.go_parse_x.specs.declared.reading.Target.TheVariants as target
+use Rattle.go_parse_x.specs.Targets.{reads, piece, hands}
 use Rattle.go_parse_x.specs.declared.reading.Reading.TheVariants.{Plain, Header, TypeOnly, Signature, Params, TypeParams}
 use Rattle.go_parse_x.specs.declared.seen.Seen.{Seen}
 use Rattle.go_parse_x.specs.Braces.{is_brace, is_braced, all_braced}
 use Rattle.go_parse_x.specs.Heights.{Counts}
 use Rattle.go_parse_x.specs.Opened.{Rises}
-use Rattle.go_parse_x.specs.Pieces.{piece, HasRead, View, open_view, new_view, view_of, IsNew, IsAsked, IsOpen, IsAwaiting}
+use Rattle.go_parse_x.specs.Pieces.{HasRead, View, open_view, new_view, view_of, IsNew, IsAsked, IsOpen, IsAwaiting}
 use Rattle.go_parse_x.specs.Texts.{none, one}
 use Rattle.go_parse_x.specs.Turns.{at, IsAsSeen, IsSound, IsSolid, GoesOn, IsSame, IsPassed, IsAssumed, IsAtBlock}
 use Rattle.go_parse_x.proofs.PieceLemmas.{IsPiece, piece_is, seen_on, fits_on, none_fits, reads_begin, goes_begin, passed_read}
@@ -39,34 +42,42 @@ use Rattle.go_parse_x.proofs.TurnLemmas.{same_goes_on}
 abbrev pub root : List OpenNode
 root = record { start = 0; parts = [] } ∷ []
 
-abbrev pub first_side : Reading → List (RightSide Production)
+abbrev pub first_side : Target → List (RightSide Production)
 first_side r = production (piece r) ∷ []
 
-first_there : (r : Reading) → is_there (spell texts top_rank (production (piece r))) ≡ true
-first_there Plain = refl
-first_there Header = refl
-first_there TypeOnly = refl
-first_there Signature = refl
-first_there Params = refl
-first_there TypeParams = refl
+reading_there : (r : Reading) → is_there (spell texts top_rank (production (reads r))) ≡ true
+reading_there Plain = refl
+reading_there Header = refl
+reading_there TypeOnly = refl
+reading_there Signature = refl
+reading_there Params = refl
+reading_there TypeParams = refl
+
+first_there : (r : Target) → is_there (spell texts top_rank (production (piece r))) ≡ true
+first_there (target.Piece r) = reading_there r
+first_there target.File = refl
 
 and_true : (b : Bool) → b ≡ true → (b && true) ≡ true
 and_true true h = refl
 and_true false h = cc
 
-head_ok : (r : Reading) → cond (is_brace (production (piece r))) (not (starts tables [] Semicolon)) (is_braced (production (piece r))) ≡ true
-head_ok Plain = refl
-head_ok Header = refl
-head_ok TypeOnly = refl
-head_ok Signature = refl
-head_ok Params = refl
-head_ok TypeParams = refl
+reading_braced : (r : Reading) → cond (is_brace (production (reads r))) (not (starts tables [] Semicolon)) (is_braced (production (reads r))) ≡ true
+reading_braced Plain = refl
+reading_braced Header = refl
+reading_braced TypeOnly = refl
+reading_braced Signature = refl
+reading_braced Params = refl
+reading_braced TypeParams = refl
+
+first_braced : (r : Target) → hands r ≡ true → all_braced (first_side r) ≡ true
+first_braced (target.Piece r) h = and_true _ (reading_braced r)
+first_braced target.File h = cc
 
 -- nothing stands behind a piece
 pub alone_decided : (n : Production) → AllDecided tables (Call n ∷ [])
 alone_decided n = (λ k h. cc, tt)
 
-pub first_solid : (r : Reading) → IsSolid (first_side r)
+pub first_solid : (r : Target) → IsSolid (first_side r)
 first_solid r = record {
   decided = call_decided Production production [] tables tables_right (piece r) [] (alone_decided (piece r));
   firm = (texts_right.parts (piece r), first_there r, tt);
@@ -77,30 +88,30 @@ first_solid r = record {
 entered : (bytes : List ℕ) (n : Production) (s e : State) → ReadsGo bytes (Call n ∷ []) s e → ReadsGo bytes (production n ∷ []) s e
 entered bytes n s e (calls d) = d
 
-pub first_read : (bytes : List ℕ) (r : Reading) → HasRead bytes (piece r) [] None (first_side r) 0 root
+pub first_read : (bytes : List ℕ) (r : Target) → HasRead bytes (piece r) [] None (first_side r) 0 root
 first_read bytes r = record {
   there = λ ts e a z d. entered bytes (piece r) (before ts) e d;
   back = λ ts e a z d. calls d;
 }
 
-pub first_begins : (bytes : List ℕ) (r : Reading) → Begins bytes (piece r) []
+pub first_begins : (bytes : List ℕ) (r : Target) → Begins bytes (piece r) []
 first_begins bytes r =
     let z = completes_lem bytes (first_side r) (first_solid r).firm 0 root in
     reads_begin bytes (piece r) (piece_is r) [] (tokens_of (completion texts top_rank (first_side r))) z.0 (calls z.1) z.2
 
-pub first_levels : (r : Reading) → through_all standing (first_side r) 0 ≡ Some 0
+pub first_levels : (r : Target) → through_all standing (first_side r) 0 ≡ Some 0
 first_levels r = brackets_expand (Call (piece r)) [] (record { kind = LeftBrace; start = 0; end = 0 }) [] 0 0 (brackets_start (piece r) (piece_is r).level)
 
 -- nothing is read yet
-pub first_open : (bytes : List ℕ) (p : Pending) (low number to : ℕ) (kind : Option TokenKind) → IsNew p → low ≤ number → IsOpen bytes (view_of p) [] low number to kind
-first_open bytes p low number to kind new le = let P : View → Type 0 = λ v. IsOpen bytes v [] low number to kind in subst P (ap (λ b. cond b (open_view p) (new_view p)) (sym new.begun)) (record {
+pub new_open : (bytes : List ℕ) (p : Pending) (low number to : ℕ) (kind : Option TokenKind) → IsNew p → low ≤ number → IsOpen bytes (new_view p) [] low number to kind
+new_open bytes p low number to kind new le = record {
   assumed = None;
   reads = first_read bytes p.reading;
   solid = first_solid p.reading;
   begins = first_begins bytes p.reading;
   asked = tt;
   next = λ t h. tt;
-  braced = and_true _ (head_ok p.reading);
+  braced = first_braced p.reading;
   level = 0;
   levels = first_levels p.reading;
   fit = none_fits p.free;
@@ -108,7 +119,12 @@ first_open bytes p low number to kind new le = let P : View → Type 0 = λ v. I
   full = tt;
   rises = le;
   behind = none;
-})
+}
+
+pub first_open : (bytes : List ℕ) (p : Pending) (low number to : ℕ) (kind : Option TokenKind) → IsNew p → low ≤ number → IsOpen bytes (view_of p) [] low number to kind
+first_open bytes p low number to kind new le =
+    let P : View → Type 0 = λ v. IsOpen bytes v [] low number to kind in
+    subst P (ap (λ b. cond b (open_view p) (new_view p)) (sym new.begun)) (new_open bytes p low number to kind new le)
 
 -- ---- one more token
 
@@ -117,7 +133,7 @@ abbrev pub IsRight : List ℕ → Seen → Type 0
 IsRight bytes seen = (kind : TokenKind) → seen.ahead ≡ Some kind → (u : Token) → IsNext bytes seen.token.end (Some seen.token.kind) u → u.kind ≡ kind
 
 abbrev pub on_view : View → Seen → List (RightSide Production) → List OpenNode → Heights → List ℕ → View
-on_view v seen hs es heights numbers = record { n = v.n; free = v.free; rest = hs; last = seen.token.end; nodes = es; heights = heights; numbers = numbers }
+on_view v seen hs es heights numbers = record { n = v.n; free = v.free; rest = hs; last = seen.token.end; nodes = es; heights = heights; numbers = numbers; hands_over = v.hands_over }
 
 asked_on : (bytes : List ℕ) (seen : Seen) (then : Option TokenKind) (gs : List (RightSide Production)) (fs : List OpenNode) → IsAssumed bytes seen then gs fs → IsAsked then (Some seen.token.kind)
 asked_on bytes seen None gs fs h = tt
@@ -127,7 +143,7 @@ next_on : (bytes : List ℕ) (seen : Seen) (then : Option TokenKind) (gs : List 
 next_on bytes seen None gs fs right h u w = tt
 next_on bytes seen (Some k) gs fs right h u w = right k h.0 u w
 
-pub passed_open : (bytes : List ℕ) (v : View) → IsPiece v.n → (front : List Token) (low number to : ℕ) (kind : Option TokenKind) (o : IsOpen bytes v front low number to kind) (seen : Seen) → v.last ≡ seen.last → IsNext bytes to kind seen.token → IsRight bytes seen → (then : Option TokenKind) (hs : List (RightSide Production)) (es : List OpenNode) → seen.hands_over ≡ true → IsPassed bytes seen then v.rest hs v.nodes es → IsAssumed bytes seen then v.rest v.nodes → GoesOn bytes seen v.rest v.nodes → IsSound v.rest → (heights : Heights) (numbers : List ℕ) (after : ℕ) → Counts heights (front ++ seen.token ∷ []) → height_of (front ++ seen.token ∷ []) ≤ v.free → Rises low numbers after → IsOpen bytes (on_view v seen hs es heights numbers) (front ++ seen.token ∷ []) low after seen.token.end (Some seen.token.kind)
+pub passed_open : (bytes : List ℕ) (v : View) → IsPiece v.n → (front : List Token) (low number to : ℕ) (kind : Option TokenKind) (o : IsOpen bytes v front low number to kind) (seen : Seen) → v.last ≡ seen.last → IsNext bytes to kind seen.token → IsRight bytes seen → (then : Option TokenKind) (hs : List (RightSide Production)) (es : List OpenNode) → (v.hands_over ≡ true → seen.hands_over ≡ true) → IsPassed bytes seen then v.rest hs v.nodes es → IsAssumed bytes seen then v.rest v.nodes → GoesOn bytes seen v.rest v.nodes → IsSound v.rest → (heights : Heights) (numbers : List ℕ) (after : ℕ) → Counts heights (front ++ seen.token ∷ []) → height_of (front ++ seen.token ∷ []) ≤ v.free → Rises low numbers after → IsOpen bytes (on_view v seen hs es heights numbers) (front ++ seen.token ∷ []) low after seen.token.end (Some seen.token.kind)
 passed_open bytes v is front low number to kind o seen q next right then hs es over x assumed goes sound heights numbers after counts fit rises =
     let P : ℕ → Type 0 = λ l. HasRead bytes v.n front o.assumed v.rest l v.nodes in
     let reads = subst P q o.reads in
@@ -139,7 +155,7 @@ passed_open bytes v is front low number to kind o seen q next right then hs es o
       asked = asked_on bytes seen then v.rest v.nodes assumed;
       next = next_on bytes seen then v.rest v.nodes right assumed;
       level = (x.levels o.level 0 o.levels).0;
-      braced = x.braced over o.braced;
+      braced = λ h. x.braced (over h) (o.braced h);
       levels = (x.levels o.level 0 o.levels).1;
       fit = fits_on v.free front seen.token o.fit fit;
       counts = counts;
@@ -158,9 +174,9 @@ block_goes bytes seen hs es s b =
     record { more = z.0; end = z.1; reads = subst (λ x. ReadsGo bytes x (at seen.last (seen.token ∷ z.0) es) z.1) (sym b.block) z.2; all = z.3 }
 
 abbrev pub block_view : View → List (RightSide Production) → List OpenNode → List ℕ → View
-block_view v hs es numbers = record { n = v.n; free = v.free; rest = hs; last = v.last; nodes = es; heights = v.heights; numbers = numbers }
+block_view v hs es numbers = record { n = v.n; free = v.free; rest = hs; last = v.last; nodes = es; heights = v.heights; numbers = numbers; hands_over = v.hands_over }
 
-pub block_awaits : (bytes : List ℕ) (v : View) → IsPiece v.n → (front : List Token) (low number to : ℕ) (kind : Option TokenKind) (o : IsOpen bytes v front low number to kind) (seen : Seen) → v.last ≡ seen.last → IsNext bytes to kind seen.token → (hs : List (RightSide Production)) (es : List OpenNode) → seen.hands_over ≡ true → IsSame bytes seen None v.rest hs v.nodes es → IsAtBlock seen hs hs es es → IsSound v.rest → (numbers : List ℕ) (after : ℕ) → height_of (front ++ seen.token ∷ []) ≤ v.free → Rises low numbers after → IsAwaiting bytes (block_view v hs es numbers) front low after to kind
+pub block_awaits : (bytes : List ℕ) (v : View) → IsPiece v.n → (front : List Token) (low number to : ℕ) (kind : Option TokenKind) (o : IsOpen bytes v front low number to kind) (seen : Seen) → v.last ≡ seen.last → IsNext bytes to kind seen.token → (hs : List (RightSide Production)) (es : List OpenNode) → (v.hands_over ≡ true → seen.hands_over ≡ true) → IsSame bytes seen None v.rest hs v.nodes es → IsAtBlock seen hs hs es es → IsSound v.rest → (numbers : List ℕ) (after : ℕ) → height_of (front ++ seen.token ∷ []) ≤ v.free → Rises low numbers after → IsAwaiting bytes (block_view v hs es numbers) front low after to kind
 block_awaits bytes v is front low number to kind o seen q next hs es over x block sound numbers after fit rises =
     let P : ℕ → Type 0 = λ l. HasRead bytes v.n front o.assumed v.rest l v.nodes in
     let reads = subst P q o.reads in
@@ -178,7 +194,7 @@ block_awaits bytes v is front low number to kind o seen q next hs es over x bloc
       back = subst S (sym q) (λ ts e z r. reads.back (seen.token ∷ ts) e (seen_on o.assumed seen.token ts ok) z (x.back ts e tt z r));
       sound = x.sound sound;
       begins = goes_begin bytes v.n is front o.assumed seen v.rest v.nodes reads ok goes;
-      braced = x.braced over o.braced;
+      braced = λ h. x.braced (over h) (o.braced h);
       level = o.level;
       levels = x.levels o.level 0 o.levels;
       fit = fits_on v.free front seen.token o.fit fit;

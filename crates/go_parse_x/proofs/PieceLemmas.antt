@@ -19,26 +19,44 @@ use Rattle.go_tree.proofs.GrammarBalance.{tree_lem}
 use Rattle.go_tree.proofs.GrammarEnds.{ends_in_none}
 use Rattle.go_parse_x.specs.declared.reading.Reading.{Reading}
 use Rattle.go_parse_x.specs.declared.reading.Reading.TheVariants.{Plain, Header, TypeOnly, Signature, Params, TypeParams}
+use Rattle.go_parse_x.specs.declared.reading.Target.{Target}
+use Rattle.go_parse_x.specs.declared.reading.Target.TheVariants as target
+use Rattle.go_parse_x.specs.Targets.{reads, piece, hands}
 use Rattle.go_parse_x.specs.declared.seen.Seen.{Seen}
-use Rattle.go_parse_x.specs.Pieces.{piece, AllFit, HasRead}
+use Rattle.go_parse_x.specs.Pieces.{AllFit, HasRead}
 use Rattle.go_parse_x.specs.Texts.{IsBehind, none, one}
 use Rattle.go_parse_x.specs.Turns.{at, is_asked, IsAsSeen, GoesOn, IsPassed, IsStuck}
 use Rattle.go_parse_x.proofs.EndTokenLemmas.{is_file, no_end_read}
 
--- what the pieces have in common
+-- what pieces and files have in common
 pub record IsPiece (n : Production) : Type 0 where
   pub whole : is_whole n ≡ true
   pub level : standing n ≡ Level
-  pub not_file : is_file n ≡ false
   pub not_empty : can_be_empty n ≡ false
 
-pub piece_is : (r : Reading) → IsPiece (piece r)
-piece_is Plain = record { whole = refl; level = refl; not_file = refl; not_empty = refl }
-piece_is Header = record { whole = refl; level = refl; not_file = refl; not_empty = refl }
-piece_is TypeOnly = record { whole = refl; level = refl; not_file = refl; not_empty = refl }
-piece_is Signature = record { whole = refl; level = refl; not_file = refl; not_empty = refl }
-piece_is Params = record { whole = refl; level = refl; not_file = refl; not_empty = refl }
-piece_is TypeParams = record { whole = refl; level = refl; not_file = refl; not_empty = refl }
+reading_is : (r : Reading) → IsPiece (reads r)
+reading_is Plain = record { whole = refl; level = refl; not_empty = refl }
+reading_is Header = record { whole = refl; level = refl; not_empty = refl }
+reading_is TypeOnly = record { whole = refl; level = refl; not_empty = refl }
+reading_is Signature = record { whole = refl; level = refl; not_empty = refl }
+reading_is Params = record { whole = refl; level = refl; not_empty = refl }
+reading_is TypeParams = record { whole = refl; level = refl; not_empty = refl }
+
+pub piece_is : (r : Target) → IsPiece (piece r)
+piece_is (target.Piece r) = reading_is r
+piece_is target.File = record { whole = refl; level = refl; not_empty = refl }
+
+reading_no_file : (r : Reading) → is_file (reads r) ≡ false
+reading_no_file Plain = refl
+reading_no_file Header = refl
+reading_no_file TypeOnly = refl
+reading_no_file Signature = refl
+reading_no_file Params = refl
+reading_no_file TypeParams = refl
+
+pub no_file : (r : Target) → hands r ≡ true → is_file (piece r) ≡ false
+no_file (target.Piece r) h = reading_no_file r
+no_file target.File h = cc
 
 -- ---- lists of tokens
 
@@ -154,6 +172,6 @@ end_whole bytes n front gs last fs es h r t q = record {
 pub end_no_whole : (bytes : List ℕ) (n : Production) (front : List Token) (gs : List (RightSide Production)) (last : ℕ) (fs : List OpenNode) → HasRead bytes n front None gs last fs → ((e : State) → ReadsGo bytes gs (at last [] fs) e → ⊥) → IsA bytes n front → ⊥
 end_no_whole bytes n front gs last fs h never a = never a.end (h.there [] a.end tt a.all (subst (λ w. ReadsGo bytes (Call n ∷ []) (before w) a.end) (sym (append-nil front)) a.reads))
 
-pub end_token_never : (bytes : List ℕ) (n : Production) → IsPiece n → (front : List Token) (t : Token) → t.kind ≡ End → Begins bytes n (front ++ t ∷ []) → ⊥
-end_token_never bytes n is front t q b =
-    no_end_read bytes n is.not_file front b.0 t b.1 q (subst (λ w. Derives bytes n w b.1) (behind_one front b.0 t) b.2)
+pub end_token_never : (bytes : List ℕ) (n : Production) → is_file n ≡ false → (front : List Token) (t : Token) → t.kind ≡ End → Begins bytes n (front ++ t ∷ []) → ⊥
+end_token_never bytes n not_file front t q b =
+    no_end_read bytes n not_file front b.0 t b.1 q (subst (λ w. Derives bytes n w b.1) (behind_one front b.0 t) b.2)

@@ -61,5 +61,5 @@ module _ (bytes : List ℕ) (seen : Seen) (gs hs is : List (RightSide Production
       let P : List (RightSide Production) → List OpenNode → Type 0 = λ i d. IsSettled bytes seen AtBlock gs i fs d in
       let Q : List (RightSide Production) → Type 0 = λ i. P i ds in
       let R : List OpenNode → Type 0 = λ d. P hs d in
-      subst Q (sym y.stays) (subst R (sym y.nodes) (x, record { rest = y.rest; block = y.block; brace = y.brace; stays = refl; nodes = refl }))
+      subst Q (sym y.stays) (subst R (sym y.nodes) (x, record { rest = y.rest; block = y.block; brace = y.brace; over = y.over; stays = refl; nodes = refl }))
   block_on true x m y = absurd (let q = ap is_asked y.brace in let w = m.2.asked in cc)

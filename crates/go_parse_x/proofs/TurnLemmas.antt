@@ -181,8 +181,8 @@ block_stuck bytes seen n gs fs q h =
     let P : Production → Type 0 = λ m. IsStuck bytes seen None (Call m ∷ gs) fs in
     subst P (sym q) (never_starts bytes seen (Call Block ∷ gs) fs (or_nothing (same_kind LeftBrace seen.token.kind) (starts tables gs seen.token.kind) h))
 
-pub at_block : (seen : Seen) (n : Production) (gs : List (RightSide Production)) (fs : List OpenNode) → n ≡ Block → seen.token.kind ≡ LeftBrace → IsAtBlock seen (Call n ∷ gs) (Call n ∷ gs) fs fs
-at_block seen n gs fs q brace = record { rest = gs; block = rw q refl; brace = brace; stays = refl; nodes = refl }
+pub at_block : (seen : Seen) (n : Production) (gs : List (RightSide Production)) (fs : List OpenNode) → n ≡ Block → seen.token.kind ≡ LeftBrace → seen.hands_over ≡ true → IsAtBlock seen (Call n ∷ gs) (Call n ∷ gs) fs fs
+at_block seen n gs fs q brace over = record { rest = gs; block = rw q refl; brace = brace; over = over; stays = refl; nodes = refl }
 
 sound_behind : (a : Act) (gs : List (RightSide Production)) → IsSound (Do a ∷ gs) → IsSolid gs
 sound_behind a gs s = record { decided = s.decided.1; firm = s.held.1; spelled = s.spelled; begun = s.begun }

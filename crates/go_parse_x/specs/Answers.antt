@@ -17,6 +17,7 @@ use Rattle.go_parse_x.specs.declared.parsed.Parsed.TheVariants as parsed
 use Rattle.go_parse_x.specs.declared.pending.Pending.{Pending}
 use Rattle.go_parse_x.specs.Opened.{tree_without, numbers_in, Rises}
 use Rattle.go_parse_x.specs.Pieces.{AllFit, OpensBlock, PassesNoBlock, IsNew, open_view, view_of, IsOpen, IsAwaiting}
+use Rattle.go_parse_x.specs.Targets.{hands}
 use Rattle.go_parse_x.specs.Texts.{Stand, IsLex}
 
 -- a place between tokens: its offset, and the kind of the token before it
@@ -93,12 +94,14 @@ pub record IsAnswer (bytes : List ℕ) (n : Production) (free : ℕ) (front : Li
 -- with nodes whose numbers rise from `low` on
 pub record IsReady (c : Cursor) (p : Pending) (front : List Token) (low : ℕ) : Type 0 where
   pub awaits : p.awaits ≡ false
+  pub piece : hands p.reading ≡ true
   pub is_open : IsOpen c.bytes.now (view_of p) front low c.number c.at c.last
 
 -- the tokens since the answer Block are those of one block, and this is its tree; the block's heights, counted from 0, are
 -- free, and its nodes have numbers that were given since
 pub record IsBlockRead (c : Cursor) (p : Pending) (front : List Token) (low : ℕ) (block : Node) : Type 0 where
   pub begun : p.begun ≡ true
+  pub piece : hands p.reading ≡ true
   pub number : ℕ
   pub spot : Spot
   pub awaits : IsAwaiting c.bytes.now (open_view p) front low number spot.at spot.last

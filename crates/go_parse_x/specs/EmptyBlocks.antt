@@ -1,5 +1,5 @@
 -- The block `{}`, which the tests hand in.
-use Rattle.std.specs.Prelude.{ℕ, ◌+◌, ◌≡◌, [], ◌∷◌}
+use Rattle.std.specs.Prelude.{◌+◌, ◌≡◌, [], ◌∷◌}
 use Rattle.go_tree.specs.declared.node.Node.{Node}
 use Rattle.go_tree.specs.declared.node_kind.NodeKind.TheVariants.{Block}
 use Rattle.go_tree.specs.declared.token.Token.{Token}

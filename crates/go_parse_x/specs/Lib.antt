@@ -10,7 +10,9 @@ pub mod Braces
 pub mod Turns
 pub mod Ends
 pub mod Texts
+pub mod Targets
 pub mod Pieces
 pub mod Answers
 pub mod Steps
+pub mod Files
 pub mod EmptyBlocks

@@ -1,9 +1,8 @@
 -- Pieces: what is read as one, and what is known while it is read.
-use Rattle.std.specs.Prelude.{ℕ, ◌≡◌, ◌≤◌, true, false, List, [], ◌∷◌, ◌++◌, Option, None, Some, if◌then◌else◌}
+use Rattle.std.specs.Prelude.{ℕ, ◌≡◌, ◌≤◌, true, false, List, [], ◌∷◌, ◌++◌, Option, None, Some, if◌then◌else◌, Bool}
 use Rattle.go_tree.specs.declared.token.Token.{Token}
 use Rattle.go_tree.specs.declared.token.TokenKind.{TokenKind}
 use Rattle.go_tree.specs.declared.token.TokenKind.TheVariants.{LeftBrace}
-use Rattle.go_tree.specs.declared.production.Form.TheVariants as form
 use Rattle.go_tree.specs.declared.production.Production.{Production}
 use Rattle.go_tree.specs.declared.production.Production.TheVariants as p
 use Rattle.go_tree.specs.Height.{height_of}
@@ -15,8 +14,7 @@ use Rattle.go_tree.specs.Grammar.Completion.{Firm}
 use Rattle.go_tree.specs.Grammar.Rank.{top_rank}
 use Rattle.go_tree.specs.Grammar.Sentence.{production, texts, ReadsGo, Begins}
 use Rattle.go_parse_x.specs.declared.heights.Heights.{Heights}
-use Rattle.go_parse_x.specs.declared.reading.Reading.{Reading}
-use Rattle.go_parse_x.specs.declared.reading.Reading.TheVariants.{Plain, Header, TypeOnly, Signature, Params, TypeParams}
+use Rattle.go_parse_x.specs.Targets.{hands, piece}
 use Rattle.go_parse_x.specs.declared.pending.Pending.{Pending}
 use Rattle.go_parse_x.specs.Braces.{all_braced}
 use Rattle.go_parse_x.specs.Lines.{sides}
@@ -24,15 +22,6 @@ use Rattle.go_parse_x.specs.Opened.{frames, numbers, Rises}
 use Rattle.go_parse_x.specs.Heights.{Counts}
 use Rattle.go_parse_x.specs.Turns.{at, is_asked, IsAsSeen, IsSound, IsSolid, IsFull}
 use Rattle.go_parse_x.specs.Texts.{IsBehind}
-
--- the production that is read
-abbrev pub piece : Reading → Production
-piece Plain = p.Expr form.Plain
-piece Header = p.Expr form.Header
-piece TypeOnly = p.AnyType
-piece Signature = p.Signature
-piece Params = p.Params
-piece TypeParams = p.TypeParams
 
 -- no token has a height past what is free
 abbrev pub AllFit : ℕ → List Token → Type 0
@@ -55,14 +44,16 @@ pub record View : Type 0 where
   -- the heights of the tokens so far, and the numbers of the nodes so far
   pub heights : Heights
   pub numbers : List ℕ
+  -- whether blocks are handed over
+  pub hands_over : Bool
 
 -- one of which something is read
 abbrev pub open_view : Pending → View
-open_view p = record { n = piece p.reading; free = p.free; rest = sides p.todo.items; last = p.last; nodes = frames p.opened.items; heights = p.heights; numbers = numbers p.opened.items }
+open_view p = record { n = piece p.reading; free = p.free; rest = sides p.todo.items; last = p.last; nodes = frames p.opened.items; heights = p.heights; numbers = numbers p.opened.items; hands_over = hands p.reading }
 
 -- one of which nothing is read
 abbrev pub new_view : Pending → View
-new_view p = record { n = piece p.reading; free = p.free; rest = production (piece p.reading) ∷ []; last = 0; nodes = record { start = 0; parts = [] } ∷ []; heights = p.heights; numbers = [] }
+new_view p = record { n = piece p.reading; free = p.free; rest = production (piece p.reading) ∷ []; last = 0; nodes = record { start = 0; parts = [] } ∷ []; heights = p.heights; numbers = []; hands_over = hands p.reading }
 
 abbrev pub view_of : Pending → View
 view_of p = if p.begun then open_view p else new_view p
@@ -101,7 +92,7 @@ pub record IsOpen (bytes : List ℕ) (v : View) (front : List Token) (low number
   pub begins : Begins bytes v.n front
   pub asked : IsAsked assumed kind
   pub next : (t : Token) → IsNext bytes to kind t → IsAsSeen assumed (t ∷ [])
-  pub braced : all_braced v.rest ≡ true
+  pub braced : v.hands_over ≡ true → all_braced v.rest ≡ true
   pub level : ℕ
   pub levels : through_all standing v.rest level ≡ Some 0
   pub fit : AllFit v.free front
@@ -121,7 +112,7 @@ pub record IsAwaiting (bytes : List ℕ) (v : View) (front : List Token) (low nu
   pub back : (ts : List Token) (e : State) → e.rest ≡ [] → ReadsGo bytes v.rest (at v.last (brace ∷ ts) v.nodes) e → ReadsGo bytes (Call v.n ∷ []) (before (front ++ brace ∷ ts)) e
   pub sound : IsSound v.rest
   pub begins : Begins bytes v.n (front ++ brace ∷ [])
-  pub braced : all_braced v.rest ≡ true
+  pub braced : v.hands_over ≡ true → all_braced v.rest ≡ true
   pub level : ℕ
   pub levels : through_all standing v.rest level ≡ Some 0
   pub fit : AllFit v.free (front ++ brace ∷ [])

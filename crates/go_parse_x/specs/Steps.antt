@@ -18,6 +18,7 @@ use Rattle.go_parse_x.specs.Opened.{tree_without, numbers_in, Rises}
 use Rattle.go_parse_x.specs.Answers.{Spot, IsAnswer}
 use Rattle.go_parse_x.specs.Heights.{Counts}
 use Rattle.go_parse_x.specs.Pieces.{OpensBlock, open_view, IsOpen, IsAwaiting}
+use Rattle.go_parse_x.specs.Targets.{hands}
 use Rattle.go_parse_x.specs.Texts.{IsLex}
 
 -- the height at the token is free
@@ -41,8 +42,8 @@ IsStray bytes free token heights from to fault = (to ≡ from) × IsTooHigh free
 
 -- what a token makes of a piece
 abbrev pub IsProgress : List ℕ → Production → ℕ → List Token → Spot → Spot → ℕ → ℕ → Pending → Token → Result Progress ParseFault → Type 0
-IsProgress bytes n free front from to low number p token (Ok Passed) = (to ≡ behind token) × (OpensBlock bytes n front token → ⊥) × IsOpen bytes (open_view p) (front ++ token ∷ []) low number to.at to.last
-IsProgress bytes n free front from to low number p token (Ok AtBlock) = (to ≡ from) × (p.awaits ≡ true) × IsAwaiting bytes (open_view p) front low number to.at to.last
+IsProgress bytes n free front from to low number p token (Ok Passed) = (to ≡ behind token) × (hands p.reading ≡ true → OpensBlock bytes n front token → ⊥) × IsOpen bytes (open_view p) (front ++ token ∷ []) low number to.at to.last
+IsProgress bytes n free front from to low number p token (Ok AtBlock) = (to ≡ from) × (p.awaits ≡ true) × (hands p.reading ≡ true) × IsAwaiting bytes (open_view p) front low number to.at to.last
 IsProgress bytes n free front from to low number p token (Err fault) = IsAnswer bytes n free front from to low number p (Err fault)
 
 -- the newest node of the open ones is answered

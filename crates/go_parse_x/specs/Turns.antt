@@ -138,6 +138,7 @@ pub record IsAtBlock (seen : Seen) (gs hs : List (RightSide Production)) (fs es 
   pub rest : List (RightSide Production)
   pub block : gs ≡ Call Block ∷ rest
   pub brace : seen.token.kind ≡ LeftBrace
+  pub over : seen.hands_over ≡ true
   pub stays : hs ≡ gs
   pub nodes : es ≡ fs
 

@@ -16,8 +16,8 @@ use crate::pending::Pending;
 use crate::progress::Progress;
 use go_tree::Token;
 
-// Counts a token, or says that its height passes what is free.
-fn count(heights: &mut Heights, free: usize, token: Token) -> Result<(), ParseFault>
+/// Counts a token, or says that its height passes what is free.
+pub fn count(heights: &mut Heights, free: usize, token: Token) -> Result<(), ParseFault>
     ensures counts { OnOk result ((ts : List TokenOf) → Counts heights.old ts → Counts heights.new (ts ++ token ∷ [])) }
     ensures fits { OnOk result (Fits free token heights.old) }
     ensures high { IfErr result (λ fault. IsTooHigh free token heights.old fault) }

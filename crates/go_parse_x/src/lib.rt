@@ -17,6 +17,7 @@ mod pending;
 mod progress;
 mod reader;
 mod reading;
+mod texts;
 
 // The machine.
 mod acts;
@@ -49,6 +50,7 @@ pub use parsed::Parsed;
 pub use pending::Pending;
 pub use reader::parse_expr;
 pub use reading::Reading;
+pub use texts::parse_text;
 
 #[cfg(test)]
 mod behind_tests;

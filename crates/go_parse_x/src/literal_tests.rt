@@ -5,6 +5,7 @@ ghost use Rattle.go_tree.specs.declared.token.TokenKind.TheVariants.{End};
 ghost use Rattle.go_parse_x.specs.Answers.{IsBlockRead};
 ghost use Rattle.go_parse_x.specs.EmptyBlocks.{IsEmptyBlock};
 ghost use Rattle.go_parse_x.specs.Pieces.{IsAwaiting, open_view};
+ghost use Rattle.go_parse_x.specs.Targets.{hands};
 ghost use Rattle.go_parse_x.specs.Texts.{Stand};
 
 use crate::cursor::Cursor;
@@ -75,6 +76,7 @@ fn rest_of_literal(
     requires unspent { cursor.old.fault ≡ None }
     requires begun { pending.old.begun ≡ true }
     requires awaits { pending.old.awaits ≡ true }
+    requires piece { hands pending.old.reading ≡ true }
     requires block { (front : List TokenOf) × ((low : ℕ) × IsAwaiting cursor.old.bytes.now (open_view pending.old) front low cursor.old.number cursor.old.at cursor.old.last) }
 {
     if pending.free() < 2 {

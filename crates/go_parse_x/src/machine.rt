@@ -7,7 +7,7 @@ ghost use Rattle.go_tree.specs.declared.production.Production.TheVariants.{Block
 ghost use Rattle.go_parse_x.specs.Braces.{is_block};
 ghost use Rattle.go_parse_x.specs.Lines.{ahead_of, side, sides};
 ghost use Rattle.go_parse_x.specs.Opened.{frames, numbers, Rises};
-ghost use Rattle.go_parse_x.specs.Shapes.{side_of, act_of};
+ghost use Rattle.go_parse_x.specs.Shapes.{act_of};
 ghost use Rattle.go_parse_x.specs.Turns.{IsSound, IsTurn, IsCheaper, AsksFor};
 
 use crate::acts::{Here, act};
@@ -122,6 +122,7 @@ fn call(todo: &mut Vec<Place>, place: Place, n: Production, seen: Seen) -> Resul
 fn block(todo: &mut Vec<Place>, place: Place, n: Production, seen: Seen) -> Result<Turn, NoMemory>
     requires call { side place ≡ Call n }
     requires block { n ≡ Block }
+    requires over { seen.hands_over ≡ true }
     ensures turn { IfOk result (λ turn. (bytes : List ℕ) (fs : List Opened) → IsTurn bytes seen turn (Call n ∷ sides todo.old.items) (sides todo.new.items) fs fs) }
     ensures cheaper { IfOk result (λ turn. IsCheaper turn (Call n ∷ sides todo.old.items) (sides todo.new.items)) }
 {
@@ -213,7 +214,7 @@ fn pair(
 
 // Whether it is a block, and blocks are handed over.
 fn hands_over(n: Production, seen: Seen) -> bool
-    ensures yes { IsTrue result → n ≡ Block }
+    ensures yes { IsTrue result → (n ≡ Block) × (seen.hands_over ≡ true) }
     ensures no { IsFalse result → seen.hands_over ≡ true → is_block n ≡ false }
 {
     match n {

@@ -3,20 +3,21 @@ ghost use Rattle.std.specs.Prelude.{◌≡◌, ◌-◌, true, List, OnOk};
 ghost use Rattle.go_tree.specs.declared.token.Token.{Token};
 ghost use Rattle.go_tree.specs.Height.{height_of};
 ghost use Rattle.go_parse_x.specs.Heights.{Counts};
-ghost use Rattle.go_parse_x.specs.Pieces.{IsNew, open_view, piece, view_of};
+ghost use Rattle.go_parse_x.specs.Pieces.{IsNew, open_view, view_of};
+ghost use Rattle.go_parse_x.specs.declared.reading.Target.TheVariants.{File as TheFile};
+ghost use Rattle.go_parse_x.specs.Targets.{hands, piece, reads};
 
 use crate::heights::Heights;
 use crate::opened::OpenNode;
 use crate::place::Place;
-use crate::reading::Reading;
+use crate::reading::{Reading, Target};
 use go_base::NoMemory;
-use go_tree::{Form, Production};
 use std::alloc::Global;
 
 /// A piece of which nothing or a part is read: what is still to be read, and its open nodes.
 #[derive(Debug, Drop)]
 pub struct Pending {
-    pub(crate) reading: Reading,
+    pub(crate) reading: Target,
     pub(crate) free: usize,
     pub(crate) begun: bool,
     pub(crate) awaits: bool,
@@ -33,10 +34,10 @@ impl Pending {
     /// the greatest height that they may have.
     pub fn new(alloc: Global, reading: Reading, free: usize) -> Pending
         ensures anew { IsNew result }
-        ensures piece { (result.reading ≡ reading) × (result.free ≡ free) }
+        ensures piece { (piece result.reading ≡ reads reading) × (hands result.reading ≡ true) × (result.free ≡ free) }
     {
         Pending {
-            reading,
+            reading: Target::Piece(reading),
             free,
             begun: false,
             awaits: false,
@@ -45,6 +46,33 @@ impl Pending {
             last: 0,
             heights: Heights::new(alloc),
         }
+    }
+
+    /// A whole file of which nothing is read yet.
+    pub fn of_file(alloc: Global, free: usize) -> Pending
+        ensures anew { IsNew result }
+        ensures file { (result.reading ≡ TheFile) × (result.free ≡ free) }
+    {
+        Pending {
+            reading: Target::File,
+            free,
+            begun: false,
+            awaits: false,
+            todo: Vec::new(alloc),
+            opened: Vec::new(alloc),
+            last: 0,
+            heights: Heights::new(alloc),
+        }
+    }
+
+    /// The same as new.
+    pub(crate) fn renew(&mut self, alloc: Global)
+        ensures anew { IsNew self.new }
+        ensures piece { (self.new.reading ≡ self.old.reading) × (self.new.free ≡ self.old.free) }
+    {
+        self.begun = false;
+        self.awaits = false;
+        self.heights = Heights::new(alloc);
     }
 
     /// The height that is left for the block that is awaited.
@@ -66,7 +94,7 @@ impl Pending {
         }
         self.todo.clear();
         self.opened.clear();
-        self.todo.push(Place::start(production_of(self.reading)))?;
+        self.todo.push(Place::start(self.reading.production()))?;
         self.opened.push(OpenNode {
             start: 0,
             parts: Vec::new(alloc),
@@ -74,19 +102,5 @@ impl Pending {
         self.last = 0;
         self.begun = true;
         Ok(())
-    }
-}
-
-// The production that is read.
-fn production_of(reading: Reading) -> Production
-    ensures { result ≡ piece reading }
-{
-    match reading {
-        Reading::Plain => Production::Expr(Form::Plain),
-        Reading::Header => Production::Expr(Form::Header),
-        Reading::TypeOnly => Production::AnyType,
-        Reading::Signature => Production::Signature,
-        Reading::Params => Production::Params,
-        Reading::TypeParams => Production::TypeParams,
     }
 }

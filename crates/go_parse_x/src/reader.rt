@@ -11,7 +11,8 @@ ghost use Rattle.go_parse_x.specs.declared.progress.Progress.TheVariants.{Passed
 ghost use Rattle.go_parse_x.specs.Answers.{spot_of, IsAnswer, IsReady};
 ghost use Rattle.go_parse_x.specs.Lines.{sides};
 ghost use Rattle.go_parse_x.specs.Opened.{frames, numbers};
-ghost use Rattle.go_parse_x.specs.Pieces.{piece, view_of, open_view, IsNew, IsOpen};
+ghost use Rattle.go_parse_x.specs.Targets.{hands, piece};
+ghost use Rattle.go_parse_x.specs.Pieces.{view_of, open_view, IsNew, IsOpen};
 ghost use Rattle.go_parse_x.specs.Steps.{behind, HasNumbers, IsProgress, IsRead};
 ghost use Rattle.go_parse_x.specs.Turns.{is_asked as is_asked_so, IsSolid};
 
@@ -65,6 +66,7 @@ pub fn parse_expr(
 fn read(alloc: Global, cursor: &mut Cursor, pending: &mut Pending) -> Result<Parsed, ParseFault>
     requires solid { IsSolid (view_of pending.old).rest }
     requires awaits { pending.old.awaits ≡ false }
+    requires piece { hands pending.old.reading ≡ true }
     ensures answer { (front : List TokenOf) (low : ℕ) → IsReady cursor.old pending.old front low →
         IsAnswer cursor.old.bytes.now (piece pending.old.reading) pending.old.free front (spot_of cursor.old) (spot_of cursor.new) low cursor.new.number pending.new result }
     ensures text { (cursor.new.bytes.now ≡ cursor.old.bytes.now) × (cursor.new.fault ≡ cursor.old.fault) }
@@ -81,6 +83,7 @@ fn go_on(alloc: Global, cursor: &mut Cursor, pending: &mut Pending) -> Result<Pa
     requires solid { IsSolid (sides pending.old.todo.items) }
     requires begun { pending.old.begun ≡ true }
     requires awaits { pending.old.awaits ≡ false }
+    requires piece { hands pending.old.reading ≡ true }
     ensures answer { (front : List TokenOf) (low : ℕ) → IsOpen cursor.old.bytes.now (open_view pending.old) front low cursor.old.number cursor.old.at cursor.old.last →
         IsAnswer cursor.old.bytes.now (piece pending.old.reading) pending.old.free front (spot_of cursor.old) (spot_of cursor.new) low cursor.new.number pending.new result }
     ensures text { (cursor.new.bytes.now ≡ cursor.old.bytes.now) × (cursor.new.fault ≡ cursor.old.fault) }
@@ -110,8 +113,8 @@ fn is_last(pending: &Pending, token: Token) -> bool
     token.kind == TokenKind::End || !starts(&pending.todo, token.kind)
 }
 
-// What the next token makes of the piece.
-fn one_token(
+/// What the next token makes of the piece or file.
+pub fn one_token(
     alloc: Global,
     cursor: &mut Cursor,
     pending: &mut Pending,
@@ -132,7 +135,7 @@ fn one_token(
         token,
         ahead: ahead(cursor, token),
         last: pending.last,
-        hands_over: true,
+        hands_over: pending.reading.hands_over(),
     };
     match settle(
         alloc,
@@ -177,6 +180,7 @@ fn end(
 ) -> Result<Parsed, ParseFault>
     requires solid { IsSolid (sides pending.old.todo.items) }
     requires next { IsNext cursor.old.bytes.now cursor.old.at cursor.old.last token }
+    requires piece { hands pending.old.reading ≡ true }
     requires last { (token.kind ≡ End) ⊎ (starts_so tables (sides pending.old.todo.items) token.kind ≡ false) }
     ensures answer { (front : List TokenOf) (low : ℕ) → IsOpen cursor.old.bytes.now (open_view pending.old) front low cursor.old.number cursor.old.at cursor.old.last →
         IsAnswer cursor.old.bytes.now (piece pending.old.reading) pending.old.free front (spot_of cursor.old) (spot_of cursor.new) low cursor.new.number pending.new result }
@@ -211,7 +215,7 @@ fn whole(alloc: Global, pending: &mut Pending, token: Token) -> Result<Parsed, P
         // a piece has a node
         None => Err(ParseFault::Syntax(token.start)),
         Some(node) => {
-            *pending = Pending::new(alloc, pending.reading, pending.free);
+            pending.renew(alloc);
             Ok(Parsed::Whole(node))
         }
     }

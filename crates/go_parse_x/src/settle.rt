@@ -1,5 +1,5 @@
 // What the next token makes of all that is to be read.
-ghost use Rattle.std.specs.Prelude.{◌≡◌, ℕ, List, OnOk, IfOk, if◌then◌else◌};
+ghost use Rattle.std.specs.Prelude.{◌≡◌, ℕ, OnOk, IfOk, if◌then◌else◌};
 ghost use Rattle.go_parse_x.specs.declared.seen.Turn.TheVariants.{Astray as TheAstray, Stuck as TheStuck};
 ghost use Rattle.go_parse_x.specs.Lines.{sides};
 ghost use Rattle.go_parse_x.specs.Opened.{frames, numbers, Rises};

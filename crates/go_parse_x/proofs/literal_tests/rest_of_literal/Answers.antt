@@ -1,4 +1,4 @@
-use Rattle.std.proofs.Common.{◌≡◌, ◌≤◌, ◌-◌, arith}
+use Rattle.std.proofs.Common.{◌≤◌, ◌-◌, arith}
 use Rattle.go_tree.specs.Height.{height_of}
 use Rattle.go_parse_x.proofs.EmptyBlockLemmas.{empty_read}
 use Rattle.go_parse_x.proofs.literal_tests.rest_of_literal.Goals as goal
@@ -9,4 +9,4 @@ hand_in-requires-clause-read c =
     let free = c.free.ensures a.0 a.1.1.counts in
     let few = c.if-free-lt2.false in
     let enough : 2 ≤ c.args.pending.now.free - height_of a.0 = omega (arith, free, few) in
-    (a.0, (a.1.0, empty_read c.args.cursor.now c.empty_block.new.cursor c.args.pending.now a.0 a.1.0 c.in-Ok-Some.block c.requires.begun a.1.1 (rw c.in-Ok-Some.field-0-is at c.in-Ok-Some.ensures.block) c.in-Ok-Some.ensures.others.0 enough))
+    (a.0, (a.1.0, empty_read c.args.cursor.now c.empty_block.new.cursor c.args.pending.now a.0 a.1.0 c.in-Ok-Some.block c.requires.begun c.requires.piece a.1.1 (rw c.in-Ok-Some.field-0-is at c.in-Ok-Some.ensures.block) c.in-Ok-Some.ensures.others.0 enough))

@@ -1,4 +1,4 @@
-use Rattle.std.proofs.Common.{◌≡◌, sym, ◌∙◌}
+use Rattle.std.proofs.Common.{sym, ◌∙◌}
 use Rattle.go_parse_x.proofs.TurnLemmas.{block_stuck}
 use Rattle.go_parse_x.proofs.machine.block.Goals as goal
 

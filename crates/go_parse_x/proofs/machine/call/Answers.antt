@@ -1,4 +1,4 @@
-use Rattle.std.proofs.Common.{◌≡◌, true, false, refl, sym, ◌∙◌}
+use Rattle.std.proofs.Common.{refl}
 use Rattle.go_parse_x.proofs.TurnLemmas.{sides_push, call_same}
 use Rattle.go_parse_x.proofs.WeightLemmas.{call_cheaper}
 use Rattle.go_parse_x.proofs.machine.call.Goals as goal

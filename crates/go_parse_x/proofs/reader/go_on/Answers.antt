@@ -1,8 +1,9 @@
 use Rattle.std.proofs.Common.{List, [], ◌++◌, refl, sym, ap, subst, ◌∙◌}
+use Rattle.go_parse_x.specs.Targets.{piece, hands}
 use Rattle.std.proofs.lemmas.List.{append-nil}
 use Rattle.go_tree.specs.declared.token.Token.{Token}
 use Rattle.go_parse_x.specs.Answers.{spot_of}
-use Rattle.go_parse_x.specs.Pieces.{piece, open_view, IsOpen}
+use Rattle.go_parse_x.specs.Pieces.{open_view, IsOpen}
 use Rattle.go_parse_x.proofs.PieceLemmas.{piece_is}
 use Rattle.go_parse_x.proofs.NoBlockLemmas.{none_passed}
 use Rattle.go_parse_x.proofs.AnswerLemmas.{lexical_answer, block_answer, answer_behind, open_behind}
@@ -63,6 +64,6 @@ loop-lex-preserved c =
       still_open = λ front low o.
           let z = i.still_open front low o in
           let w = p (front ++ z.0) low z.3 in
-          let x = open_behind _ _ _ (piece c.args.pending.now.reading) front z.0 c.in-Ok.token low _ _ (spot_of c.loop-lex.cursor) (spot_of c.one_token.new.cursor) i.text.0 (ap piece (d.piece.0 ∙ i.same_piece.0)) z.1 z.2 c.in-Ok.ensures.token no.0 w.0 (rw d.piece.0 w.1) w.2 in
+          let x = open_behind _ _ _ (piece c.args.pending.now.reading) front z.0 c.in-Ok.token low _ _ (spot_of c.loop-lex.cursor) (spot_of c.one_token.new.cursor) i.text.0 (ap piece (d.piece.0 ∙ i.same_piece.0)) z.1 z.2 c.in-Ok.ensures.token no.0 w.0 (rw d.piece.0 (w.1 (ap hands (d.piece.0 ∙ i.same_piece.0) ∙ c.requires.piece))) w.2 in
           (x.0, x.1, x.2, rw d.text.0 x.3);
     }

@@ -1,8 +1,9 @@
 use Rattle.std.proofs.Common.{ℕ, ◌≡◌, true, false, List, ◌++◌, length}
+use Rattle.go_parse_x.specs.Targets.{piece}
 use Rattle.go_tree.specs.declared.token.Token.{Token}
 use Rattle.go_scan.specs.Weight.{scan_weight}
 use Rattle.go_parse_x.specs.Lines.{sides}
-use Rattle.go_parse_x.specs.Pieces.{piece, PassesNoBlock, open_view, IsOpen}
+use Rattle.go_parse_x.specs.Pieces.{PassesNoBlock, open_view, IsOpen}
 use Rattle.go_parse_x.specs.Texts.{Stand}
 use Rattle.go_parse_x.specs.Turns.{IsSolid}
 use Rattle.go_parse_x.proofs.reader.go_on.Given as goal

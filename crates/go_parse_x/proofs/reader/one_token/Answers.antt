@@ -1,4 +1,5 @@
 use Rattle.std.proofs.Common.{ℕ, ◌∷◌, [], ◌++◌, Some, refl, sym, ap, subst, ◌∙◌}
+use Rattle.go_parse_x.specs.Targets.{hands}
 use Rattle.go_tree.specs.declared.token.Token.{Token}
 use Rattle.go_scan.proofs.NextLemmas.{one_next}
 use Rattle.go_parse_x.specs.Answers.{spot_of}
@@ -23,11 +24,11 @@ returns-in-Ok-Passed-clause-progress c = λ front low o.
     let N : ℕ → Type 0 = λ n. Rises low (numbers c.settle.new.opened.items) n in
     let rises = subst N (sym c.pass.ensures.others.1) (c.in-Ok-Passed.ensures.numbers low o.rises) in
     passed_progress _ v is front low _ s o c.pass.new.cursor.number c.pass.new.pending _ refl c.requires.next t.3 _ _ c.pass.ensures.passed c.pass.ensures.high
-    (passed_no_block _ v.n front o.assumed _ v.rest (sides c.settle.new.todo.items) v.nodes (frames c.settle.new.opened.items) t.0 o.reads (o.next c.args.token c.requires.next) refl o.braced t.1 t.2)
+    (λ over. let old_over = ap hands (sym c.pass.ensures.stays.3) ∙ over in passed_no_block _ v.n front o.assumed _ v.rest (sides c.settle.new.todo.items) v.nodes (frames c.settle.new.opened.items) t.0 o.reads (o.next c.args.token c.requires.next) (c.hands_over.ensures ∙ old_over) (o.braced old_over) t.1 t.2)
     (on_ok c.pass.result (λ counts fits. subst P (sym c.pass.ensures.view) (
     passed_open _ v is front low _ s.at s.last o _ refl c.requires.next
     (λ kind q u w. let z = c.ahead.ensures.some kind q in ap (λ (x : Token). x.kind) (one_next _ _ _ u z.0 w z.1) ∙ z.2)
-    t.0 (sides c.settle.new.todo.items) (frames c.settle.new.opened.items) refl t.1 t.2 t.3 (solid_sound _ c.requires.solid)
+    t.0 (sides c.settle.new.todo.items) (frames c.settle.new.opened.items) (λ h. c.hands_over.ensures ∙ h) t.1 t.2 t.3 (solid_sound _ c.requires.solid)
     c.pass.new.pending.heights (numbers c.settle.new.opened.items) _ (counts front o.counts) (fits front o.counts) rises
     )) c.pass.ensures.counts c.pass.ensures.fits)
 
@@ -65,9 +66,9 @@ returns-in-Ok-AtBlock-clause-progress c = λ front low o.
     let t = rw c.in-Ok-AtBlock.field-0-is at c.in-Ok-AtBlock.ensures.turn in
     let sound = solid_sound _ c.requires.solid in
     let P : View → Type 0 = λ x. IsAwaiting c.args.cursor.now.bytes.now x front low c.settle.new.number s.at s.last in
-    block_progress _ v is front low _ s o c.settle.new.number c.hand_over.new.pending _ refl c.requires.next (same_goes_on _ _ _ _ _ _ t.0 (block_goes _ _ _ _ (t.0.sound sound) t.1)) _ c.hand_over.ensures.block c.hand_over.ensures.high
+    block_progress _ v is front low _ s o c.settle.new.number c.hand_over.new.pending _ refl c.requires.next (same_goes_on _ _ _ _ _ _ t.0 (block_goes _ _ _ _ (t.0.sound sound) t.1)) _ c.hand_over.ensures.block (ap hands c.hand_over.ensures.stays.1 ∙ (sym c.hands_over.ensures ∙ t.1.over)) c.hand_over.ensures.high
     (ok_alone c.hand_over.result (λ fits. subst P (sym c.hand_over.ensures.view) (
-    block_awaits _ v is front low _ s.at s.last o _ refl c.requires.next (sides c.settle.new.todo.items) (frames c.settle.new.opened.items) refl t.0 t.1 sound (numbers c.settle.new.opened.items) _ (fits front o.counts) (c.in-Ok-AtBlock.ensures.numbers low o.rises)
+    block_awaits _ v is front low _ s.at s.last o _ refl c.requires.next (sides c.settle.new.todo.items) (frames c.settle.new.opened.items) (λ h. c.hands_over.ensures ∙ h) t.0 t.1 sound (numbers c.settle.new.opened.items) _ (fits front o.counts) (c.in-Ok-AtBlock.ensures.numbers low o.rises)
     )) c.hand_over.ensures.fits)
 
 pub returns-in-Err-clause-progress : goal.returns-in-Err-clause-progress

@@ -1,6 +1,3 @@
-use Rattle.std.proofs.Common.{◌≡◌}
-use Rattle.go_parse_x.specs.Answers.{spot_of}
-use Rattle.go_parse_x.specs.Pieces.{view_of}
 use Rattle.go_parse_x.proofs.AnswerLemmas.{memory_before}
 use Rattle.go_parse_x.proofs.reader.read.Goals as goal
 

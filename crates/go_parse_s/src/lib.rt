@@ -1,0 +1,27 @@
+//! The parser of whole files.
+//!
+//! `parse_file` reads a file of the whole grammar with the machine of go_parse_x; the grammar is a
+//! definition of go_tree.
+#![tactic(auto)]
+
+mod file;
+
+pub use file::{MOST_HEIGHT, parse_file};
+pub use go_parse_x::ParseFault;
+
+#[cfg(test)]
+mod control_tests;
+#[cfg(test)]
+mod cut_tests;
+#[cfg(test)]
+mod declaration_tests;
+#[cfg(test)]
+mod file_tests_support;
+#[cfg(test)]
+mod height_tests;
+#[cfg(test)]
+mod refusal_tests;
+#[cfg(test)]
+mod statement_refusal_tests;
+#[cfg(test)]
+mod statement_tests;
