@@ -4,8 +4,8 @@
 usage: bench/generated.py [COUNT [SEED [PROGRAM]]]
 
 Each file is written together with the places of its nodes. Its values, cycles and broken rules are
-computed by plain searches over these; a file that goes wrong is a good one in which a token is put where
-none such can stand. Ends with status 1 where a report differs.
+computed by plain searches over these; a file without a tree is a good one in which a token or a byte is put
+where none such can stand. Ends with status 1 where a report differs.
 """
 import os
 import random
@@ -105,6 +105,8 @@ def make(kind):
     text.put(rng.choice(['\n', '\r\n', '\n\n']))
     names = rng.sample(NAMES, rng.randrange(9))
     rank = {name: i for i, name in enumerate(rng.sample(names, len(names)))}
+    if kind == 'names' and names and rng.random() < .5:
+        names += rng.choices(names, k=rng.randrange(1, 4))
     pool = names + (['Undeclared', 'U2'] if kind == 'names' else [])
     constants = []
     for name in names:
@@ -188,9 +190,11 @@ def report(package, text, constants):
     where = {c.name: c.start for c in constants}
     all_nodes = [n for c in constants for n in nodes(c.value)]
     uses = [n for n in all_nodes if n.kind == 'name']
-    undeclared = [(n.start, 'P7') for n in uses if n.of not in where]
-    if undeclared:
-        return refused(undeclared)
+    names = [c.name for c in constants]
+    broken_names = [(c.start, 'P4') for c in constants if names.count(c.name) > 1]
+    broken_names += [(n.start, 'P7') for n in uses if n.of not in where]
+    if broken_names:
+        return refused(sorted(broken_names))
     headers = known_headers(constants)
     broken = broken_rules(constants, headers)
     if broken:
@@ -202,29 +206,29 @@ def report(package, text, constants):
 
 
 def spoil(text, constants):
-    """A text in which a token stands where none such can, and its offset."""
+    """A text in which a token or a byte stands where none such can, its offset and the rule."""
     constant = rng.choice(constants)
     node = rng.choice(list(nodes(constant.value)))
-    how = rng.choice(['operand', 'operator', 'byte', 'twice', 'name'])
+    how = rng.choice(['operand', 'operator', 'byte', 'keyword', 'name'])
     if how == 'operand':  # behind an operand no operand can stand
-        return text[:node.end] + rng.choice([' 1', ' (', ' x', ' const', ' =']) + text[node.end:], node.end + 1
-    if how == 'operator':  # before an operand no operator and no taken word can stand
-        word = rng.choice(['+', ')', '=', 'const', 'package', 'iota', 'func', 'len', '_'])
-        return text[:node.start] + word + ' ' + text[node.start:], node.start
+        return text[:node.end] + rng.choice([' 1', ' x', ' const', ' =']) + text[node.end:], node.end + 1, 'S3'
+    if how == 'operator':  # before an operand none of these can
+        word = rng.choice([')', '=', 'const', 'package'])
+        return f'{text[:node.start]} {word} {text[node.start:]}', node.start + 1, 'S3'
     if how == 'byte':  # no token starts there
-        return text[:node.end] + rng.choice(['-', ';', '/', '"', '.', '\0', '*']) + text[node.end:], node.end
-    if how == 'twice':  # the name is declared already, or is taken
-        name = 'if' if constant is constants[0] else constants[0].name
-        return text[:constant.start] + name + text[constant.end:], constant.start
-    return text[:constant.start] + rng.choice(['+ ', '= ', '1 ', '( ']) + text[constant.start:], constant.start
+        byte = rng.choice(['"', "'", '#', '$', '?', '\0'])
+        return text[:node.end] + byte + text[node.end:], node.end, 'S1' if byte == '\0' else 'S2'
+    if how == 'keyword':
+        return text[:constant.start] + 'if' + text[constant.end:], constant.start, 'S3'
+    return text[:constant.start] + rng.choice(['+ ', '= ', '1 ']) + text[constant.start:], constant.start, 'S3'
 
 
 def case():
     kind = rng.choice(KINDS)
     package, text, constants = make(kind)
     if kind == 'spoilt' and constants:
-        text, at = spoil(text, constants)
-        return text, 3, ['refused', f'broken\ta.go:{line_col(text, at)}\tU0']
+        text, at, rule = spoil(text, constants)
+        return text, 1, ['refused', f'broken\ta.go:{line_col(text, at)}\t{rule}']
     return text, *report(package, text, constants)
 
 

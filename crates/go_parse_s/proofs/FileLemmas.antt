@@ -1,5 +1,5 @@
 -- What the machine reads of a text is what is read of a file.
-use Rattle.std.proofs.Common.{◌≡◌, ◌≢◌, ℕ, List, [], ◌∷◌, ◌++◌, Option, None, Some, subst, sym}
+use Rattle.std.proofs.Common.{◌≡◌, ◌≢◌, ℕ, List, [], ◌∷◌, ◌++◌, Option, None, Some, refl, subst, sym}
 use Rattle.go_tree.specs.declared.node.Node.{Node}
 use Rattle.go_tree.specs.declared.token.Token.{Token}
 use Rattle.go_tree.specs.declared.token.TokenKind.{TokenKind}
@@ -11,6 +11,11 @@ use Rattle.go_parse_x.specs.declared.fault.ParseFault.TheVariants.{Lexical, Synt
 use Rattle.go_parse_x.specs.Answers.{Spot}
 use Rattle.go_parse_x.specs.Files.{IsText, IsFault, Faults}
 use Rattle.go_parse_x.specs.Texts.{Stand}
+use Rattle.go_tree.specs.Tree.{Tree}
+use Rattle.go_parse_x.specs.Opened.{tree_without}
+use Rattle.go_parse_x.specs.Pieces.{AllFit}
+use Rattle.go_parse_s.specs.Copies.{with_copies}
+use Rattle.go_parse_s.specs.Numbers.{numbered}
 use Rattle.go_parse_s.specs.Files.{most_height, IsFileOf, IsFaultOf, IsWrong}
 
 abbrev pub start : Spot
@@ -28,14 +33,14 @@ scanned bytes at to last kind [] u h next end =
     (subst P (sym h.0) (subst Q (sym h.1) next), end)
 scanned bytes at to last kind (t ∷ ts) u h next end = two_or_more bytes at last t u ts h.0 h.1 (scanned bytes t.end to (Some t.kind) kind ts u h.2 next end)
 
-pub file_of : (bytes : List ℕ) (to : Spot) (low number : ℕ) (node : Node) → IsText bytes File most_height start to low number node → IsFileOf bytes low node
-file_of bytes to low number node t = record {
+pub file_of : (bytes : List ℕ) (to : Spot) (low number first : ℕ) (node : Node) (tree : Tree) → IsText bytes File most_height start to low number node → tree ≡ numbered first (with_copies (tree_without node)) → IsFileOf bytes first tree
+file_of bytes to low number first node tree t q = record {
   tokens = t.tokens ++ t.last ∷ [];
   scan = scanned bytes 0 to.at None to.last t.tokens t.last t.stand t.next t.end;
-  tree = t.tree;
+  written = tree_without node;
+  derives = t.tree;
   fit = t.fit;
-  next = number;
-  rises = t.rises;
+  tree_is = q;
 }
 
 wrong_of : (bytes : List ℕ) (tokens : List Token) (to : Spot) (fault : ParseFault) → Faults bytes File most_height tokens to fault → IsWrong bytes tokens to fault
@@ -53,13 +58,12 @@ fault_of bytes to fault f = record {
 }
 
 -- the same, where the machine began at the start of the text
-pub file_from : (bytes text : List ℕ) (free : ℕ) (from to : Spot) (low first number : ℕ) (node : Node) → bytes ≡ text → free ≡ most_height → from ≡ start → low ≡ first → IsText bytes File free from to low number node → IsFileOf text first node
-file_from bytes text free from to low first number node qb qf qs ql t =
+pub file_from : (bytes text : List ℕ) (free : ℕ) (from to : Spot) (low number first : ℕ) (node : Node) (tree : Tree) → bytes ≡ text → free ≡ most_height → from ≡ start → IsText bytes File free from to low number node → tree ≡ numbered first (with_copies (tree_without node)) → IsFileOf text first tree
+file_from bytes text free from to low number first node tree qb qf qs t q =
     let B : List ℕ → Type 0 = λ x. IsText x File free from to low number node in
     let F : ℕ → Type 0 = λ x. IsText text File x from to low number node in
     let S : Spot → Type 0 = λ x. IsText text File most_height x to low number node in
-    let L : ℕ → Type 0 = λ x. IsText text File most_height start to x number node in
-    file_of text to first number node (subst L ql (subst S qs (subst F qf (subst B qb t))))
+    file_of text to low number first node tree (subst S qs (subst F qf (subst B qb t))) q
 
 pub fault_from : (bytes text : List ℕ) (free : ℕ) (from to : Spot) (fault : ParseFault) → bytes ≡ text → free ≡ most_height → from ≡ start → IsFault bytes File free from to fault → IsFaultOf text fault
 fault_from bytes text free from to fault qb qf qs f =
@@ -67,3 +71,23 @@ fault_from bytes text free from to fault qb qf qs f =
     let F : ℕ → Type 0 = λ x. IsFault text File x from to fault in
     let S : Spot → Type 0 = λ x. IsFault text File most_height x to fault in
     fault_of text to fault (subst S qs (subst F qf (subst B qb f)))
+
+-- want of memory may come behind the whole text too
+pub no_memory_of : (bytes : List ℕ) (to : Spot) (low number : ℕ) (node : Node) → IsText bytes File most_height start to low number node → IsFaultOf bytes NoMemory
+no_memory_of bytes to low number node t = record {
+  tokens = [];
+  to = start;
+  reaches = record { stand = (refl, refl); begins = (t.tokens ++ t.last ∷ [], tree_without node, t.tree); fit = none };
+  wrong = tt;
+}
+  where
+    none : AllFit most_height []
+    none [] rest e = t.fit [] (t.tokens ++ t.last ∷ []) refl
+    none (x ∷ front) rest e = cc
+
+pub no_memory_from : (bytes text : List ℕ) (free : ℕ) (from to : Spot) (low number : ℕ) (node : Node) → bytes ≡ text → free ≡ most_height → from ≡ start → IsText bytes File free from to low number node → IsFaultOf text NoMemory
+no_memory_from bytes text free from to low number node qb qf qs t =
+    let B : List ℕ → Type 0 = λ x. IsText x File free from to low number node in
+    let F : ℕ → Type 0 = λ x. IsText text File x from to low number node in
+    let S : Spot → Type 0 = λ x. IsText text File most_height x to low number node in
+    no_memory_of text to low number node (subst S qs (subst F qf (subst B qb t)))

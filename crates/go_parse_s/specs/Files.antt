@@ -1,32 +1,32 @@
 -- What is read of a file (Go specification, "Source file organization").
 use Rattle.std.specs.Prelude.{ℕ, ◌≡◌, ◌<◌, List, [], ◌∷◌, ◌++◌, None}
-use Rattle.go_tree.specs.declared.node.Node.{Node}
 use Rattle.go_tree.specs.declared.token.Token.{Token}
 use Rattle.go_tree.specs.declared.production.Production.TheVariants.{File}
 use Rattle.go_tree.specs.Height.{height_of}
 use Rattle.go_tree.specs.Scan.{Scan, IsNext}
-use Rattle.go_tree.specs.Tree.{tree_of}
+use Rattle.go_tree.specs.Tree.{Tree}
 use Rattle.go_tree.specs.Grammar.Sentence.{Derives, Begins}
 use Rattle.go_parse_x.specs.declared.fault.ParseFault.{ParseFault}
 use Rattle.go_parse_x.specs.declared.fault.ParseFault.TheVariants.{Lexical, Syntax, High, NoMemory}
 use Rattle.go_parse_x.specs.Answers.{Spot}
-use Rattle.go_parse_x.specs.Opened.{tree_without, numbers_in, Rises}
 use Rattle.go_parse_x.specs.Pieces.{AllFit}
 use Rattle.go_parse_x.specs.Texts.{Stand, IsLex}
+use Rattle.go_parse_s.specs.Copies.{with_copies}
+use Rattle.go_parse_s.specs.Numbers.{numbered}
 
 -- the greatest height of a token
 abbrev pub most_height : ℕ
 most_height = 1000
 
--- the tokens of the text are a file with this tree, and none has a height past the greatest; each of its nodes has a number
--- of its own, from `first` on
-pub record IsFileOf (bytes : List ℕ) (first : ℕ) (root : Node) : Type 0 where
+-- the tokens of the text are a file, and none has a height past the greatest; its tree is the one that they derive, with the
+-- copies of omitted lists and with the numbers from `first` on
+pub record IsFileOf (bytes : List ℕ) (first : ℕ) (tree : Tree) : Type 0 where
   pub tokens : List Token
   pub scan : Scan bytes tokens
-  pub tree : Derives bytes File tokens (tree_without root)
+  pub written : Tree
+  pub derives : Derives bytes File tokens written
   pub fit : AllFit most_height tokens
-  pub next : ℕ
-  pub rises : Rises first (numbers_in (tree_of root)) next
+  pub tree_is : tree ≡ numbered first (with_copies written)
 
 -- the text begins with these tokens, up to a place; a file begins with them, and none has a height past the greatest
 pub record Reaches (bytes : List ℕ) (tokens : List Token) (to : Spot) : Type 0 where

@@ -56,7 +56,7 @@ const FILES: [Row; 18] = [
     ),
 ];
 
-const VALUES: [Row; 22] = [
+const VALUES: [Row; 20] = [
     (
         "const c = 1",
         "(ConstDecl (ConstSpec (IdentList c) (ExprList (IntLit 1))))",
@@ -73,16 +73,8 @@ const VALUES: [Row; 22] = [
         "const a, b p.T = 1, 2",
         "(ConstDecl (ConstSpec (IdentList a b) (SelectorExpr p T) (ExprList (IntLit 1) (IntLit 2))))",
     ),
-    // an omitted list: the spec has its names alone
+    // no list stands before an omitted one: the spec has its names alone
     ("const c", "(ConstDecl (ConstSpec (IdentList c)))"),
-    (
-        "const (a = iota; b; c)",
-        "(ConstGroup (ConstSpec (IdentList a) (ExprList iota)) (ConstSpec (IdentList b)) (ConstSpec (IdentList c)))",
-    ),
-    (
-        "const (\n\ta, b T = iota, -iota\n\t_, c\n\td = 1 << iota\n\te\n)",
-        "(ConstGroup (ConstSpec (IdentList a b) T (ExprList iota (MinusExpr iota))) (ConstSpec (IdentList _ c)) (ConstSpec (IdentList d) (ExprList (ShlExpr (IntLit 1) iota))) (ConstSpec (IdentList e)))",
-    ),
     ("const ()", "(ConstGroup)"),
     (
         "const (a = 1;)",

@@ -1,15 +1,29 @@
 // Whole files (Go specification, "Source file organization").
-ghost use Rattle.std.specs.Prelude.{◌≡◌, IfOk, IfErr};
+ghost use Rattle.std.specs.Prelude.{◌≡◌, false, IfOk, IfErr};
+ghost use Rattle.go_tree.specs.Scan.{Gap};
+ghost use Rattle.go_tree.specs.Tree.{tree_of, start_of};
+ghost use Rattle.go_parse_x.specs.Opened.{tree_without};
+ghost use Rattle.go_parse_s.specs.Copies.{with_copies};
 ghost use Rattle.go_parse_s.specs.Files.{IsFileOf, IsFaultOf};
+ghost use Rattle.go_parse_s.specs.Numbers.{numbered};
 
+use crate::copies::add_copies;
+use crate::numbers::number_nodes;
+use go_base::NoMemory;
 use go_parse_x::{Cursor, ParseFault, Pending, parse_text};
-use go_tree::{File, NodeId};
+use go_tree::{File, Node, NodeId};
 use std::alloc::Global;
 
 /// The greatest height that a token of a file may have.
 pub const MOST_HEIGHT: usize = 1_000;
 
-/// The tree of a file, whose nodes have numbers from `first` on.
+/// The tree of a file, whose nodes have the numbers from `first` on, in the order in which they end.
+///
+/// A constant spec that omits its list has a copy of the list before it, a `ConstCopy`, with numbers of
+/// its own and the places of that list (Go specification, "Constant declarations"). Lists that nest in
+/// lists that are omitted are copied with them, so a short text can ask for much memory.
+///
+/// Blanks and whole comments lead up to the tree's first byte.
 ///
 /// The faults name the earliest token: Syntax the first up to which no file begins with the tokens,
 /// High the first whose height passes `MOST_HEIGHT`; Lexical stands where no token starts behind those
@@ -20,7 +34,8 @@ pub fn parse_file(
     number: usize,
     first: NodeId,
 ) -> Result<File, ParseFault>
-    ensures file { IfOk result (λ file. IsFileOf bytes.now first.0 file.root) }
+    ensures file { IfOk result (λ file. IsFileOf bytes.now first.0 (tree_of file.root)) }
+    ensures start { IfOk result (λ file. Gap false bytes.now 0 (start_of (tree_of file.root))) }
     ensures number { IfOk result (λ file. file.number ≡ number) }
     ensures fault { IfErr result (λ fault. IsFaultOf bytes.now fault) }
 {
@@ -28,6 +43,20 @@ pub fn parse_file(
     let mut pending = Pending::of_file(alloc, MOST_HEIGHT);
     match parse_text(alloc, &mut cursor, &mut pending) {
         Err(fault) => Err(fault),
-        Ok(root) => Ok(File { number, root }),
+        Ok(root) => match finished(alloc, root, first) {
+            Err(_) => Err(ParseFault::NoMemory),
+            Ok(root) => Ok(File { number, root }),
+        },
     }
+}
+
+// The tree that was read, with the copies of omitted lists, its nodes numbered anew.
+fn finished(alloc: Global, read: Node, first: NodeId) -> Result<Node, NoMemory>
+    ensures { IfOk result (λ root. tree_of root ≡ numbered first.0 (with_copies (tree_without read))) }
+{
+    let mut root = read;
+    let mut next = first.0;
+    add_copies(alloc, &mut root)?;
+    number_nodes(&mut root, &mut next)?;
+    Ok(root)
 }

@@ -1,16 +1,23 @@
 //! The parser of whole files.
 //!
 //! `parse_file` reads a file of the whole grammar with the machine of go_parse_x; the grammar is a
-//! definition of go_tree.
+//! definition of go_tree. `copies` then adds the lists that constant specs omit, and `numbers` numbers
+//! the nodes.
 #![tactic(auto)]
 
+mod copies;
 mod file;
+mod laws;
+mod numbers;
 
 pub use file::{MOST_HEIGHT, parse_file};
 pub use go_parse_x::ParseFault;
+pub use laws::{file_or_fault, one_fault, one_file};
 
 #[cfg(test)]
 mod control_tests;
+#[cfg(test)]
+mod copy_tests;
 #[cfg(test)]
 mod cut_tests;
 #[cfg(test)]
@@ -19,6 +26,8 @@ mod declaration_tests;
 mod file_tests_support;
 #[cfg(test)]
 mod height_tests;
+#[cfg(test)]
+mod long_tests;
 #[cfg(test)]
 mod refusal_tests;
 #[cfg(test)]

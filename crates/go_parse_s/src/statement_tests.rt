@@ -193,7 +193,7 @@ const WORDS_AND_BLOCKS: [Row; 46] = [
     ),
     (
         "const (c = iota; d)",
-        "(ConstGroup (ConstSpec (IdentList c) (ExprList iota)) (ConstSpec (IdentList d)))",
+        "(ConstGroup (ConstSpec (IdentList c) (ExprList iota)) (ConstSpec (IdentList d) (ConstCopy (ExprList iota))))",
     ),
     ("type T int", "(TypeDecl (TypeSpec T int))"),
     ("type T = U", "(TypeDecl (AliasSpec T U))"),

@@ -1,10 +1,11 @@
-//! The parser of pieces: expressions, types, signatures, parameters and type parameters.
+//! The machine that reads Go: pieces (expressions, types, signatures, parameters and type parameters),
+//! and whole files.
 //!
-//! `reader` reads a piece token by token, `counting` its heights, `cursor` is the place in the text. A
-//! machine with an explicit stack does the reading: `machine` makes one step, `settle` all steps up to
-//! a token, `finish` those where no token is left, over the productions as flat tables (`lines`). The
-//! grammar is a definition of go_tree. The block of a function literal is read by the caller and
-//! handed in (`giving`): this crate knows nothing of statements.
+//! `reader` reads a piece token by token, `texts` a file, `counting` counts heights, `cursor` is the
+//! place in the text. A machine with an explicit stack does the reading: `machine` makes one step,
+//! `settle` all steps up to a token, `finish` those where no token is left, over the productions as
+//! flat tables (`lines`). The grammar is a definition of go_tree. Where a piece is read, the block of a
+//! function literal is read by the caller and handed in (`giving`).
 #![tactic(auto)]
 
 // What a call reads, and what it answers.
@@ -44,6 +45,7 @@ mod place;
 mod statement_lines;
 mod type_lines;
 
+pub use closing::next_number;
 pub use cursor::Cursor;
 pub use fault::ParseFault;
 pub use parsed::Parsed;

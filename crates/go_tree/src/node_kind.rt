@@ -24,8 +24,11 @@ pub enum NodeKind {
     ConstDecl,
     /// `const ( .. )`: the specs
     ConstGroup,
-    /// `X, Y T = 1, 2`: the names, the type if any, the values if any
+    /// `X, Y T = 1, 2`: the names, the type if any, the values if any; where it omits its list behind a spec
+    /// that has one, the names and the `ConstCopy`
     ConstSpec,
+    /// the type if any and the values of the list that a spec omits, as the spec before wrote them
+    ConstCopy,
     /// `var x = 1`: the spec
     VarDecl,
     /// `var ( .. )`: the specs

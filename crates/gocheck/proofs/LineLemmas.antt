@@ -8,7 +8,7 @@ use Rattle.go_tree.specs.declared.node.Node.{Node}
 use Rattle.go_tree.specs.Tree.{Tree, branch, trees_of, tree_of, parts_of, start_of, node_count, node_count_of_all}
 use Rattle.go_tree.proofs.TreeLemmas.{part_within}
 use Rattle.gocheck.specs.declared.line.Line.{Line}
-use Rattle.gocheck.specs.Resolution.{first_part, second_part, names_of, resolve}
+use Rattle.gocheck.specs.Resolution.{name_of, value_of, names_of, resolve}
 use Rattle.gocheck.specs.Records.{Headers}
 use Rattle.gocheck.specs.Report.{defs_from, declared_at, uses_in, exprs_in, lines_of}
 
@@ -27,14 +27,14 @@ count-parts : (t : Tree) → node_count t ≡ 1 + node_count_of_all (parts_of t)
 count-parts (branch id from to kind text parts) = refl
 
 -- where the constant at a place is declared
-start_at : (ns : List Node) (d : ℕ) (n : Node) → d < length ns → n ≡ get_or ns d n → slice_get (map (λ spec. start_of (first_part spec)) (map tree_of ns)) d ≡ Some (start_of (first_part (tree_of n)))
+start_at : (ns : List Node) (d : ℕ) (n : Node) → d < length ns → n ≡ get_or ns d n → slice_get (map (λ spec. start_of (name_of spec)) (map tree_of ns)) d ≡ Some (start_of (name_of (tree_of n)))
 start_at [] d n lt e = absurd (omega arith)
-start_at (m ∷ ns) zero n lt e = ap (λ (x : Node). Some (start_of (first_part (tree_of x)))) (sym e)
+start_at (m ∷ ns) zero n lt e = ap (λ (x : Node). Some (start_of (name_of (tree_of x)))) (sym e)
 start_at (m ∷ ns) (suc d) n lt e = start_at ns d n (omega arith) e
 
-pub declared_at-here : (ns : List Node) (names : List (List ℕ)) (name : List ℕ) (d at : ℕ) (n : Node) → names ≡ names_of (map tree_of ns) → Some d ≡ resolve names name → d < length ns → n ≡ get_or ns d n → at ≡ start_of (first_part (tree_of n)) → Some at ≡ declared_at (map tree_of ns) name
+pub declared_at-here : (ns : List Node) (names : List (List ℕ)) (name : List ℕ) (d at : ℕ) (n : Node) → names ≡ names_of (map tree_of ns) → Some d ≡ resolve names name → d < length ns → n ≡ get_or ns d n → at ≡ start_of (name_of (tree_of n)) → Some at ≡ declared_at (map tree_of ns) name
 declared_at-here ns names name d at n is found lt there start =
-    ap Some start ∙ sym (start_at ns d n lt there) ∙ ap (option_and_then (slice_get (map (λ spec. start_of (first_part spec)) (map tree_of ns)))) (found ∙ ap (λ x. resolve x name) is)
+    ap Some start ∙ sym (start_at ns d n lt there) ∙ ap (option_and_then (slice_get (map (λ spec. start_of (name_of spec)) (map tree_of ns)))) (found ∙ ap (λ x. resolve x name) is)
 
 -- a part has fewer nodes than its node
 pub part-smaller : (t : Tree) (ns : List Node) (k : ℕ) (n : Node) → trees_of (map tree_of ns) ≡ parts_of t → k < length ns → n ≡ get_or ns k n → node_count (tree_of n) < node_count t
@@ -48,12 +48,12 @@ walked_back f ns i n old new x some lt at so_far is now =
     pushed_back old new x (flat_map f (map tree_of (drop i ns))) (flat_map f (map tree_of (drop (i - 1) ns))) so_far (split ∙ ap (λ l. l ++ flat_map f (map tree_of (drop i ns))) (sym is)) now
 
 -- the three groups of lines
-pub three_groups : (constants : List Tree) (names : List (List ℕ)) (headers : Headers) (start defs uses exprs whole : List Line) → names ≡ names_of constants → start ≡ [] → defs ≡ start ++ defs_from headers 0 constants → uses ≡ defs ++ flat_map (λ spec. uses_in constants (second_part spec)) constants → exprs ≡ flat_map (λ spec. exprs_in names headers (second_part spec)) constants → whole ≡ uses ++ exprs → whole ≡ lines_of constants headers
+pub three_groups : (constants : List Tree) (names : List (List ℕ)) (headers : Headers) (start defs uses exprs whole : List Line) → names ≡ names_of constants → start ≡ [] → defs ≡ start ++ defs_from headers 0 constants → uses ≡ defs ++ flat_map (λ spec. uses_in constants (value_of spec)) constants → exprs ≡ flat_map (λ spec. exprs_in names headers (value_of spec)) constants → whole ≡ uses ++ exprs → whole ≡ lines_of constants headers
 three_groups constants names headers start defs uses exprs whole is_names is_start is_defs is_uses is_exprs is_whole =
     let D = defs_from headers 0 constants in
-    let U = flat_map (λ spec. uses_in constants (second_part spec)) constants in
+    let U = flat_map (λ spec. uses_in constants (value_of spec)) constants in
     is_whole
     ∙ ap (λ l. l ++ exprs) is_uses
     ∙ ap (λ l. (l ++ U) ++ exprs) (is_defs ∙ ap (λ l. l ++ D) is_start)
     ∙ append_assoc D U exprs
-    ∙ ap (λ l. D ++ (U ++ l)) (is_exprs ∙ ap (λ n. flat_map (λ spec. exprs_in n headers (second_part spec)) constants) is_names)
+    ∙ ap (λ l. D ++ (U ++ l)) (is_exprs ∙ ap (λ n. flat_map (λ spec. exprs_in n headers (value_of spec)) constants) is_names)

@@ -1,15 +1,23 @@
 -- A file has one report at most.
-use Rattle.std.proofs.Common.{◌≡◌, ℕ, ℤ, Bool, true, false, List, [], ◌∷◌, Option, Some, None, refl, sym, ap, ◌∙◌, subst, arith}
+use Rattle.std.proofs.Common.{◌≡◌, ◌≢◌, ℕ, ℤ, Bool, true, false, List, [], ◌∷◌, Option, Some, None, refl, sym, ap, ◌∙◌, subst, arith}
 use Rattle.std.specs.Prelude.{◌↔◌}
 use Rattle.std.proofs.Math.Path.{fun_ext}
+use Rattle.go_base.specs.declared.rule.Broken.{Broken}
+use Rattle.go_parse_x.specs.declared.fault.ParseFault.{ParseFault}
+use Rattle.go_parse_x.specs.declared.fault.ParseFault.TheVariants.{NoMemory}
+use Rattle.go_parse_s.specs.Files.{IsFileOf, IsFaultOf}
+use Rattle.go_parse_s.proofs.LawLemmas.{one_file_lem, one_fault_lem, file_or_fault_lem}
 use Rattle.go_tree.specs.Tree.{Tree, text_of}
+use Rattle.gocheck.specs.Fault.{broken_by}
+use Rattle.gocheck.specs.FormRules.Order.{IsListOf}
+use Rattle.gocheck.specs.FormRules.Whole.{AreBrokenForms}
 use Rattle.gocheck.specs.Resolution.{first_part, constants_of, names_of}
 use Rattle.gocheck.specs.Records.{Headers}
-use Rattle.gocheck.specs.Rules.{broken_at, unbuilt_form, broken_values}
+use Rattle.gocheck.specs.Rules.{broken_names, broken_values}
 use Rattle.gocheck.specs.Waiting.{Chain}
-use Rattle.gocheck.specs.Report.{Report, refused, lines_of, values_report, ValuesReport, PackageReport, by_names, by_values, ReportOf, too_long, wrong, read}
-use Rattle.gocheck.proofs.SourceLemmas.{one_tree}
-use Rattle.gocheck.proofs.PlaceLemmas.{one_place, no_tree_beside}
+use Rattle.gocheck.specs.Report.{Report, refused, refused_package, first_number, lines_of, values_report, ValuesReport, PackageReport, by_names, by_values, ReportOf, too_long, no_tree, broken_form, read}
+use Rattle.gocheck.proofs.BrokenListLemmas.{one_list, none_of_none}
+use Rattle.gocheck.proofs.WholeLemmas.{one_list_of_forms}
 
 same_option : (x y : Option ℤ) → ((h : ℤ) → x ≡ Some h → y ≡ Some h) → ((h : ℤ) → y ≡ Some h → x ≡ Some h) → x ≡ y
 same_option None None f g = refl
@@ -20,6 +28,10 @@ same_bool : (x y : Bool) → (x ≡ true → y ≡ true) → (y ≡ true → x �
 same_bool true y f g = sym (f refl)
 same_bool false true f g = g refl
 same_bool false false f g = refl
+
+-- nothing that was found has no list of some
+no_list : (found : List Broken) (b : Broken) (bs : List Broken) → found ≡ [] → IsListOf found (b ∷ bs) → ⊥
+no_list found b bs e i = let none = none_of_none (b ∷ bs) (subst (λ (f : List Broken). IsListOf f (b ∷ bs)) e i) in cc none
 
 module _ (name : List ℕ) (constants : List Tree) where
   -- constants have one report by their values at most
@@ -35,21 +47,50 @@ module _ (name : List ℕ) (constants : List Tree) where
 
   -- constants have one report at most
   pub one_of_package : (a b : Report) → PackageReport name constants a → PackageReport name constants b → a ≡ b
-  one_of_package a b (by_names x xs e) (by_names y ys f) = cc
-  one_of_package a b (by_names x xs e) (by_values r f w) = cc
-  one_of_package a b (by_values r e v) (by_names y ys f) = cc
+  one_of_package a b (by_names x xs i) (by_names y ys j) = let same = one_list (broken_names constants) (x ∷ xs) (y ∷ ys) i j in ap (refused_package name) same
+  one_of_package a b (by_names x xs i) (by_values r f w) = absurd (no_list (broken_names constants) x xs f i)
+  one_of_package a b (by_values r e v) (by_names y ys j) = absurd (no_list (broken_names constants) y ys e j)
   one_of_package a b (by_values r e v) (by_values s f w) = one_by_values r s v w
 
--- a file has one report at most
-pub one_report : (bytes : List ℕ) (a b : Report) → ReportOf bytes a → ReportOf bytes b → a ≡ b
-one_report bytes a b (too_long x) (too_long y) = refl
-one_report bytes a b (too_long x) (wrong k y w) = absurd (omega arith)
-one_report bytes a b (too_long x) (read u s y j q) = absurd (omega arith)
-one_report bytes a b (wrong o x v) (too_long y) = absurd (omega arith)
-one_report bytes a b (wrong o x v) (wrong k y w) = ap (λ at. refused (broken_at at unbuilt_form ∷ [])) (one_place bytes o k v w)
-one_report bytes a b (wrong o x v) (read u s y j q) = absurd (no_tree_beside bytes o v u j)
-one_report bytes a b (read t r x i p) (too_long y) = absurd (omega arith)
-one_report bytes a b (read t r x i p) (wrong k y w) = absurd (no_tree_beside bytes k w t i)
-one_report bytes a b (read t r x i p) (read u s y j q) =
-    let same_tree = one_tree bytes u t j i in
-    one_of_package (text_of (first_part t)) (constants_of t) r s p (subst (λ (tree : Tree). PackageReport (text_of (first_part tree)) (constants_of tree) s) same_tree q)
+-- what breaks a rule is no want of memory
+some_fault : (fault : ParseFault) (b : Broken) → broken_by fault ≡ Some b → fault ≢ NoMemory
+some_fault fault b e = λ n. let none = sym (ap broken_by n) ∙ e in cc none
+
+module _ (bytes : List ℕ) where
+  no_tree_beside : (tree : Tree) (fault : ParseFault) (b : Broken) → IsFileOf bytes first_number tree → IsFaultOf bytes fault → broken_by fault ≡ Some b → ⊥
+  no_tree_beside tree fault b i f e = file_or_fault_lem bytes first_number tree fault i f (some_fault fault b e)
+
+  one_broken : (f g : ParseFault) (b c : Broken) → IsFaultOf bytes f → IsFaultOf bytes g → broken_by f ≡ Some b → broken_by g ≡ Some c → refused (b ∷ []) ≡ refused (c ∷ [])
+  one_broken f g b c v w p q =
+      let same = one_fault_lem bytes f g v w (some_fault f b p) (some_fault g c q) in
+      let equal = sym p ∙ ap broken_by same ∙ q in
+      let one : b ≡ c = cc equal in
+      ap (λ (x : Broken). refused (x ∷ [])) one
+
+  no_forms : (t : Tree) (b : Broken) (bs : List Broken) → AreBrokenForms bytes t (b ∷ bs) → AreBrokenForms bytes t [] → ⊥
+  no_forms t b bs some none = let same = one_list_of_forms bytes t (b ∷ bs) [] some none in cc same
+
+  one_tree : (t u : Tree) → IsFileOf bytes first_number t → IsFileOf bytes first_number u → u ≡ t
+  one_tree t u i j = one_file_lem bytes first_number u t j i
+
+  -- a file has one report at most
+  pub one_report : (a b : Report) → ReportOf bytes a → ReportOf bytes b → a ≡ b
+  one_report a b (too_long x) (too_long y) = refl
+  one_report a b (too_long x) (no_tree g c y w q) = absurd (omega arith)
+  one_report a b (too_long x) (broken_form u c cs y j l) = absurd (omega arith)
+  one_report a b (too_long x) (read u s y j m q) = absurd (omega arith)
+  one_report a b (no_tree f d x v p) (too_long y) = absurd (omega arith)
+  one_report a b (no_tree f d x v p) (no_tree g c y w q) = one_broken f g d c v w p q
+  one_report a b (no_tree f d x v p) (broken_form u c cs y j l) = absurd (no_tree_beside u f d j v p)
+  one_report a b (no_tree f d x v p) (read u s y j m q) = absurd (no_tree_beside u f d j v p)
+  one_report a b (broken_form t d ds x i k) (too_long y) = absurd (omega arith)
+  one_report a b (broken_form t d ds x i k) (no_tree g c y w q) = absurd (no_tree_beside t g c i w q)
+  one_report a b (broken_form t d ds x i k) (broken_form u c cs y j l) =
+      let there = subst (λ (tree : Tree). AreBrokenForms bytes tree (c ∷ cs)) (one_tree t u i j) l in
+      ap refused (one_list_of_forms bytes t (d ∷ ds) (c ∷ cs) k there)
+  one_report a b (broken_form t d ds x i k) (read u s y j m q) = absurd (no_forms t d ds k (subst (λ (tree : Tree). AreBrokenForms bytes tree []) (one_tree t u i j) m))
+  one_report a b (read t r x i n p) (too_long y) = absurd (omega arith)
+  one_report a b (read t r x i n p) (no_tree g c y w q) = absurd (no_tree_beside t g c i w q)
+  one_report a b (read t r x i n p) (broken_form u c cs y j l) = absurd (no_forms t c cs (subst (λ (tree : Tree). AreBrokenForms bytes tree (c ∷ cs)) (one_tree t u i j) l) n)
+  one_report a b (read t r x i n p) (read u s y j m q) =
+      one_of_package (text_of (first_part t)) (constants_of t) r s p (subst (λ (tree : Tree). PackageReport (text_of (first_part tree)) (constants_of tree) s) (one_tree t u i j) q)

@@ -1,10 +1,14 @@
 -- The parts of a node, by the list of its parts.
-use Rattle.std.proofs.Common.{◌≡◌, ◌<◌, ◌≤◌, ◌-◌, List, [], ◌∷◌, length, map, take, drop, refl, sym, ap, ◌∙◌, arith}
-use Rattle.std.proofs.lemmas.List.{take_rest}
+use Rattle.std.proofs.Common.{◌≡◌, ◌≢◌, ℕ, zero, suc, ◌+◌, ◌-◌, ◌≤◌, List, [], ◌∷◌, ◌++◌, length, map, take, get_or, reverse, refl, sym, ap, ◌∙◌, arith}
+use Rattle.std.specs.List.{flat_map}
+use Rattle.std.proofs.lemmas.List.{append-nil, append_assoc, flat_map_more, map-append, reverse-append}
+use Rattle.indexmap.proofs.ReorderLemmas.{map-reverse}
 use Rattle.go_tree.specs.declared.node.Node.{Node}
-use Rattle.go_tree.specs.Tree.{Tree, branch, no_trees, more_trees, trees_of, list_of, tree_of, parts_of}
-use Rattle.go_tree.proofs.TreeLemmas.{list_of-trees_of}
-use Rattle.gocheck.specs.Resolution.{first_part, second_part, constants_of}
+use Rattle.go_tree.specs.declared.node.Node.TheViews.{out-Node}
+use Rattle.go_tree.specs.declared.node_kind.NodeKind.TheVariants.{ConstDecl}
+use Rattle.go_tree.specs.Tree.{Tree, branch, no_trees, more_trees, trees_of, list_of, tree_of, kind_of, parts_of}
+use Rattle.go_tree.proofs.TreeLemmas.{tree_of-out, list_of-trees_of}
+use Rattle.gocheck.specs.Resolution.{first_part, last_of, last_part, constant_in, constants_of}
 
 pub first_part-none : (t : Tree) → trees_of [] ≡ parts_of t → first_part t ≡ t
 first_part-none (branch id from to kind text no_trees) e = refl
@@ -14,31 +18,89 @@ pub first_part-some : (t a : Tree) (ts : List Tree) → trees_of (a ∷ ts) ≡ 
 first_part-some (branch id from to kind text no_trees) a ts e = cc
 first_part-some (branch id from to kind text (more_trees x xs)) a ts e = cc
 
-pub second_part-short : (ns : List Node) (t : Tree) → length ns < 2 → trees_of (map tree_of ns) ≡ parts_of t → second_part t ≡ t
-second_part-short [] (branch id from to kind text no_trees) lt e = refl
-second_part-short [] (branch id from to kind text (more_trees x xs)) lt e = cc
-second_part-short (a ∷ []) (branch id from to kind text no_trees) lt e = refl
-second_part-short (a ∷ []) (branch id from to kind text (more_trees x no_trees)) lt e = refl
-second_part-short (a ∷ []) (branch id from to kind text (more_trees x (more_trees y ys))) lt e = cc
-second_part-short (a ∷ (b ∷ ns)) t lt e = absurd (omega arith)
+pub last_part-none : (t : Tree) → trees_of [] ≡ parts_of t → last_part t ≡ t
+last_part-none (branch id from to kind text no_trees) e = refl
+last_part-none (branch id from to kind text (more_trees x xs)) e = cc
 
-pub second_part-some : (t a b : Tree) (ts : List Tree) → trees_of (a ∷ b ∷ ts) ≡ parts_of t → second_part t ≡ b
-second_part-some (branch id from to kind text no_trees) a b ts e = cc
-second_part-some (branch id from to kind text (more_trees x no_trees)) a b ts e = cc
-second_part-some (branch id from to kind text (more_trees x (more_trees y ys))) a b ts e = cc
+last_of-at : (ns : List Node) (t : Tree) (n : Node) (i : ℕ) → i + 1 ≡ length ns → n ≡ get_or ns i n → last_of t (trees_of (map tree_of ns)) ≡ tree_of n
+last_of-at [] t n i at e = absurd (omega arith)
+last_of-at (m ∷ []) t n zero at e = ap tree_of (sym e)
+last_of-at (m ∷ []) t n (suc i) at e = absurd (omega arith)
+last_of-at (m ∷ (k ∷ ns)) t n zero at e = absurd (omega arith)
+last_of-at (m ∷ (k ∷ ns)) t n (suc i) at e = last_of-at (k ∷ ns) (tree_of m) n i (omega arith) e
 
-pub constants_of-none : (t : Tree) → trees_of [] ≡ parts_of t → constants_of t ≡ []
-constants_of-none (branch id from to kind text no_trees) e = refl
-constants_of-none (branch id from to kind text (more_trees x xs)) e = cc
+pub last_part-some : (ns : List Node) (t : Tree) (n : Node) → 1 ≤ length ns → n ≡ get_or ns (length ns - 1) n → trees_of (map tree_of ns) ≡ parts_of t → last_part t ≡ tree_of n
+last_part-some ns (branch id from to kind text parts) n some e is =
+    let at : (length ns - 1) + 1 ≡ length ns = omega arith in
+    ap (last_of (branch id from to kind text parts)) (sym is) ∙ last_of-at ns (branch id from to kind text parts) n (length ns - 1) at e
 
-constants_of-some : (t a : Tree) (ts : List Tree) → trees_of (a ∷ ts) ≡ parts_of t → ts ≡ constants_of t
-constants_of-some (branch id from to kind text no_trees) a ts e = cc
-constants_of-some (branch id from to kind text (more_trees x xs)) a ts e =
-    let same : xs ≡ trees_of ts = cc in
-    sym (ap list_of same ∙ list_of-trees_of ts)
+pub ruleset part_lemmas = (first_part-none, first_part-some, last_part-none, last_part-some)
 
-pub constants_of-rest : (ns : List Node) (t : Tree) → 1 ≤ length ns → trees_of (map tree_of ns) ≡ parts_of t → map tree_of (take (length ns - 1) (drop 1 ns)) ≡ constants_of t
-constants_of-rest [] t le e = absurd (omega arith)
-constants_of-rest (n ∷ ns) t le e = ap (map tree_of) (take_rest (n ∷ ns) 1) ∙ constants_of-some t (tree_of n) (map tree_of ns) e
+pub own_parts-are : (n : Node) → trees_of (map tree_of (out-Node n).parts.items) ≡ parts_of (tree_of n)
+own_parts-are n = sym (ap parts_of (tree_of-out n))
 
-pub ruleset part_lemmas = (first_part-none, first_part-some, second_part-short, second_part-some, constants_of-none, constants_of-rest)
+pub ruleset own_parts = (own_parts-are)
+
+-- the constant of a declaration
+
+pub constant_in-other : (t : Tree) → (kind_of t ≡ ConstDecl → ⊥) → constant_in t ≡ []
+constant_in-other (branch id from to ConstDecl text parts) other = absurd (other refl)
+constant_in-other t other = refl
+
+pub constant_in-one : (t : Tree) (ns : List Node) (n : Node) → kind_of t ≡ ConstDecl → trees_of (map tree_of ns) ≡ parts_of t → ns ≡ n ∷ [] → constant_in t ≡ tree_of n ∷ []
+constant_in-one (branch id from to kind text parts) ns n k p e =
+    let one : parts ≡ more_trees (tree_of n) no_trees = sym p ∙ ap (λ l. trees_of (map tree_of l)) e in
+    rw (k, one) refl
+
+constant_in-several : (id from to : ℕ) (text : List ℕ) (ns : List Node) → length ns ≢ 1 → constant_in (branch id from to ConstDecl text (trees_of (map tree_of ns))) ≡ []
+constant_in-several id from to text [] some = refl
+constant_in-several id from to text (n ∷ []) some = absurd (some refl)
+constant_in-several id from to text (n ∷ (m ∷ ns)) some = refl
+
+pub constant_in-none : (t : Tree) (ns : List Node) → kind_of t ≡ ConstDecl → trees_of (map tree_of ns) ≡ parts_of t → length ns ≢ 1 → constant_in t ≡ []
+constant_in-none (branch id from to kind text parts) ns k p some = rw (k, ← p) (constant_in-several id from to text ns some)
+
+pub ruleset constant_lemmas = (constant_in-other, constant_in-one, constant_in-none)
+
+-- the constants of declarations that are taken from the last to the first
+
+pub constants-first : (ns : List Node) (t : Tree) (cs : List Node) → trees_of (map tree_of ns) ≡ parts_of t → cs ≡ [] → flat_map constant_in (map tree_of ns) ++ reverse (map tree_of cs) ≡ constants_of t
+constants-first ns t cs e none =
+    ap (λ (l : List Node). flat_map constant_in (map tree_of ns) ++ reverse (map tree_of l)) none
+    ∙ append-nil (flat_map constant_in (map tree_of ns))
+    ∙ sym (ap (flat_map constant_in) (list_of-trees_of (map tree_of ns)))
+    ∙ ap (λ ps. flat_map constant_in (list_of ps)) e
+
+one_reversed : (t : Tree) → reverse (constant_in t) ≡ constant_in t
+one_reversed (branch id from to ConstDecl text no_trees) = refl
+one_reversed (branch id from to ConstDecl text (more_trees spec no_trees)) = refl
+one_reversed (branch id from to ConstDecl text (more_trees spec (more_trees next specs))) = refl
+one_reversed t = refl
+
+pub constants-next : (ns rest : List Node) (d : Node) (old new : List Node) (whole : List Tree) → ns ≡ rest ++ d ∷ [] → map tree_of new ≡ map tree_of old ++ constant_in (tree_of d) → flat_map constant_in (map tree_of ns) ++ reverse (map tree_of old) ≡ whole → flat_map constant_in (map tree_of rest) ++ reverse (map tree_of new) ≡ whole
+constants-next ns rest d old new whole split more so_far =
+    let before = flat_map constant_in (map tree_of rest) in
+    let here = constant_in (tree_of d) in
+    let behind = reverse (map tree_of old) in
+    let turned : reverse (map tree_of new) ≡ here ++ behind =
+    ap reverse more ∙ reverse-append (map tree_of old) here ∙ ap (λ l. l ++ behind) (one_reversed (tree_of d)) in
+    let all : flat_map constant_in (map tree_of ns) ≡ before ++ here =
+    ap (λ (l : List Node). flat_map constant_in (map tree_of l)) split
+    ∙ ap (flat_map constant_in) (map-append tree_of rest (d ∷ []))
+    ∙ sym (flat_map_more constant_in [] (map tree_of rest) (tree_of d)) in
+    ap (λ l. before ++ l) turned
+    ∙ sym (append_assoc before here behind)
+    ∙ ap (λ l. l ++ behind) (sym all)
+    ∙ so_far
+
+none_left : (ns rest : List Node) (n : ℕ) → n ≡ 0 → rest ≡ take (n - 1) ns → ns ≡ rest ++ [] → ns ≡ []
+none_left ns rest n e front all =
+    let none : rest ≡ [] = front ∙ ap (λ k. take (k - 1) ns) e in
+    all ∙ append-nil rest ∙ none
+
+pub constants-last : (ns rest old new : List Node) (n : ℕ) (whole : List Tree) → n ≡ 0 → rest ≡ take (n - 1) ns → ns ≡ rest ++ [] → new ≡ reverse old → flat_map constant_in (map tree_of ns) ++ reverse (map tree_of old) ≡ whole → map tree_of new ≡ whole
+constants-last ns rest old new n whole e front all turned so_far =
+    ap (map tree_of) turned
+    ∙ map-reverse tree_of old
+    ∙ ap (λ (l : List Node). flat_map constant_in (map tree_of l) ++ reverse (map tree_of old)) (sym (none_left ns rest n e front all))
+    ∙ so_far

@@ -1,17 +1,21 @@
 -- Lemmas on reports: which report each outcome of the check gives.
-use Rattle.std.proofs.Common.{◌≡◌, ◌≢◌, ℕ, ℤ, Bool, true, Option, Some, Result, Ok, Err, List, [], ◌∷◌, refl, sym, subst}
-use Rattle.std.specs.Prelude.{◌↔◌, IfOk}
+use Rattle.std.proofs.Common.{◌≡◌, ◌≢◌, ℕ, ℤ, Bool, true, Option, Some, Result, Ok, Err, List, [], ◌∷◌, refl, subst}
+use Rattle.std.specs.Prelude.{◌↔◌, ◌≤◌, IfOk, length}
 use Rattle.go_base.specs.declared.rule.Broken.{Broken}
 use Rattle.go_tree.specs.Tree.{Tree}
 use Rattle.gocheck.specs.declared.line.Line.{Line}
+use Rattle.go_parse_s.specs.Files.{IsFileOf}
+use Rattle.gocheck.specs.FormRules.Order.{IsListOf}
+use Rattle.gocheck.specs.FormRules.Whole.{AreBrokenForms}
 use Rattle.gocheck.specs.Headers.{Known}
 use Rattle.gocheck.specs.Records.{Headers}
 use Rattle.gocheck.specs.Resolution.{names_of}
-use Rattle.gocheck.specs.Rules.{undeclared, broken_values}
+use Rattle.gocheck.specs.Rules.{broken_names, broken_values}
+use Rattle.gocheck.proofs.BrokenListLemmas.{none_found}
 use Rattle.gocheck.specs.Table.{slot_of}
 use Rattle.gocheck.specs.Marks.{is_marked}
 use Rattle.gocheck.specs.Waiting.{Chain}
-use Rattle.gocheck.specs.Report.{accepted, refused_package, lines_of, values_report, ValuesReport, PackageReport, by_names}
+use Rattle.gocheck.specs.Report.{accepted, refused, refused_package, lines_of, values_report, ValuesReport, PackageReport, by_names, ReportOf, broken_form, most_bytes, first_number}
 
 pub if_ok-map : {A E : Type 0} (r : Result A E) (P Q : A → Type 0) → ((x : A) → P x → Q x) → IfOk r P → IfOk r Q
 if_ok-map (Ok x) P Q f h = f x h
@@ -45,9 +49,17 @@ refused_values name constants headers cyclic list v some = record {
   report_is = rw (← v.list_is) (refused_list name list (lines_of constants headers) some);
 }
 
-pub refused_names : (name : List ℕ) (constants : List Tree) (list : List Broken) → list ≡ undeclared constants → list ≢ [] → PackageReport name constants (refused_package name list)
-refused_names name constants [] e some = absurd (some refl)
-refused_names name constants (b ∷ bs) e some = by_names b bs (sym e)
+-- an empty list is that of nothing
+pub nothing_broken : (found list : List Broken) → list ≡ [] → IsListOf found list → found ≡ []
+nothing_broken found list e i = none_found found (subst (IsListOf found) e i)
+
+pub refused_names : (name : List ℕ) (constants : List Tree) (list : List Broken) → IsListOf (broken_names constants) list → list ≢ [] → PackageReport name constants (refused_package name list)
+refused_names name constants [] i some = absurd (some refl)
+refused_names name constants (b ∷ bs) i some = by_names b bs i
+
+pub refused_form : (bytes : List ℕ) (tree : Tree) (list : List Broken) → length bytes ≤ most_bytes → IsFileOf bytes first_number tree → AreBrokenForms bytes tree list → list ≢ [] → ReportOf bytes (refused list)
+refused_form bytes tree [] size is_tree i some = absurd (some refl)
+refused_form bytes tree (b ∷ bs) size is_tree i some = broken_form tree b bs size is_tree i
 
 -- the same values, where the table, the marks and the names are read through references
 pub values_read : (constants : List Tree) (names : List (List ℕ)) (table table1 table2 : List (Option ℤ)) (marks marks2 : List Bool) (list : List Broken) → names ≡ names_of constants → table1 ≡ table → table2 ≡ table → marks2 ≡ marks → ((d : ℕ) (h : ℤ) → (slot_of table d ≡ Some h) ↔ Known constants d h) → ((d : ℕ) → (is_marked marks d ≡ true) ↔ Chain constants (slot_of table1) d d) → list ≡ broken_values names (slot_of table2) (is_marked marks2) 0 constants → Values constants (slot_of table) (is_marked marks) list

@@ -7,7 +7,7 @@ use Rattle.std.proofs.lemmas.Option.{unwrap_or-slice_get}
 use Rattle.go_tree.specs.declared.node.Node.{Node}
 use Rattle.go_tree.specs.declared.node_kind.NodeKind.TheVariants.{AddExpr, ParenExpr, Name, IntLit}
 use Rattle.go_tree.specs.Tree.{Tree, branch, no_trees, more_trees, tree_of}
-use Rattle.gocheck.specs.Resolution.{second_part, names_of, resolve}
+use Rattle.gocheck.specs.Resolution.{value_of, names_of, resolve}
 use Rattle.gocheck.specs.Records.{Headers, sum_of, record_of}
 use Rattle.gocheck.specs.Headers.{headers_of, Follows, Justified, Holds, Known}
 use Rattle.gocheck.specs.Laws.{IsPart}
@@ -34,13 +34,13 @@ record_of-part names known more part t v e = cc
 module _ (constants : List Tree) where
   Follows-part : (known more : Headers) → IsPart known more → (d : ℕ) (h : ℤ) → Follows constants known d h → Follows constants more d h
   Follows-part known more part d h f =
-      record { spec = f.spec; declared = f.declared; value = record_of-part (names_of constants) known more part (second_part f.spec) h f.value }
+      record { spec = f.spec; declared = f.declared; value = record_of-part (names_of constants) known more part (value_of f.spec) h f.value }
 
   -- over one map a constant has one header
   Follows-same : (known : Headers) (d : ℕ) (h h' : ℤ) → Follows constants known d h → Follows constants known d h' → h ≡ h'
   Follows-same known d h h' f g =
       let same : f.spec ≡ g.spec = cc (f.declared, g.declared) in
-      let at : record_of (names_of constants) known (second_part f.spec) ≡ record_of (names_of constants) known (second_part g.spec) = ap (λ t. record_of (names_of constants) known (second_part t)) same in
+      let at : record_of (names_of constants) known (value_of f.spec) ≡ record_of (names_of constants) known (value_of g.spec) = ap (λ t. record_of (names_of constants) known (value_of t)) same in
       cc (f.value, g.value)
 
 -- what a longer list has for a constant
@@ -161,12 +161,12 @@ slot_of-there (x ∷ table) (suc d) zero h ne = refl
 slot_of-there (x ∷ table) (suc d) (suc n) h ne = slot_of-there table d n h (λ e. ne (ap suc e))
 
 -- a header that follows from the table may be put into it
-pub IsBacked-set : (constants : List Tree) (table : List (Option ℤ)) (d : ℕ) (h : ℤ) (spec : Tree) → IsBacked constants table → d < length table → slice_get constants d ≡ Some spec → record_of (names_of constants) (slot_of table) (second_part spec) ≡ Some h → IsBacked constants (slice_set table d (Some h))
+pub IsBacked-set : (constants : List Tree) (table : List (Option ℤ)) (d : ℕ) (h : ℤ) (spec : Tree) → IsBacked constants table → d < length table → slice_get constants d ≡ Some spec → record_of (names_of constants) (slot_of table) (value_of spec) ≡ Some h → IsBacked constants (slice_set table d (Some h))
 IsBacked-set constants table d h spec b lt at v =
     let part : IsPart (slot_of table) (headers_of b.list) = λ d' h' q. sym (b.same d') ∙ q in
     record {
       list = (d, h) ∷ b.list;
-      justified = (b.justified, record { spec = spec; declared = at; value = record_of-part (names_of constants) (slot_of table) (headers_of b.list) part (second_part spec) h v });
+      justified = (b.justified, record { spec = spec; declared = at; value = record_of-part (names_of constants) (slot_of table) (headers_of b.list) part (value_of spec) h v });
       same = λ n. ⊎_elim
           (λ here. subst (λ m. slot_of (slice_set table d (Some h)) m ≡ headers_of ((d, h) ∷ b.list) m) here (slot_of-here table d h lt ∙ sym (headers_of-here (d, h) b.list d refl)))
           (λ ne. slot_of-there table d n h ne ∙ b.same n ∙ sym (headers_of-there (d, h) b.list n ne))

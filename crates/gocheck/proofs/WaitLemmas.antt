@@ -8,8 +8,8 @@ use Rattle.go_tree.specs.declared.node.Node.{Node}
 use Rattle.go_tree.specs.declared.node_kind.NodeKind.TheVariants.{AddExpr, Name, IntLit}
 use Rattle.go_tree.specs.Tree.{Tree, branch, Trees, no_trees, more_trees, trees_of, tree_of, kind_of, text_of, parts_of, node_count, node_count_of_all}
 use Rattle.go_tree.proofs.TreeLemmas.{part_within}
-use Rattle.gocheck.specs.Tokens.{same_text}
-use Rattle.gocheck.specs.Resolution.{first_part, second_part, names_of, resolve}
+use Rattle.gocheck.specs.Resolution.{same_text}
+use Rattle.gocheck.specs.Resolution.{name_of, value_of, names_of, resolve}
 use Rattle.gocheck.specs.Records.{Headers, record_of}
 use Rattle.gocheck.specs.Tests.{name_test, sum_test, test_of}
 use Rattle.gocheck.specs.Waiting.{lacked, lacked_in, lacked_among, Waits, Chain, one, more}
@@ -79,22 +79,22 @@ row_declared f (c ∷ constants) (suc d) spec e = row_declared f constants d spe
 
 pub waits_graph : (names : List (List ℕ)) (headers : Headers) (constants : List Tree) → names ≡ names_of constants → IsGraph (lacking names headers constants)
 waits_graph names headers constants is a b e =
-    let f : Tree → List ℕ = λ spec. lacked_in names headers (second_part spec) in
+    let f : Tree → List ℕ = λ spec. lacked_in names headers (value_of spec) in
     let at = declared_row f constants a e.row e.at in
     let has = subst (λ (xs : List ℕ). Contains xs b) at.2 e.has in
-    let lt = All-contains (λ k. k < length names) (f at.0) b (lacked_within names headers (second_part at.0)) has in
-    omega (arith, lt, ap length is, length-map constants (λ spec. text_of (first_part spec)), length-map constants f)
+    let lt = All-contains (λ k. k < length names) (f at.0) b (lacked_within names headers (value_of at.0)) has in
+    omega (arith, lt, ap length is, length-map constants (λ spec. text_of (name_of spec)), length-map constants f)
 
 module _ (headers : Headers) (constants : List Tree) where
   edge_waits : (d e : ℕ) → HasEdge (lacking (names_of constants) headers constants) d e → Waits constants headers d e
   edge_waits d e leads =
-      let at = declared_row (λ spec. lacked_in (names_of constants) headers (second_part spec)) constants d leads.row leads.at in
+      let at = declared_row (λ spec. lacked_in (names_of constants) headers (value_of spec)) constants d leads.row leads.at in
       record { spec = at.0; declared = at.1; lacks = subst (λ (xs : List ℕ). Contains xs e) at.2 leads.has }
 
   waits_edge : (d e : ℕ) → Waits constants headers d e → HasEdge (lacking (names_of constants) headers constants) d e
   waits_edge d e w = record {
-    row = lacked_in (names_of constants) headers (second_part w.spec);
-    at = row_declared (λ spec. lacked_in (names_of constants) headers (second_part spec)) constants d w.spec w.declared;
+    row = lacked_in (names_of constants) headers (value_of w.spec);
+    at = row_declared (λ spec. lacked_in (names_of constants) headers (value_of spec)) constants d w.spec w.declared;
     has = w.lacks;
   }
 

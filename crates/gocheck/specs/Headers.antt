@@ -3,14 +3,14 @@
 -- order of work is named.
 use Rattle.std.specs.Prelude.{◌≡◌, ℕ, ℤ, ◌==◌, ◌⊎◌, Some, None, List, [], ◌∷◌, slice_get, if◌then◌else◌}
 use Rattle.go_tree.specs.Tree.{Tree}
-use Rattle.gocheck.specs.Resolution.{second_part, names_of}
+use Rattle.gocheck.specs.Resolution.{value_of, names_of}
 use Rattle.gocheck.specs.Records.{Headers, record_of}
 
 -- the header h of the constant d follows from the headers alone
 pub record Follows (constants : List Tree) (headers : Headers) (d : ℕ) (h : ℤ) : Type 0 where
   pub spec : Tree
   pub declared : slice_get constants d ≡ Some spec
-  pub value : record_of (names_of constants) headers (second_part spec) ≡ Some h
+  pub value : record_of (names_of constants) headers (value_of spec) ≡ Some h
 
 -- what a list of pairs, the newest first, has for a constant
 abbrev pub headers_of : List (ℕ × ℤ) → Headers

@@ -4,7 +4,7 @@
 use Rattle.std.specs.Prelude.{◌≡◌, ℕ, suc, ◌+◌, ◌<◌, ◌⊎◌, Bool, true, false, Some, List, [], ◌∷◌, length, map, slice_get, unwrap_or, Contains, Vec}
 use Rattle.std.specs.Global.{Global}
 use Rattle.go_tree.specs.Tree.{Tree}
-use Rattle.gocheck.specs.Resolution.{second_part}
+use Rattle.gocheck.specs.Resolution.{value_of}
 use Rattle.gocheck.specs.Records.{Headers}
 use Rattle.gocheck.specs.Waiting.{lacked_in}
 
@@ -17,7 +17,7 @@ rows_of rows = map (λ row. row.items) rows
 
 -- each constant leads to those whose headers its expression lacks
 abbrev pub lacking : List (List ℕ) → Headers → List Tree → Graph
-lacking names headers constants = map (λ spec. lacked_in names headers (second_part spec)) constants
+lacking names headers constants = map (λ spec. lacked_in names headers (value_of spec)) constants
 
 -- a leads to b
 pub record HasEdge (g : Graph) (a b : ℕ) : Type 0 where

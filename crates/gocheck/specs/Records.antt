@@ -6,7 +6,7 @@ use Rattle.go_tree.specs.declared.node_kind.NodeKind.TheVariants.{AddExpr, Paren
 use Rattle.go_tree.specs.Tree.{Tree, branch, no_trees, more_trees}
 use Rattle.go_num.specs.declared.arithmetic.IntOp.TheVariants.{Add}
 use Rattle.go_num.specs.Arithmetic.{limited, binary_value}
-use Rattle.gocheck.specs.Literals.{decimal_value}
+use Rattle.go_tree.specs.LiteralValues.{int_lit_value}
 use Rattle.gocheck.specs.Resolution.{resolve}
 
 -- a map of headers: what it has for the constant at each place
@@ -21,7 +21,7 @@ sum_of (Some x) (Some y) = limited (binary_value Add x y)
 
 -- the record of an expression over the headers, where it has one
 abbrev pub record_of : List (List ℕ) → Headers → Tree → Option ℤ
-record_of names headers (branch id from to IntLit text parts) = limited (pos (decimal_value text))
+record_of names headers (branch id from to IntLit text parts) = limited (pos (int_lit_value text))
 record_of names headers (branch id from to Name text parts) = option_and_then headers (resolve names text)
 record_of names headers (branch id from to ParenExpr text (more_trees x no_trees)) = record_of names headers x
 record_of names headers (branch id from to AddExpr text (more_trees x (more_trees y no_trees))) = sum_of (record_of names headers x) (record_of names headers y)

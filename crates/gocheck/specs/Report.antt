@@ -9,21 +9,27 @@ use Rattle.go_tree.specs.declared.node_kind.NodeKind.TheVariants.{Name}
 use Rattle.go_tree.specs.Tree.{Tree, branch, Trees, no_trees, more_trees, start_of, end_of, text_of}
 use Rattle.gocheck.specs.declared.line.Line.{Line}
 use Rattle.gocheck.specs.declared.line.Line.TheVariants.{Def, Use, Expr}
-use Rattle.gocheck.specs.Source.{IsTreeOf, GoesWrongAt}
-use Rattle.gocheck.specs.Resolution.{first_part, second_part, constants_of, names_of, resolve}
+use Rattle.go_parse_x.specs.declared.fault.ParseFault.{ParseFault}
+use Rattle.go_parse_s.specs.Files.{IsFileOf, IsFaultOf}
+use Rattle.gocheck.specs.Fault.{broken_by}
+use Rattle.gocheck.specs.Broken.{broken_at}
+use Rattle.gocheck.specs.FormRules.Order.{IsListOf}
+use Rattle.gocheck.specs.FormRules.RuleNames.{unbuilt_form_rule}
+use Rattle.gocheck.specs.FormRules.Whole.{AreBrokenForms}
+use Rattle.gocheck.specs.Resolution.{first_part, name_of, value_of, constants_of, names_of, resolve}
 use Rattle.gocheck.specs.Records.{Headers, record_of}
 use Rattle.gocheck.specs.Headers.{Known}
 use Rattle.gocheck.specs.Waiting.{Chain}
-use Rattle.gocheck.specs.Rules.{broken_at, unbuilt_form, undeclared, broken_values}
+use Rattle.gocheck.specs.Rules.{broken_names, broken_values}
 
 -- a line for each constant, from the constant d on
 abbrev pub defs_from : Headers → ℕ → List Tree → List Line
 defs_from headers d [] = []
-defs_from headers d (spec ∷ specs) = option_map_or (λ v. Def (start_of (first_part spec)) (end_of (first_part spec)) v ∷ []) (headers d) [] ++ defs_from headers (d + 1) specs
+defs_from headers d (spec ∷ specs) = option_map_or (λ v. Def (start_of (name_of spec)) (end_of (name_of spec)) v ∷ []) (headers d) [] ++ defs_from headers (d + 1) specs
 
 -- where the constant that a name denotes is declared
 abbrev pub declared_at : List Tree → List ℕ → Option ℕ
-declared_at constants name = option_and_then (slice_get (map (λ spec. start_of (first_part spec)) constants)) (resolve (names_of constants) name)
+declared_at constants name = option_and_then (slice_get (map (λ spec. start_of (name_of spec)) constants)) (resolve (names_of constants) name)
 
 -- a line for each identifier of an expression
 abbrev mutual
@@ -45,7 +51,7 @@ abbrev mutual
   exprs_among names headers (more_trees t ts) = exprs_in names headers t ++ exprs_among names headers ts
 
 abbrev pub lines_of : List Tree → Headers → List Line
-lines_of constants headers = defs_from headers 0 constants ++ (flat_map (λ spec. uses_in constants (second_part spec)) constants ++ flat_map (λ spec. exprs_in (names_of constants) headers (second_part spec)) constants)
+lines_of constants headers = defs_from headers 0 constants ++ (flat_map (λ spec. uses_in constants (value_of spec)) constants ++ flat_map (λ spec. exprs_in (names_of constants) headers (value_of spec)) constants)
 
 -- What a run tells of a file.
 pub data Report : Type 0 where
@@ -71,15 +77,21 @@ pub record ValuesReport (name : List ℕ) (constants : List Tree) (report : Repo
 -- the report of the constants of a package: the first phase that breaks a rule ends it, names before
 -- values
 pub data PackageReport (name : List ℕ) (constants : List Tree) : Report → Type 0 where
-  by_names : (b : Broken) (bs : List Broken) → undeclared constants ≡ b ∷ bs → PackageReport name constants (refused_package name (b ∷ bs))
-  by_values : (report : Report) → undeclared constants ≡ [] → ValuesReport name constants report → PackageReport name constants report
+  by_names : (b : Broken) (bs : List Broken) → IsListOf (broken_names constants) (b ∷ bs) → PackageReport name constants (refused_package name (b ∷ bs))
+  by_values : (report : Report) → broken_names constants ≡ [] → ValuesReport name constants report → PackageReport name constants report
 
 -- own: the most bytes that a file may have
 abbrev pub most_bytes : ℕ
 most_bytes = 16777216
 
--- the report of a file: it is too long, or it goes wrong, or it has a tree
+-- own: the number of the first node of a file; lower ones are those of predeclared identifiers
+abbrev pub first_number : ℕ
+first_number = 45
+
+-- the report of a file: it is too long, or it has no tree, or its form breaks rules, or else it is that
+-- of its package
 pub data ReportOf (bytes : List ℕ) : Report → Type 0 where
-  too_long : most_bytes < length bytes → ReportOf bytes (refused (broken_at 0 unbuilt_form ∷ []))
-  wrong : (offset : ℕ) → length bytes ≤ most_bytes → GoesWrongAt bytes offset → ReportOf bytes (refused (broken_at offset unbuilt_form ∷ []))
-  read : (tree : Tree) (report : Report) → length bytes ≤ most_bytes → IsTreeOf bytes tree → PackageReport (text_of (first_part tree)) (constants_of tree) report → ReportOf bytes report
+  too_long : most_bytes < length bytes → ReportOf bytes (refused (broken_at 0 unbuilt_form_rule ∷ []))
+  no_tree : (fault : ParseFault) (b : Broken) → length bytes ≤ most_bytes → IsFaultOf bytes fault → broken_by fault ≡ Some b → ReportOf bytes (refused (b ∷ []))
+  broken_form : (tree : Tree) (b : Broken) (bs : List Broken) → length bytes ≤ most_bytes → IsFileOf bytes first_number tree → AreBrokenForms bytes tree (b ∷ bs) → ReportOf bytes (refused (b ∷ bs))
+  read : (tree : Tree) (report : Report) → length bytes ≤ most_bytes → IsFileOf bytes first_number tree → AreBrokenForms bytes tree [] → PackageReport (text_of (first_part tree)) (constants_of tree) report → ReportOf bytes report

@@ -7,7 +7,7 @@ use Rattle.go_tree.specs.declared.node_kind.NodeKind.TheVariants.{AddExpr, Name,
 use Rattle.go_tree.specs.Tree.{Tree, branch, no_trees, more_trees}
 use Rattle.go_num.specs.declared.arithmetic.IntOp.TheVariants.{Add}
 use Rattle.go_num.specs.Arithmetic.{limited, binary_value}
-use Rattle.gocheck.specs.Literals.{decimal_value}
+use Rattle.go_tree.specs.LiteralValues.{int_lit_value}
 use Rattle.gocheck.specs.Resolution.{resolve}
 use Rattle.gocheck.specs.Records.{Headers, record_of}
 
@@ -33,7 +33,7 @@ sum_test (Some x) (Some y) = Some (Decided (is_some (limited (binary_value Add x
 
 -- the test at a node over the headers, where all its operands have records
 abbrev pub test_of : List (List ℕ) → Headers → Tree → Option Asked
-test_of names headers (branch id from to IntLit text parts) = Some (Decided (is_some (limited (pos (decimal_value text)))))
+test_of names headers (branch id from to IntLit text parts) = Some (Decided (is_some (limited (pos (int_lit_value text)))))
 test_of names headers (branch id from to Name text parts) = Some (name_test headers (resolve names text))
 test_of names headers (branch id from to AddExpr text (more_trees x (more_trees y no_trees))) = sum_test (record_of names headers x) (record_of names headers y)
 test_of names headers t = None

@@ -2,7 +2,7 @@
 -- Decides which constant waits for the header of which, and which constants wait for themselves.
 use Rattle.std.specs.Prelude.{◌≡◌, ℕ, Option, Some, None, List, [], ◌∷◌, ◌++◌, Contains, slice_get}
 use Rattle.go_tree.specs.Tree.{Tree, branch, Trees, no_trees, more_trees}
-use Rattle.gocheck.specs.Resolution.{second_part, names_of}
+use Rattle.gocheck.specs.Resolution.{value_of, names_of}
 use Rattle.gocheck.specs.Records.{Headers}
 use Rattle.gocheck.specs.Tests.{Asked, Decided, Lacks, test_of}
 
@@ -25,7 +25,7 @@ abbrev mutual
 pub record Waits (constants : List Tree) (headers : Headers) (d e : ℕ) : Type 0 where
   pub spec : Tree
   pub declared : slice_get constants d ≡ Some spec
-  pub lacks : Contains (lacked_in (names_of constants) headers (second_part spec)) e
+  pub lacks : Contains (lacked_in (names_of constants) headers (value_of spec)) e
 
 -- some waits, one after another, lead from d to e
 pub data Chain (constants : List Tree) (headers : Headers) (d : ℕ) : ℕ → Type 0 where

@@ -1,52 +1,77 @@
 // The check of a file.
-ghost use Rattle.std.specs.Prelude.{◌≡◌, ◌∷◌, [], IfOk};
-ghost use Rattle.go_tree.specs.Tree.{text_of, tree_of};
-ghost use Rattle.gocheck.specs.Report.{PackageReport, refused, ReportOf};
+ghost use Rattle.std.specs.Prelude.{◌≡◌, ◌≤◌, ◌∷◌, [], false, IfOk, length};
+ghost use Rattle.go_tree.specs.Scan.{Gap};
+ghost use Rattle.go_tree.specs.Tree.{start_of, text_of, tree_of};
+ghost use Rattle.go_parse_s.specs.Files.{IsFileOf};
+ghost use Rattle.gocheck.specs.Report.{PackageReport, refused, ReportOf, most_bytes, first_number};
 ghost use Rattle.gocheck.specs.Resolution as resolution;
-ghost use Rattle.gocheck.specs.Resolution.{names_of};
-ghost use Rattle.gocheck.specs.Rules as rules;
-ghost use Rattle.gocheck.specs.Rules.{unbuilt_form};
-ghost use Rattle.gocheck.specs.Source.{IsEachOnce};
 ghost use Rattle.gocheck.specs.View.{report_view};
 
-use crate::broken::broken_at;
+use crate::broken::{breaks_none, broken_at};
 use crate::constants::check_constants;
+use crate::fault::broken_by;
+use crate::form::whole::broken_forms;
 use crate::parts::{constants_of, first_part};
 use crate::report::Report;
-use crate::source::read_source;
-use go_base::{Bytes, NoMemory, UNBUILT_FORM};
-use go_tree::Node;
+use go_base::{Broken, Bytes, NoMemory, UNBUILT_FORM};
+use go_parse_s::parse_file;
+use go_tree::{Node, NodeId};
 use std::alloc::Global;
 
 /// The most bytes that a file may have.
 pub const MOST_BYTES: usize = 16_777_216;
+
+/// The number of a file's first node.
+const FIRST_NUMBER: usize = 45;
 
 /// The report of the file with these bytes.
 pub fn check_file(alloc: Global, bytes: &[u8]) -> Result<Report, NoMemory>
     ensures { IfOk result (λ report. ReportOf bytes.now (report_view report)) }
 {
     if bytes.len() > MOST_BYTES {
-        return unbuilt_at(alloc, 0);
+        return refused_at(alloc, broken_at(0, UNBUILT_FORM));
     }
-    match read_source(alloc, bytes)? {
-        Ok(file) => check_package(alloc, &file.root),
-        Err(offset) => unbuilt_at(alloc, offset),
+    match parse_file(alloc, bytes, 0, NodeId(FIRST_NUMBER)) {
+        Ok(file) => check_tree(alloc, bytes, file.root),
+        Err(fault) => refused_at(alloc, broken_by(fault)?),
     }
 }
 
 // The report of a file that has a tree.
-fn check_package(alloc: Global, root: &Node) -> Result<Report, NoMemory>
-    requires { IsEachOnce (names_of (resolution.constants_of (tree_of root.now))) }
-    ensures { IfOk result (λ report. PackageReport (text_of (resolution.first_part (tree_of root.now))) (resolution.constants_of (tree_of root.now)) (report_view report)) }
+fn check_tree(alloc: Global, bytes: &[u8], root: Node) -> Result<Report, NoMemory>
+    requires size { length bytes.now ≤ most_bytes }
+    requires tree { IsFileOf bytes.now first_number (tree_of root) }
+    requires start { Gap false bytes.now 0 (start_of (tree_of root)) }
+    ensures { IfOk result (λ report. ReportOf bytes.now (report_view report)) }
 {
-    let name = Bytes::new(first_part(root).text().to_vec(alloc)?);
-    check_constants(alloc, name, constants_of(root))
+    let list = broken_forms(alloc, bytes, &root)?;
+    if breaks_none(&list) {
+        check_package(alloc, root)
+    } else {
+        Ok(Report::Refused { list })
+    }
 }
 
-// The report of a file that goes wrong at an offset.
-fn unbuilt_at(alloc: Global, offset: usize) -> Result<Report, NoMemory>
-    ensures { IfOk result (λ report. report_view report ≡ refused (rules.broken_at offset unbuilt_form ∷ [])) }
+// The report of a file whose form breaks no rule.
+fn check_package(alloc: Global, root: Node) -> Result<Report, NoMemory>
+    ensures { IfOk result (λ report. PackageReport (text_of (resolution.first_part (tree_of root))) (resolution.constants_of (tree_of root)) (report_view report)) }
 {
-    let list = vec![in alloc; broken_at(offset, UNBUILT_FORM)]?;
+    let name = package_name(alloc, &root)?;
+    let constants = constants_of(alloc, root)?;
+    check_constants(alloc, name, &constants)
+}
+
+// The name in the package clause of a file.
+fn package_name(alloc: Global, root: &Node) -> Result<Bytes, NoMemory>
+    ensures { IfOk result (λ name. name ≡ text_of (resolution.first_part (tree_of root.now))) }
+{
+    Ok(Bytes::new(first_part(root).text().to_vec(alloc)?))
+}
+
+// The report of a file that breaks one rule.
+fn refused_at(alloc: Global, broken: Broken) -> Result<Report, NoMemory>
+    ensures { IfOk result (λ report. report_view report ≡ refused (broken ∷ [])) }
+{
+    let list = vec![in alloc; broken]?;
     Ok(Report::Refused { list })
 }

@@ -1,16 +1,21 @@
 // The check of the constants of a package.
 ghost use Rattle.std.specs.Prelude.{◌≡◌, ◌≢◌, true, false, [], IfOk, map};
 ghost use Rattle.go_tree.specs.Tree.{tree_of};
+ghost use Rattle.gocheck.specs.FormRules.Order.{IsListOf};
+ghost use Rattle.gocheck.specs.Names.{distinct};
 ghost use Rattle.gocheck.specs.Report.{PackageReport, ValuesReport};
 ghost use Rattle.gocheck.specs.Resolution.{names_of};
-ghost use Rattle.gocheck.specs.Source.{IsEachOnce};
+ghost use Rattle.gocheck.specs.Rules as rules;
 ghost use Rattle.gocheck.specs.View.{report_view};
 
+use crate::broken::breaks_none;
+use crate::form::order::ordered;
 use crate::headers::headers;
 use crate::names::Names;
+use crate::repeated::repeated;
 use crate::report::Report;
 use crate::report_lines::lines;
-use crate::undeclared::undeclared;
+use crate::undeclared::push_undeclared;
 use crate::values::broken_values;
 use crate::waits::cyclic_constants;
 use go_base::{Broken, Bytes, NoMemory};
@@ -20,18 +25,26 @@ use std::alloc::Global;
 /// The report of a package of that name with these constants: the rules that their names break, else
 /// those that their values break, else the lines of an accepted file.
 pub fn check_constants(alloc: Global, name: Bytes, constants: &[Node]) -> Result<Report, NoMemory>
-    requires { IsEachOnce (names_of (map tree_of constants.now)) }
     ensures { IfOk result (λ report. PackageReport name (map tree_of constants.now) (report_view report)) }
 {
-    let Some(names) = Names::new(alloc, constants)? else {
-        unreachable!()
-    };
-    let list = undeclared(alloc, &names, constants)?;
+    let names = Names::of(alloc, constants)?;
+    let list = broken_names(alloc, &names, constants)?;
     if breaks_none(&list) {
         check_values(alloc, name, &names, constants)
     } else {
         Ok(Report::RefusedPackage { name, list })
     }
+}
+
+// The rules that constants break by their names: P4 and P7, by offset.
+fn broken_names(alloc: Global, names: &Names, constants: &[Node]) -> Result<Vec<Broken>, NoMemory>
+    requires { names.now ≡ distinct (names_of (map tree_of constants.now)) }
+    ensures { IfOk result (λ list.
+        IsListOf (rules.broken_names (map tree_of constants.now)) list.items) }
+{
+    let mut found = repeated(alloc, constants)?;
+    push_undeclared(names, constants, &mut found)?;
+    Ok(ordered(found))
 }
 
 // The report by the values of the constants.
@@ -52,15 +65,5 @@ fn check_values(
         Ok(Report::Accepted { name, lines })
     } else {
         Ok(Report::RefusedPackage { name, list })
-    }
-}
-
-fn breaks_none(list: &[Broken]) -> bool
-    ensures none { result ≡ true → list.now ≡ [] }
-    ensures some { result ≡ false → list.now ≢ [] }
-{
-    match list {
-        [] => true,
-        [_, ..] => false,
     }
 }

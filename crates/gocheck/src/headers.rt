@@ -6,7 +6,7 @@ ghost use Rattle.gocheck.specs.Headers.{Known};
 ghost use Rattle.gocheck.specs.Table.{slot_of, IsBacked, IsSettled, open_count};
 
 use crate::names::Names;
-use crate::parts::second_part;
+use crate::parts::value_of;
 use crate::record::record;
 use go_base::NoMemory;
 use go_tree::Node;
@@ -60,7 +60,7 @@ fn add_one(names: &Names, constants: &[Node], table: &mut [Option<i128>], place:
     if table[place].is_some() {
         return false;
     }
-    match record(names, table, second_part(&constants[place])) {
+    match record(names, table, value_of(&constants[place])) {
         Some(header) => {
             table[place] = Some(header);
             true

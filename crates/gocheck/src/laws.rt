@@ -1,12 +1,9 @@
-// Laws of the maps of headers, which hold of every map, of the report of a file, and of its tokens.
-ghost use Rattle.std.specs.Prelude.{◌≡◌, ℕ, List, Option};
+// Laws of the maps of headers, which hold of every map, and of the report of a file.
+ghost use Rattle.std.specs.Prelude.{◌≡◌, ℕ, List};
 ghost use Rattle.go_tree.specs.Tree.{Tree};
 ghost use Rattle.gocheck.specs.Records.{Headers};
 ghost use Rattle.gocheck.specs.Laws.{IsPart, DecidedStays, RecordsStay, OneHeader};
 ghost use Rattle.gocheck.specs.Report.{Report, ReportOf};
-ghost use Rattle.gocheck.specs.Tokens.{IsNext};
-ghost use Rattle.gocheck.specs.declared.token.Token.{Token};
-ghost use Rattle.gocheck.specs.declared.token.TokenKind.{TokenKind};
 
 /// A test that is decided over some headers is decided alike over more, and one that lacks a header
 /// lacks it as long as it is missing.
@@ -29,10 +26,4 @@ pub fn one_header()
 /// A file has at most one report.
 pub fn one_report()
     ensures { (bytes : List ℕ) (a b : Report) → ReportOf bytes a → ReportOf bytes b → a ≡ b }
-{}
-
-/// A text has at most one next token.
-pub fn one_next()
-    ensures { (bytes : List ℕ) (at : ℕ) (last : Option TokenKind) (t u : Token) →
-        IsNext bytes at last t → IsNext bytes at last u → t ≡ u }
 {}

@@ -2,38 +2,29 @@
 #![tactic(auto)]
 
 mod broken;
-mod characters;
 mod check;
 mod constants;
 mod cycles;
+mod fault;
 mod fields;
 mod folder;
 mod folder_list;
+mod form;
 mod headers;
 mod laws;
-mod levels;
 mod line;
-mod literal;
-mod longest;
-mod name;
 mod names;
-mod next_token;
-mod nodes;
 mod parts;
 mod paths;
 mod record;
+mod repeated;
 mod report;
 mod report_lines;
 #[cfg(test)]
 mod rows;
 mod run;
-mod source;
-mod state;
 mod std_sink;
-mod step;
-mod taken;
 mod text;
-mod token;
 mod undeclared;
 mod values;
 mod waits;

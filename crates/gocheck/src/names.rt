@@ -1,17 +1,17 @@
-// The names that a file declares.
-ghost use Rattle.std.specs.Prelude.{◌≡◌, IfOk, IfSome, IfNone, map};
+// Names, each once.
+ghost use Rattle.std.specs.Prelude.{◌≡◌, [], not, IfOk, OnOk, map};
 ghost use Rattle.go_tree.specs.Tree.{tree_of};
+ghost use Rattle.gocheck.specs.Names.{has_name, with_name, distinct};
 ghost use Rattle.gocheck.specs.Resolution.{names_of, resolve};
-ghost use Rattle.gocheck.specs.Source.{IsEachOnce};
 
-use crate::parts::first_part;
+use crate::parts::name_of;
 use go_base::NoMemory;
 use go_tree::Node;
 use indexmap::IndexSet;
 use std::alloc::Global;
 use std::marker::Model;
 
-/// The names of a file's constants in source order, each declared once.
+/// Names in the order in which they were added, each at its first place.
 #[derive(Drop)]
 pub struct Names<'a> {
     texts: IndexSet<&'a [u8]>,
@@ -26,26 +26,42 @@ impl<'a> Model for Names<'a> {
 }
 
 impl<'a> Names<'a> {
-    /// The names of the constants; None exactly where one is declared twice (Go specification,
-    /// "Declarations and scope").
-    pub fn new(alloc: Global, constants: &'a [Node]) -> Result<Option<Names<'a>>, NoMemory>
-        ensures names { IfOk result (λ r. IfSome r (λ names.
-            names ≡ names_of (map tree_of constants.now))) }
-        ensures once { IfOk result (λ r. IfSome r (λ _.
-            IsEachOnce (names_of (map tree_of constants.now)))) }
-        ensures twice { IfOk result (λ r. IfNone r (
-            IsEachOnce (names_of (map tree_of constants.now)) → ⊥)) }
+    /// No names.
+    pub fn new(alloc: Global) -> Names<'a>
+        ensures { result ≡ [] }
     {
-        let mut texts = IndexSet::new(alloc);
-        for constant in constants {
-            if !texts.insert(first_part(constant).text())? {
-                return Ok(None);
-            }
+        Names {
+            texts: IndexSet::new(alloc),
         }
-        Ok(Some(Names { texts }))
     }
 
-    /// The place of the constant that a name denotes; None exactly where no constant has it.
+    /// The names of constants (Go specification, "Constant declarations").
+    pub fn of(alloc: Global, constants: &'a [Node]) -> Result<Names<'a>, NoMemory>
+        ensures { IfOk result (λ names. names ≡ distinct (names_of (map tree_of constants.now))) }
+    {
+        let mut names = Names::new(alloc);
+        for constant in constants {
+            names.add(name_of(constant).text())?;
+        }
+        Ok(names)
+    }
+
+    /// Adds a name, and says whether it is new.
+    pub fn add(&mut self, name: &'a [u8]) -> Result<bool, NoMemory>
+        ensures new { IfOk result (λ new. new ≡ not (has_name self.old name.now)) }
+        ensures names { OnOk result (self.new ≡ with_name self.old name.now) }
+    {
+        Ok(self.texts.insert(name)?)
+    }
+
+    /// Whether the name is there.
+    pub fn has(&self, name: &[u8]) -> bool
+        ensures { result ≡ has_name self.now name.now }
+    {
+        self.texts.contains(name)
+    }
+
+    /// The place of the name; None exactly where it is not there.
     pub fn index_of(&self, name: &[u8]) -> Option<usize>
         ensures { result ≡ resolve self.now name.now }
     {

@@ -5,9 +5,9 @@ ghost use Rattle.go_tree.specs.declared.node_kind.NodeKind.TheVariants as node_k
 ghost use Rattle.gocheck.specs.Records.{record_of, sum_of};
 ghost use Rattle.gocheck.specs.Table.{slot_of};
 
-use crate::literal::literal_value;
 use crate::names::Names;
 use go_num::{IntOp, int_binary};
+use go_scan::int_lit_value;
 use go_tree::{Node, NodeKind};
 
 /// The record of an expression, its value, over the headers that the table has; None where it has
@@ -16,7 +16,7 @@ pub fn record(names: &Names, table: &[Option<i128>], node: &Node) -> Option<i128
     ensures { result ≡ record_of names.now (slot_of table.now) (tree_of node.now) }
 {
     match node.kind() {
-        NodeKind::IntLit => literal_value(node.text()),
+        NodeKind::IntLit => int_lit_value(node.text()),
         NodeKind::Name => slot(table, names.index_of(node.text())?),
         NodeKind::ParenExpr => record(names, table, node.only_part()?),
         NodeKind::AddExpr => {

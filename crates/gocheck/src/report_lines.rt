@@ -13,7 +13,7 @@ ghost use Rattle.gocheck.specs.Report as report;
 
 use crate::line::Line;
 use crate::names::Names;
-use crate::parts::{first_part, second_part};
+use crate::parts::{name_of, value_of};
 use crate::record::{operands, parenthesized, record, slot, sum};
 use go_base::NoMemory;
 use go_tree::{Node, NodeKind};
@@ -49,7 +49,7 @@ fn push_defs(
         ≡ lines.old.items ++ defs_from (slot_of table.now) 0 (map tree_of constants.now)) }
 {
     for (place, constant) in constants.iter().enumerate() {
-        push_def(first_part(constant), slot(table, place), lines)?;
+        push_def(name_of(constant), slot(table, place), lines)?;
     }
     Ok(())
 }
@@ -70,10 +70,10 @@ fn push_def(name: &Node, value: Option<i128>, lines: &mut Vec<Line>) -> Result<(
 fn push_all_uses(names: &Names, constants: &[Node], lines: &mut Vec<Line>) -> Result<(), NoMemory>
     requires { names.now ≡ names_of (map tree_of constants.now) }
     ensures { OnOk result (lines.new.items ≡ lines.old.items ++ flat_map (λ spec.
-        uses_in (map tree_of constants.now) (resolution.second_part spec)) (map tree_of constants.now)) }
+        uses_in (map tree_of constants.now) (resolution.value_of spec)) (map tree_of constants.now)) }
 {
     for constant in constants {
-        push_uses(names, constants, second_part(constant), lines)?;
+        push_uses(names, constants, value_of(constant), lines)?;
     }
     Ok(())
 }
@@ -121,7 +121,7 @@ fn declared_at(names: &Names, constants: &[Node], name: &[u8]) -> Option<usize>
     ensures { result ≡ report.declared_at (map tree_of constants.now) name.now }
 {
     let constant = constants.get(names.index_of(name)?)?;
-    Some(first_part(constant).start())
+    Some(name_of(constant).start())
 }
 
 // The line of each expression on a right side. They are read from the last to the first, so that
@@ -133,11 +133,11 @@ fn exprs(
     constants: &[Node],
 ) -> Result<Vec<Line>, NoMemory>
     ensures { IfOk result (λ lines. lines.items ≡ flat_map (λ spec.
-        exprs_in names.now (slot_of table.now) (resolution.second_part spec)) (map tree_of constants.now)) }
+        exprs_in names.now (slot_of table.now) (resolution.value_of spec)) (map tree_of constants.now)) }
 {
     let mut lines = Vec::new(alloc);
     for place in (0..constants.len()).rev() {
-        push_exprs_reversed(names, table, second_part(&constants[place]), &mut lines)?;
+        push_exprs_reversed(names, table, value_of(&constants[place]), &mut lines)?;
     }
     lines.reverse();
     Ok(lines)

@@ -6,14 +6,18 @@ mod accepted;
 mod broken;
 mod chain;
 mod cut;
+mod declarations;
 mod deep;
 mod faults;
 mod folders;
+mod order;
 mod orders;
+mod parameters;
 mod size;
+mod statements;
 mod streams;
-mod tokens;
-mod trees;
+mod switches;
+mod unbuilt;
 mod usage;
 mod wrong;
 
@@ -22,9 +26,7 @@ use go_base::{Bytes, MemFile, Name, Sink, Status, Steps, SureSink, SureTree, Tre
 use std::alloc::{AllocError, Global};
 use std::marker::Brand;
 use std::sync::ledger::{Blank, Ledger};
-
-/// The report of a file that goes wrong at its first byte.
-pub const WRONG: &str = "refused\nbroken\ta.go:1:1\tU0\n";
+use std::test::Fail;
 
 pub fn words(alloc: Global, texts: &[&str]) -> Result<Vec<Word>, AllocError> {
     let mut words = Vec::new(alloc);
@@ -72,4 +74,21 @@ pub fn checked(alloc: Global, source: &[u8]) -> Result<(Status, SureSink), Alloc
     let mut out = SureSink::new(alloc);
     let status = run(alloc, &words(alloc, &["r"])?, &mut tree, &mut out);
     Ok((status, out))
+}
+
+/// The lines of a report for these broken rules, each behind its place.
+pub fn broken_lines(alloc: Global, list: &str) -> Result<String, Fail> {
+    let mut text = String::new(alloc);
+    let mut fields = list.split(' ');
+    while let Some(place) = fields.next() {
+        let rule = fields.next().ok_or("no rule")?;
+        text.push_str(format!(in alloc; "broken\ta.go:{place}\t{rule}\n")?.as_str())?;
+    }
+    Ok(text)
+}
+
+/// The report of a file whose form breaks these rules.
+pub fn refused(alloc: Global, list: &str) -> Result<String, Fail> {
+    let lines = broken_lines(alloc, list)?;
+    Ok(format!(in alloc; "refused\n{lines}")?)
 }

@@ -8,7 +8,7 @@ ghost use Rattle.gocheck.specs.Marks as marking;
 
 use crate::broken::broken_at;
 use crate::names::Names;
-use crate::parts::{first_part, second_part};
+use crate::parts::{name_of, value_of};
 use crate::wide::push_wide;
 use go_base::{Broken, CYCLIC_DECLARATION, NoMemory};
 use go_tree::Node;
@@ -29,7 +29,7 @@ pub fn broken_values(
     let mut list = Vec::new(alloc);
     for (place, constant) in constants.iter().enumerate() {
         push_cyclic(is_marked(cyclic, place), constant, &mut list)?;
-        push_wide(names, table, second_part(constant), &mut list)?;
+        push_wide(names, table, value_of(constant), &mut list)?;
     }
     Ok(list)
 }
@@ -40,7 +40,7 @@ fn push_cyclic(cyclic: bool, constant: &Node, list: &mut Vec<Broken>) -> Result<
         ≡ list.old.items ++ cyclic_at cyclic (tree_of constant.now)) }
 {
     if cyclic {
-        list.push(broken_at(first_part(constant).start(), CYCLIC_DECLARATION))?;
+        list.push(broken_at(name_of(constant).start(), CYCLIC_DECLARATION))?;
     }
     Ok(())
 }

@@ -9,7 +9,7 @@ ghost use Rattle.gocheck.specs.Marks.{is_marked, lacking, rows_of};
 
 use crate::cycles::cyclic;
 use crate::names::Names;
-use crate::parts::second_part;
+use crate::parts::value_of;
 use crate::record::slot;
 use go_base::NoMemory;
 use go_tree::{Node, NodeKind};
@@ -44,7 +44,7 @@ pub fn waits_of(
     let mut waits = Vec::new(alloc);
     for constant in constants {
         let mut row = Vec::new(alloc);
-        push_lacked(names, table, second_part(constant), &mut row)?;
+        push_lacked(names, table, value_of(constant), &mut row)?;
         waits.push(row)?;
     }
     Ok(waits)

@@ -3,17 +3,17 @@ ghost use Rattle.std.specs.Prelude.{◌≡◌, ◌++◌, IfOk, OnOk, Some, is_so
 ghost use Rattle.go_tree.specs.Tree.{Tree, tree_of, trees_of, start_of, text_of, kind_of, parts_of, more_trees, no_trees};
 ghost use Rattle.go_num.specs.Arithmetic.{limited};
 ghost use Rattle.go_tree.specs.declared.node_kind.NodeKind.TheVariants as node_kind;
-ghost use Rattle.gocheck.specs.Literals.{decimal_value};
+ghost use Rattle.go_tree.specs.LiteralValues.{int_lit_value};
 ghost use Rattle.gocheck.specs.Records.{record_of, sum_of};
 ghost use Rattle.gocheck.specs.Rules.{wide_in, wide_among, wide_at};
 ghost use Rattle.gocheck.specs.Table.{slot_of};
 ghost use Rattle.gocheck.specs.Tests.{Decided, test_of, sum_test};
 
 use crate::broken::broken_at;
-use crate::literal::literal_value;
 use crate::names::Names;
 use crate::record::{operands, parenthesized, record, sum};
 use go_base::{Broken, NoMemory, WIDE_INTEGER};
+use go_scan::int_lit_value;
 use go_tree::{Node, NodeKind};
 
 /// Pushes the rule L2 at each literal and each sum of an expression whose value is outside -2^127
@@ -102,11 +102,11 @@ fn push_leaf(
 // Pushes the rule at a literal that is too wide, and returns its value.
 fn push_literal(node: &Node, list: &mut Vec<Broken>) -> Result<Option<i128>, NoMemory>
     ensures value { IfOk result (λ value.
-        value ≡ limited (pos (decimal_value (text_of (tree_of node.now))))) }
+        value ≡ limited (pos (int_lit_value (text_of (tree_of node.now))))) }
     ensures list { OnOk result (list.new.items ≡ list.old.items ++ wide_at (start_of (tree_of node.now))
-        (Some (Decided (is_some (limited (pos (decimal_value (text_of (tree_of node.now))))))))) }
+        (Some (Decided (is_some (limited (pos (int_lit_value (text_of (tree_of node.now))))))))) }
 {
-    let value = literal_value(node.text());
+    let value = int_lit_value(node.text());
     if value.is_none() {
         list.push(broken_at(node.start(), WIDE_INTEGER))?;
     }

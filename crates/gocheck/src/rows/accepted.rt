@@ -3,7 +3,7 @@ use super::checked;
 use go_base::Status;
 use std::test::Fail;
 
-const ROWS: [(&str, &str, &str); 9] = [
+const ROWS: [(&str, &str, &str); 12] = [
     (
         "a constant is used before it is declared",
         "package p\n\nconst X = Y + 2\nconst Y = 1\n",
@@ -95,6 +95,43 @@ const ROWS: [(&str, &str, &str); 9] = [
          expr\ta.go:2:11\t2:54\tconst\tuntyped int\t170141183460469231731687303715884105727\n\
          expr\ta.go:2:11\t2:50\tconst\tuntyped int\t170141183460469231731687303715884105726\n\
          expr\ta.go:2:53\t2:54\tconst\tuntyped int\t1\n",
+    ),
+    (
+        "literals in other bases, and with a prefix or underscores",
+        "package p\n\nconst X = 0x1F + 0b1\nconst Y = 017 + 0o7 + 1_000\n",
+        "module\tm\t1.21\n\
+         package\tm\tp\taccepted\n\
+         def\ta.go:3:7\tX\tconst\tuntyped int\t32\n\
+         def\ta.go:4:7\tY\tconst\tuntyped int\t1022\n\
+         expr\ta.go:3:11\t3:21\tconst\tuntyped int\t32\n\
+         expr\ta.go:3:11\t3:15\tconst\tuntyped int\t31\n\
+         expr\ta.go:3:18\t3:21\tconst\tuntyped int\t1\n\
+         expr\ta.go:4:11\t4:28\tconst\tuntyped int\t1022\n\
+         expr\ta.go:4:11\t4:20\tconst\tuntyped int\t22\n\
+         expr\ta.go:4:11\t4:14\tconst\tuntyped int\t15\n\
+         expr\ta.go:4:17\t4:20\tconst\tuntyped int\t7\n\
+         expr\ta.go:4:23\t4:28\tconst\tuntyped int\t1000\n",
+    ),
+    (
+        "a byte order mark, comments and written semicolons",
+        "\u{feff}package p // a\n/* b */ const X = 1; const Y = X\n",
+        "module\tm\t1.21\n\
+         package\tm\tp\taccepted\n\
+         def\ta.go:2:15\tX\tconst\tuntyped int\t1\n\
+         def\ta.go:2:28\tY\tconst\tuntyped int\t1\n\
+         use\ta.go:2:32\tX\ta.go:2:15\n\
+         expr\ta.go:2:19\t2:20\tconst\tuntyped int\t1\n\
+         expr\ta.go:2:32\t2:33\tconst\tuntyped int\t1\n",
+    ),
+    (
+        "groups without specs between constants, and a letter past ASCII",
+        "package p\nconst é = 1\nvar ()\ntype ()\nconst Y = 2\n",
+        "module\tm\t1.21\n\
+         package\tm\tp\taccepted\n\
+         def\ta.go:2:7\té\tconst\tuntyped int\t1\n\
+         def\ta.go:5:7\tY\tconst\tuntyped int\t2\n\
+         expr\ta.go:2:12\t2:13\tconst\tuntyped int\t1\n\
+         expr\ta.go:5:11\t5:12\tconst\tuntyped int\t2\n",
     ),
 ];
 

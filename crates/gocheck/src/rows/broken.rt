@@ -1,9 +1,9 @@
 // Files whose constants break rules, each with the list of them.
-use super::checked;
+use super::{broken_lines, checked};
 use go_base::Status;
 use std::test::Fail;
 
-const ROWS: [(&str, &str, Status, &str); 14] = [
+const ROWS: [(&str, &str, Status, &str); 19] = [
     (
         "two constants that wait for each other",
         "const X = Y + 1\nconst Y = X\n",
@@ -39,6 +39,36 @@ const ROWS: [(&str, &str, Status, &str); 14] = [
         "const X = Z + Z\nconst Y = (W)\n",
         Status::Refused,
         "3:11 P7 3:15 P7 4:12 P7",
+    ),
+    (
+        "a name that is declared twice",
+        "const X = 1\nconst X = 1\n",
+        Status::Refused,
+        "3:7 P4 4:7 P4",
+    ),
+    (
+        "a name that is declared three times, and others once",
+        "const X = 1\nconst Y = X\nconst X = 2\nconst Z = Y\nconst X = 3\n",
+        Status::Refused,
+        "3:7 P4 5:7 P4 7:7 P4",
+    ),
+    (
+        "two names that are declared twice",
+        "const X = 1\nconst Y = 1\nconst Y = 2\nconst X = 2\n",
+        Status::Refused,
+        "3:7 P4 4:7 P4 5:7 P4 6:7 P4",
+    ),
+    (
+        "names that are declared twice or not at all, by their places",
+        "const X = Z\nconst Y = 1\nconst X = Y + W\n",
+        Status::Refused,
+        "3:7 P4 3:11 P7 5:7 P4 5:15 P7",
+    ),
+    (
+        "a name that is declared twice comes before values",
+        "const X = X\nconst X = X\n",
+        Status::Refused,
+        "3:7 P4 4:7 P4",
     ),
     (
         "names come before values",
@@ -97,12 +127,8 @@ fn constants_break_all_rules_of_the_first_phase_that_breaks_any(
     let alloc = rt.alloc();
     for (name, constants, status, list) in ROWS {
         let source = format!(in alloc; "package p\n\n{constants}")?;
-        let mut text = String::from_str(alloc, "module\tm\t1.21\npackage\tm\tp\trefused\n")?;
-        let mut fields = list.split(' ');
-        while let Some(place) = fields.next() {
-            let rule = fields.next().ok_or("no rule")?;
-            text.push_str(format!(in alloc; "broken\ta.go:{place}\t{rule}\n")?.as_str())?;
-        }
+        let lines = broken_lines(alloc, list)?;
+        let text = format!(in alloc; "module\tm\t1.21\npackage\tm\tp\trefused\n{lines}")?;
         let (ended, out) = checked(alloc, source.as_bytes())?;
         assert_eq!(rt; ended, status, "{name}");
         assert_eq!(rt; out.taken(), text.as_bytes(), "{name}");

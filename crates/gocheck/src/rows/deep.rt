@@ -27,11 +27,7 @@ fn long_sums_and_deep_parentheses(rt: HostRuntime) -> Result<(), Fail> {
             Status::Accepted,
             "module\tm\t1.21\npackage\tm\tp\taccepted\ndef\ta.go:2:7\tX\tconst\tuntyped int\t1\n",
         ),
-        (
-            &open,
-            Status::Beyond,
-            "refused\nbroken\ta.go:2:999991\tU0\n",
-        ),
+        (&open, Status::Beyond, "refused\nbroken\ta.go:2:1008\tL6\n"),
     ];
     for (source, status, front) in rows {
         let (ended, out) = checked(alloc, source)?;

@@ -1,5 +1,5 @@
 // Trees and sinks whose calls fail.
-use super::{WRONG, run, source_file, words};
+use super::{run, source_file, words};
 use go_base::{FailPut, MemSink, MemTree, Status};
 use std::test::Fail;
 
@@ -17,7 +17,14 @@ fn faults_are_told_and_leave_a_prefix(rt: HostRuntime) -> Result<(), Fail> {
             Status::Accepted,
             "module\tm\t1.21\npackage\tm\tp\taccepted\n",
         ),
-        ("no such file", "q", 9, 9, Status::Beyond, WRONG),
+        (
+            "no such file",
+            "q",
+            9,
+            9,
+            Status::Refused,
+            "refused\nbroken\ta.go:1:1\tS3\n",
+        ),
     ];
     for (name, root, read, put, status, text) in rows {
         let mut tree = MemTree::new(source_file(alloc, b"package p\n")?, vec![in alloc; read]?);

@@ -1,5 +1,5 @@
 // Files at the greatest size, and one byte past it.
-use super::{WRONG, checked};
+use super::checked;
 use go_base::Status;
 use std::test::Fail;
 
@@ -12,7 +12,11 @@ fn a_file_past_the_greatest_size_is_not_read(rt: HostRuntime) -> Result<(), Fail
             Status::Accepted,
             "module\tm\t1.21\npackage\tm\tp\taccepted\n",
         ),
-        (16_777_217, Status::Beyond, WRONG),
+        (
+            16_777_217,
+            Status::Beyond,
+            "refused\nbroken\ta.go:1:1\tU0\n",
+        ),
     ];
     for (size, status, text) in rows {
         let mut source = b"package p".to_vec(alloc)?;

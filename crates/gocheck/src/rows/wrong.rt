@@ -1,94 +1,108 @@
-// Files that go wrong at a token, each with the place of it.
+// Files that have no tree, each with the place and the rule.
 use super::checked;
 use go_base::Status;
 use std::test::Fail;
 
-const ROWS: [(&str, &str, &str); 27] = [
-    ("no bytes", "", "1:1"),
-    ("no package clause", "const X = 1\n", "1:1"),
-    ("another operator", "package p\nconst X = 1 - 2\n", "2:13"),
+const ROWS: [(&str, &[u8], &str, &str); 19] = [
+    ("no bytes", b"", "1:1", "S3"),
+    ("no package clause", b"const X = 1\n", "1:1", "S3"),
     (
         "a sum without its second operand",
-        "package p\nconst X = 1 +\n",
+        b"package p\nconst X = 1 +\n",
         "3:1",
+        "S3",
     ),
     (
         "two operands in a row",
-        "package p\nconst X = 1 2\n",
-        "2:13",
+        b"package p\n\nconst X = 1 2\n",
+        "3:13",
+        "S3",
     ),
-    ("a leading zero", "package p\nconst X = 08\n", "2:12"),
+    (
+        "a leading zero before a digit that is not octal",
+        b"package p\n\nconst X = 08\n",
+        "3:11",
+        "S2",
+    ),
     (
         "a parenthesis that is not closed",
-        "package p\nconst X = (1\n",
+        b"package p\nconst X = (1\n",
         "2:13",
+        "S3",
     ),
     (
         "a parenthesis that is not opened",
-        "package p\nconst X = 1)\n",
+        b"package p\nconst X = 1)\n",
         "2:12",
+        "S3",
     ),
     (
         "nothing in parentheses",
-        "package p\nconst X = ()\n",
+        b"package p\nconst X = ()\n",
         "2:12",
+        "S3",
     ),
     (
-        "parentheses in a row",
-        "package p\nconst X = (1) (2)\n",
-        "2:15",
-    ),
-    (
-        "a name that is declared twice",
-        "package p\nconst X = 1\nconst X = 1\n",
-        "3:7",
-    ),
-    (
-        "and declared twice before a later fault",
-        "package p\nconst X = 1\nconst X = -\n",
-        "3:7",
-    ),
-    ("a keyword as a name", "package p\nconst func = 1\n", "2:7"),
-    (
-        "a predeclared identifier as a name",
-        "package p\nconst len = 1\n",
+        "a keyword as a name",
+        b"package p\nconst func = 1\n",
         "2:7",
+        "S3",
     ),
-    (
-        "a predeclared identifier as an operand",
-        "package p\nconst X = iota\n",
-        "2:11",
-    ),
-    ("the blank identifier", "package p\nconst _ = 1\n", "2:7"),
-    ("init", "package p\nconst init = 1\n", "2:7"),
-    ("package main", "package main\n", "1:9"),
-    ("a package without its name", "package\n", "2:1"),
-    ("a comment", "package p // p\n", "1:11"),
-    ("a written semicolon", "package p;\n", "1:10"),
-    ("a byte order mark", "\u{feff}package p\n", "1:1"),
-    ("a NUL", "package p\n\0", "2:1"),
-    ("a form feed", "package p\n\x0c", "2:1"),
+    ("a package without its name", b"package\n", "2:1", "S3"),
     (
         "two constants on one line",
-        "package p\nconst X = 1 const Y = 2\n",
+        b"package p\nconst X = 1 const Y = 2\n",
         "2:13",
+        "S3",
     ),
-    ("a letter past ASCII", "package p\nconst é = 1\n", "2:7"),
-    ("a variable", "package p\nvar X = 1\n", "2:1"),
+    (
+        "a comment that is not closed",
+        b"package p\n\nconst X = 1 /* a",
+        "3:13",
+        "S2",
+    ),
+    ("a form feed", b"package p\n\x0c", "2:1", "S2"),
+    (
+        "a character that begins no token",
+        b"package p\nconst X = 1 # 2\n",
+        "2:13",
+        "S2",
+    ),
+    ("a NUL", b"package p\n\0", "2:1", "S1"),
+    (
+        "a byte that is not UTF-8",
+        b"package p\nconst \xff = 1\n",
+        "2:7",
+        "S1",
+    ),
+    (
+        "a byte order mark that is not first",
+        b"package p\n\xEF\xBB\xBF",
+        "2:1",
+        "S1",
+    ),
+    (
+        "the first fault of a file that has several",
+        b"package p\nconst X = )\nconst Y = 08\n\0",
+        "2:11",
+        "S3",
+    ),
+    (
+        "a fault before a name that is declared twice",
+        b"package p\nconst X = 1\nconst X = 1\nconst Y = -\n",
+        "5:1",
+        "S3",
+    ),
 ];
 
 #[test]
-fn a_file_goes_wrong_at_its_first_wrong_token(rt: HostRuntime) -> Result<(), Fail> {
+fn a_file_without_a_tree_has_its_first_fault(rt: HostRuntime) -> Result<(), Fail> {
     let alloc = rt.alloc();
-    for (name, source, place) in ROWS {
-        let (status, out) = checked(alloc, source.as_bytes())?;
-        let text = format!(in alloc; "refused\nbroken\ta.go:{place}\tU0\n")?;
-        assert_eq!(rt; status, Status::Beyond, "{name}");
+    for (name, source, place, rule) in ROWS {
+        let (status, out) = checked(alloc, source)?;
+        let text = format!(in alloc; "refused\nbroken\ta.go:{place}\t{rule}\n")?;
+        assert_eq!(rt; status, Status::Refused, "{name}");
         assert_eq!(rt; out.taken(), text.as_bytes(), "{name}");
     }
-    // a byte that is no UTF-8
-    let (status, out) = checked(alloc, b"package p\nconst \xff = 1\n")?;
-    assert_eq!(rt; status, Status::Beyond);
-    assert_eq!(rt; out.taken(), b"refused\nbroken\ta.go:2:7\tU0\n".as_slice());
     Ok(())
 }

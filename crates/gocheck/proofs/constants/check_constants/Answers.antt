@@ -1,17 +1,24 @@
-use Rattle.std.proofs.Common.{◌≡◌, ◌≢◌, ◌∙◌, [], map, sym}
+use Rattle.std.proofs.Common.{◌≡◌, ◌≢◌, ◌∙◌, [], map}
 use Rattle.go_tree.specs.Tree.{tree_of}
 use Rattle.gocheck.specs.declared.report.Report.{Report as Own}
 use Rattle.gocheck.specs.Report.{PackageReport, ValuesReport, by_values}
-use Rattle.gocheck.specs.Rules.{undeclared}
+use Rattle.gocheck.specs.Rules.{broken_names}
 use Rattle.gocheck.specs.View.{report_view}
-use Rattle.gocheck.proofs.ReportLemmas.{if_ok-map, refused_names}
+use Rattle.gocheck.proofs.NameLemmas.{distinct-names}
+use Rattle.gocheck.proofs.ReportLemmas.{if_ok-map, refused_names, nothing_broken}
 use Rattle.gocheck.proofs.constants.check_constants.Goals as goal
+
+pub check_values-requires : goal.check_values-requires
+check_values-requires c =
+    let constants = map tree_of c.args.constants.now in
+    let none : c.in_ok-list.list.items ≡ [] = cc (c.breaks_none.ensures.none c.if-breaks_none.true, c.deref.ensures.value) in
+    c.in_ok-names.ensures ∙ distinct-names constants (nothing_broken (broken_names constants) c.in_ok-list.list.items none c.in_ok-list.ensures)
 
 pub returns-then-breaks_none : goal.returns-then-breaks_none
 returns-then-breaks_none c =
     let constants = map tree_of c.args.constants.now in
     let none : c.in_ok-list.list.items ≡ [] = cc (c.breaks_none.ensures.none c.if-breaks_none.true, c.deref.ensures.value) in
-    let all : undeclared constants ≡ [] = sym c.in_ok-list.ensures ∙ none in
+    let all = nothing_broken (broken_names constants) c.in_ok-list.list.items none c.in_ok-list.ensures in
     if_ok-map c.check_values.result (λ (r : Own). ValuesReport c.args.name constants (report_view r)) (λ (r : Own). PackageReport c.args.name constants (report_view r))
     (λ r v. by_values (report_view r) all v)
     c.check_values.ensures

@@ -7,4 +7,4 @@ pub returns : goal.returns
 returns c =
     let read = c.in_ok-constant.ensures.lookup in
     declared_at-here c.args.constants.now c.args.names.now c.args.name.now c.in_ok-index_of.field-0 c.start.result c.in_ok-constant.constant.now
-    c.requires c.in_ok-index_of.ensures read.3.0 read.1 (c.start.ensures ∙ ap start_of c.first_part.ensures)
+    c.requires c.in_ok-index_of.ensures read.3.0 read.1 (c.start.ensures ∙ ap start_of c.name_of.ensures)

@@ -1,6 +1,6 @@
 use Rattle.std.proofs.Common.{ap, arith}
 use Rattle.go_tree.specs.Tree.{Tree}
-use Rattle.gocheck.specs.Resolution.{second_part}
+use Rattle.gocheck.specs.Resolution.{value_of}
 use Rattle.gocheck.specs.Table.{slot_of}
 use Rattle.gocheck.specs.Report.{exprs_in}
 use Rattle.gocheck.proofs.LineLemmas.{walked_back}
@@ -8,6 +8,6 @@ use Rattle.gocheck.proofs.report_lines.exprs.Goals as goal
 
 pub loop-place-preserved : goal.loop-place-preserved
 loop-place-preserved c =
-    walked_back (λ (t : Tree). exprs_in c.args.names.now (slot_of c.args.table.now) (second_part t)) c.args.constants.now c.loop-place.place c.index-constants-place.result
+    walked_back (λ (t : Tree). exprs_in c.args.names.now (slot_of c.args.table.now) (value_of t)) c.args.constants.now c.loop-place.place c.index-constants-place.result
     c.loop-place.lines.items c.push_exprs_reversed.new.lines.items _ (omega arith) (omega arith) c.index-constants-place.is c.loop-place.invariant
-    (ap (exprs_in c.args.names.now (slot_of c.args.table.now)) c.second_part.ensures) c.in_ok-push_exprs_reversed.ensures.lines
+    (ap (exprs_in c.args.names.now (slot_of c.args.table.now)) c.value_of.ensures) c.in_ok-push_exprs_reversed.ensures.lines
