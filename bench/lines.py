@@ -4,12 +4,14 @@
 usage: bench/lines.py [--check]
 
 Reads the productions of crates/go_tree: their names in src/production.rt, their right sides in
-specs/Grammar (Words, File, Declarations, Types, Expressions, Statements, Sentence). Writes in
+specs/Grammar, and the tokens that each begins with (First). Sets of tokens that have a name in
+crates/go_parse_x/src/start_sets.rt are written by it. Writes in
 crates/go_parse_x: src/file_lines.rt, src/declaration_lines.rt, src/type_lines.rt, src/expression_lines.rt,
 src/statement_lines.rt, src/lines.rt, and the table `weight` in specs/Weights.antt. With --check it writes
 nothing, and ends with status 1 where a file is not as it would write it.
 
-Nothing here is trusted: that each line stands for its production, and that the weights fall, is proved.
+Nothing here is trusted: that each line stands for its production, that the sets beside its steps are
+right, and that the weights fall, is proved.
 """
 import re
 import sys
@@ -20,7 +22,7 @@ from pathlib import Path
 CRATES = Path(__file__).resolve().parent.parent / 'crates'
 GRAMMAR = CRATES / 'go_tree' / 'specs' / 'Grammar'
 PARSER = CRATES / 'go_parse_x'
-READ = ['Words', 'File', 'Declarations', 'Types', 'Expressions', 'Statements', 'Sentence']
+READ = ['Words', 'File', 'Declarations', 'Types', 'Expressions', 'Statements', 'Sentence', 'TokenKinds', 'TokenLists', 'First']
 SECTIONS = ['file', 'declaration', 'type', 'expression', 'statement']
 STRENGTH = {'•': 30, '∷': 30, 'or': 20}
 WORD = re.compile(r'\s*(\[\]|[()•∷=]|[A-Za-z_][\w.]*)\s*')
@@ -160,6 +162,56 @@ def is_empty(side):
     return all(empty) if side[0] == 'Seq' else side[0] in ('Nothing', 'Many') or any(empty)
 
 
+def list_of(term):
+    """The names in a list."""
+    names = []
+    while term[0] == '∷':
+        names.append(term[1][0])
+        term = term[2]
+    return names
+
+
+KINDS = list_of(apply('all_kinds', []))
+
+
+@lru_cache(None)
+def starts_of(side):
+    """The kinds of the tokens that a right side begins with."""
+    if side[0] == 'Do':
+        return frozenset([side[1][1][0]] if side[1][0] == 'Pass' else [])
+    if side[0] == 'Call':
+        return frozenset(list_of(apply('firsts', [side[1]])))
+    parts = [starts_of(part) for part in parts_of(side)]
+    if side[0] == 'Seq' and not is_empty(side[1]):
+        return parts[0]
+    if side[0] == 'When':
+        ahead = side[1]
+        seen = frozenset(list_of(ahead[1]) if ahead[0] == 'OneOf' else [ahead[1][0]])
+        other = frozenset(KINDS) - seen if ahead[0] == 'OneOf' else frozenset(KINDS)
+        return parts[0] & seen | parts[1] & other
+    return frozenset().union(*parts)
+
+
+def read_start_sets():
+    """The sets of kinds that have a name."""
+    sets = {}
+    text = (PARSER / 'src' / 'start_sets.rt').read_text()
+    for name, right in re.findall(r'^pub const (\w+): u128 =(.*?);', text, re.M | re.S):
+        kinds = ' '.join(re.findall(r'kinds!\[(.*?)\]', right, re.S)).split()
+        others = re.sub(r'kinds!\[.*?\]', '', right, flags=re.S).replace('|', ' ').split()
+        sets[name] = frozenset(kinds).union(*(sets[other] for other in others))
+    return {kinds: name for name, kinds in sets.items()}
+
+
+START_SETS = read_start_sets()
+
+
+def set_word(kinds):
+    if kinds in START_SETS:
+        return START_SETS[kinds]
+    return f'[{" ".join(kind for kind in KINDS if kind in kinds)}]'
+
+
 @lru_cache(None)
 def weight(production):
     return 1 + weigh(right_side(production))
@@ -195,7 +247,8 @@ def steps_of(side):
     parts = [steps_of(part) for part in parts_of(side)]
     numbers = [str(len(parts[0]))] if len(parts) == 2 else []
     asked = [asked_of(side[1])] if side[0] == 'When' else []
-    return [' '.join([side[0], *asked, *numbers]), *sum(parts, [])]
+    kinds = [set_word(starts_of(side[1]))] if side[0] in ('Or', 'Many') else []
+    return [' '.join([side[0], *asked, *numbers, *kinds]), *sum(parts, [])]
 
 
 # Files.
@@ -204,10 +257,10 @@ def constant_of(production):
     return re.sub(r'(?<=[a-z])(?=[A-Z])| ', '_', plain(production)).upper()
 
 
-def rows_of(steps):
+def rows_of(steps, width=WIDTH):
     rows, row = [], '   '
     for step in steps:
-        if len(row) + len(step) + 2 > WIDTH:
+        if len(row) + len(step) + 2 > width:
             rows.append(row)
             row = '   '
         row += f' {step},'
@@ -220,6 +273,7 @@ def line_text(production):
 
 
 IMPORTS = [('crate::line::', ['Asked', 'Step']), ('crate::line_words::', ['line']),
+           ('crate::start_sets::', sorted(START_SETS.values(), key=lambda name: name.replace('_', ' '))),
            ('go_tree::', ['Clauses', 'Form', 'Items', 'NodeKind', 'Production', 'TokenKind'])]
 
 
@@ -228,14 +282,16 @@ def names_in(steps):
     words = {step.split()[0] for step in steps}
     names = {'Step', 'line', *(PRODUCTIONS[p] for p in PRODUCTIONS if f'Call {plain(p)}' in steps)}
     kinds = {'Pass': 'TokenKind', 'Close': 'NodeKind', 'Call': 'Production', 'When': 'Asked'}
-    return names | {kinds[word] for word in words & kinds.keys()}
+    sets = {step.split()[-1] for step in steps} & set(START_SETS.values())
+    return names | sets | {kinds[word] for word in words & kinds.keys()}
 
 
 def import_lines(names):
     for path, known in IMPORTS:
         used = [name for name in known if name in names]
         if used:
-            yield f'use {path}{{{", ".join(used)}}};' if len(used) > 1 else f'use {path}{used[0]};'
+            line = f'use {path}{{{", ".join(used)}}};' if len(used) > 1 else f'use {path}{used[0]};'
+            yield line if len(line) <= WIDTH else '\n'.join([f'use {path}{{', *rows_of(used, WIDTH - 1), '};'])
 
 
 def section_text(section):
@@ -258,8 +314,9 @@ def arms_text():
 
 LINES = """\
 // The line of each production. Written by bench/lines.py.
-ghost use Rattle.std.specs.Prelude.{◌≡◌};
+ghost use Rattle.std.specs.Prelude.{◌≡◌, true};
 ghost use Rattle.go_tree.specs.Grammar.Sentence.{production};
+ghost use Rattle.go_parse_x.specs.Leads.{all_led};
 ghost use Rattle.go_parse_x.specs.Lines.{side_at};
 
 use crate::line::Step;
@@ -268,7 +325,8 @@ use go_tree::{Clauses, Form, Items, Production};
 
 /// The steps of a production's right side.
 pub fn line_of(n: Production) -> &'static [Step]
-    ensures { side_at result.now 0 ≡ production n }
+    ensures side { side_at result.now 0 ≡ production n }
+    ensures led { all_led result.now ≡ true }
 {
     match n {
 ARMS

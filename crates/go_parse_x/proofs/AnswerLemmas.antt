@@ -121,13 +121,17 @@ module _ (bytes : List ℕ) (v : View) (is : IsPiece v.n) (front : List Token) (
   asked_whole None h a never w = inside_no_whole bytes v.n front v.rest v.last o.level v.nodes h o.levels never w
   asked_whole (Some k) h a never w = asked_no_whole bytes v.n is front s.at s.last a.0 o.behind a.1 a.2 w
 
-  -- the next token is stuck
-  pub stuck_answer : (after : ℕ) (p : Pending) (seen : Seen) → v.last ≡ seen.last → IsNext bytes s.at s.last seen.token → IsStuck bytes seen None v.rest v.nodes → IsSound v.rest → starts tables v.rest seen.token.kind ≡ true → IsAnswer bytes v.n v.free front s s low after p (Err (Syntax seen.token.start))
-  stuck_answer after p seen q next x sound begun =
+  -- the next token is stuck; where it could not even stand there, the front is known to be no whole piece
+  pub stuck_answer : (after : ℕ) (p : Pending) (seen : Seen) → v.last ≡ seen.last → IsNext bytes s.at s.last seen.token → IsStuck bytes seen None v.rest v.nodes → IsSound v.rest → (starts tables v.rest seen.token.kind ≡ false → IsA bytes v.n front → ⊥) → IsAnswer bytes v.n v.free front s s low after p (Err (Syntax seen.token.start))
+  stuck_answer after p seen q next x sound no_piece =
       let P : ℕ → Type 0 = λ l. HasRead bytes v.n front o.assumed v.rest l v.nodes in
       syntax_answer after p seen.token next
       (stuck_never bytes v.n is front o.assumed seen v.rest v.nodes (subst P q o.reads) (o.next seen.token next) x)
-      (asked_whole o.assumed o.reads o.asked (x.inside refl sound begun))
+      (go (starts tables v.rest seen.token.kind) refl)
+    where
+      go : (b : Bool) → starts tables v.rest seen.token.kind ≡ b → IsA bytes v.n front → ⊥
+      go true h = asked_whole o.assumed o.reads o.asked (x.inside refl sound h)
+      go false h = no_piece h
 
   pub end_never : (t : Token) → is_file v.n ≡ false → IsNext bytes s.at s.last t → (t.kind ≡ End) ⊎ (starts tables v.rest t.kind ≡ false) → Begins bytes v.n (front ++ t ∷ []) → ⊥
   end_never t not_file next (inl q) b = end_token_never bytes v.n not_file front t q b

@@ -1,8 +1,9 @@
 -- The end of the file is the last token of a file.
-use Rattle.std.proofs.Common.{◌≡◌, ℕ, true, List, [], ◌∷◌, ◌++◌, Some, refl, subst, sym, ap, ◌∙◌, append_assoc}
+use Rattle.std.proofs.Common.{◌≡◌, ℕ, Bool, true, false, cond, List, [], ◌∷◌, ◌++◌, Option, Some, refl, subst, sym, ap, ◌∙◌, append_assoc}
 use Rattle.std.proofs.lemmas.List.{append-nil}
 use Rattle.go_tree.specs.declared.node_kind.NodeKind.{NodeKind}
 use Rattle.go_tree.specs.declared.token.Token.{Token}
+use Rattle.go_tree.specs.declared.token.TokenKind.{TokenKind}
 use Rattle.go_tree.specs.declared.token.TokenKind.TheVariants.{End}
 use Rattle.go_tree.specs.declared.production.Production.{Production}
 use Rattle.go_tree.specs.declared.production.Production.TheVariants as p
@@ -11,8 +12,9 @@ use Rattle.go_tree.specs.Grammar.TokenKinds.{same_kind}
 use Rattle.go_tree.specs.Grammar.Reading.{State, acted, before, at_end, does, calls}
 use Rattle.go_tree.specs.Grammar.Sentence.{production, ReadsGo, IsA, Begins}
 use Rattle.go_tree.proofs.EmptyLemmas.{rest_kept}
-use Rattle.go_tree.proofs.NestingLemmas.{passed_token}
+use Rattle.go_tree.proofs.NestingLemmas.{passed_token, same_kinds}
 use Rattle.go_tree.proofs.ReadingLemmas.{split, in_turn_of}
+use Rattle.go_parse_x.specs.Texts.{Stand}
 use Rattle.go_parse_x.proofs.EndTokenLemmas.{all_endless, from_end, end_stays, end_there}
 
 entered : (bytes : List ℕ) (n : Production) (gs : List (RightSide Production)) (s e : State) → ReadsGo bytes (Call n ∷ gs) s e → ReadsGo bytes (production n ∷ gs) s e
@@ -79,3 +81,17 @@ file_ends bytes front t h b = cut b.0 b.2.whole
         let z = end_there front more t h in
         let none = only_one z.0 more t o.0 (sym z.1 ∙ (ap from_end (sym row) ∙ o.1)) in
         subst Q (append-nil (front ++ t ∷ [])) (subst P none a)
+
+no_end : (bytes : List ℕ) (at to : ℕ) (last kind : Option TokenKind) (tokens : List Token) → Stand bytes at last tokens to kind → from_end tokens ≡ []
+no_end bytes at to last kind [] h = refl
+no_end bytes at to last kind (t ∷ ts) h = go (same_kind End t.kind) refl (no_end bytes t.end to (Some t.kind) kind ts h.2)
+  where
+    go : (b : Bool) → same_kind End t.kind ≡ b → from_end ts ≡ [] → cond b (t ∷ ts) (from_end ts) ≡ []
+    go true q none = absurd (h.1 (sym (same_kinds End t.kind q)))
+    go false q none = none
+
+-- tokens before the end of the file are no file
+pub no_file : (bytes : List ℕ) (at to : ℕ) (last kind : Option TokenKind) (tokens : List Token) → Stand bytes at last tokens to kind → IsA bytes p.File tokens → ⊥
+no_file bytes at to last kind tokens h a =
+    let o = one_end bytes (before tokens) a.end a.all a.reads in
+    absurd (let q = sym (no_end bytes at to last kind tokens h) ∙ o.1 in cc)

@@ -4,12 +4,14 @@ pub mod OpenedLemmas
 pub mod TypeTreeLemmas
 pub mod LevelLemmas
 pub mod KindSetLemmas
+pub mod LeadLemmas
 pub mod SpelledLemmas
 pub mod EndTokenLemmas
 pub mod FileEndLemmas
 pub mod BraceLemmas
 pub mod TurnLemmas
 pub mod EndLemmas
+pub mod StepLemmas
 pub mod SettleLemmas
 pub mod PieceLemmas
 pub mod OpenLemmas

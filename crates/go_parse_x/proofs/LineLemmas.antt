@@ -24,8 +24,8 @@ same_step p q (Close kind) h = refl
 same_step p q (Call n) h = refl
 same_step p q Nothing h = refl
 same_step p q (Seq n) h = rw (h 0) (rw (h n) refl)
-same_step p q (Or n) h = rw (h 0) (rw (h n) refl)
-same_step p q Many h = rw (h 0) refl
+same_step p q (Or n set) h = rw (h 0) (rw (h n) refl)
+same_step p q (Many set) h = rw (h 0) refl
 same_step p q (When asked n) h = rw (h 0) (rw (h n) refl)
 
 same_option : (p q : ℕ → RightSide Production) (step : Option Step) → ((further : ℕ) → p further ≡ q further) → from_option p step ≡ from_option q step

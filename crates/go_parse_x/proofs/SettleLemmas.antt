@@ -1,5 +1,5 @@
 -- Steps, one behind the other, up to the next token.
-use Rattle.std.proofs.Common.{◌≡◌, ℕ, Bool, true, false, List, Option, None, Some, refl, subst, sym, ap, ◌∙◌, cond}
+use Rattle.std.proofs.Common.{◌≡◌, ℕ, Bool, true, false, List, Option, None, Some, Result, Ok, Err, IfOk, OnOk, refl, subst, sym, ap, ◌∙◌, cond}
 use Rattle.go_tree.specs.declared.token.TokenKind.{TokenKind}
 use Rattle.go_tree.specs.declared.production.Production.{Production}
 use Rattle.go_tree.specs.Grammar.RightSide.{RightSide}
@@ -9,6 +9,7 @@ use Rattle.go_tree.specs.Grammar.Rank.{top_rank}
 use Rattle.go_tree.specs.Grammar.Sentence.{texts}
 use Rattle.go_tree.proofs.SentenceLemmas.{completes_lem}
 use Rattle.go_parse_x.specs.declared.seen.Seen.{Seen}
+use Rattle.go_parse_x.specs.declared.seen.Turn.{Turn}
 use Rattle.go_parse_x.specs.declared.seen.Turn.TheVariants.{Passed, Asked, Stuck, Astray, Unseen, AtBlock}
 use Rattle.go_parse_x.specs.Turns.{is_asked, IsSound, GoesOn, IsSame, IsPassed, IsStuck, IsAsked, IsMet, IsAtBlock, IsTurn, IsSettled}
 use Rattle.go_parse_x.proofs.TurnLemmas.{same_then, same_anyway, same_passed, same_stuck, same_goes_on, same_asked}
@@ -63,3 +64,18 @@ module _ (bytes : List ℕ) (seen : Seen) (gs hs is : List (RightSide Production
       let R : List OpenNode → Type 0 = λ d. P hs d in
       subst Q (sym y.stays) (subst R (sym y.nodes) (x, record { rest = y.rest; block = y.block; brace = y.brace; over = y.over; stays = refl; nodes = refl }))
   block_on true x m y = absurd (let q = ap is_asked y.brace in let w = m.2.asked in cc)
+
+-- the same for what is to be read, written otherwise
+pub same_from : (bytes : List ℕ) (seen : Seen) (assumed : Option TokenKind) (gs hs is : List (RightSide Production)) (fs es : List OpenNode) → hs ≡ is → IsSame bytes seen assumed gs hs fs es → IsSame bytes seen assumed gs is fs es
+same_from bytes seen assumed gs hs is fs es q x = let P : List (RightSide Production) → Type 0 = λ y. IsSame bytes seen assumed gs y fs es in subst P q x
+
+pub sound_from : (gs hs : List (RightSide Production)) → gs ≡ hs → IsSound gs → IsSound hs
+sound_from gs hs q s = subst IsSound q s
+
+-- where the answer is that turn, and the stack stands so
+pub settled_ok : {E : Type 0} (bytes : List ℕ) (seen : Seen) (turn : Turn) (gs hs is : List (RightSide Production)) (fs es : List OpenNode) → (r : Result Turn E) → IfOk r (λ so. so ≡ turn) → OnOk r (is ≡ hs) → IsSettled bytes seen turn gs hs fs es → IfOk r (λ so. IsSettled bytes seen so gs is fs es)
+settled_ok bytes seen turn gs hs is fs es (Ok so) q w x =
+    let P : Turn → Type 0 = λ y. IsSettled bytes seen y gs is fs es in
+    let H : List (RightSide Production) → Type 0 = λ y. IsSettled bytes seen turn gs y fs es in
+    subst P (sym q) (subst H (sym w) x)
+settled_ok bytes seen turn gs hs is fs es (Err e) q w x = tt

@@ -1,5 +1,5 @@
 -- The answers of the reader of whole files, from what its calls do.
-use Rattle.std.proofs.Common.{◌≡◌, ◌≢◌, ℕ, true, false, List, [], ◌∷◌, ◌++◌, Option, None, Some, Result, Ok, Err, IfOk, IfErr, OnOk, is_err, refl, subst, sym, ap, ◌∙◌, ◌⊎◌, ⊎_elim}
+use Rattle.std.proofs.Common.{◌≡◌, ◌≢◌, ℕ, false, List, [], ◌∷◌, ◌++◌, Option, None, Some, Result, Ok, Err, IfOk, IfErr, OnOk, is_err, refl, subst, sym, ap, ◌∙◌, ◌⊎◌, ⊎_elim}
 use Rattle.std.proofs.lemmas.List.{append-nil}
 use Rattle.go_tree.specs.declared.node.Node.{Node}
 use Rattle.go_tree.specs.declared.token.Token.{Token}
@@ -11,7 +11,7 @@ use Rattle.go_tree.specs.Scan.{IsNext}
 use Rattle.go_tree.specs.Tree.{tree_of}
 use Rattle.go_tree.specs.Grammar.RightSide.{RightSide, Call}
 use Rattle.go_tree.specs.Grammar.Reading.{State, OpenNode, before, tree_read}
-use Rattle.go_tree.specs.Grammar.Prediction.{AllDecided, starts}
+use Rattle.go_tree.specs.Grammar.Prediction.{AllDecided}
 use Rattle.go_tree.specs.Grammar.Sentence.{production, tables, ReadsGo, IsA, Derives, Begins}
 use Rattle.go_tree.proofs.PredictionLemmas.{unique}
 use Rattle.go_tree.proofs.GrammarLemmas.{tables_right}
@@ -29,9 +29,8 @@ use Rattle.go_parse_x.specs.Steps.{Fits, IsTooHigh, behind}
 use Rattle.go_parse_x.specs.Texts.{Stand, IsLex}
 use Rattle.go_parse_x.specs.Turns.{at, is_asked, IsPassed, IsStuck, IsAssumed, GoesOn}
 use Rattle.go_parse_x.proofs.AnswerLemmas.{stand_append}
-use Rattle.go_parse_x.proofs.FileEndLemmas.{file_ends}
+use Rattle.go_parse_x.proofs.FileEndLemmas.{file_ends, no_file}
 use Rattle.go_parse_x.proofs.PieceLemmas.{IsPiece, fits_on, goes_begin, stuck_never, passed_read, end_whole}
-use Rattle.go_parse_x.proofs.TurnLemmas.{never_starts}
 
 -- what holds of an Ok, where it is one
 pub ok_fact : {A E : Type 0} {P : Type 0} → (r : Result A E) → OnOk r P → false ≡ is_err r → P
@@ -122,14 +121,12 @@ module _ (bytes text : List ℕ) (v : View) (is : IsPiece v.n) (most : ℕ) (tok
   pub memory_here : IsFault text p.File most from s NoMemory
   memory_here = record { tokens = tokens; reached = reached_here; faults = tt }
 
-  -- nothing starts with the token
-  pub syntax_here : (t : Token) → IsNext bytes s.at s.last t → starts tables v.rest t.kind ≡ false → IsFault text p.File most from s (Syntax t.start)
-  syntax_here t next h =
-      let seen : Seen = record { token = t; ahead = None; last = v.last; hands_over = true } in
-      let never = stuck_never bytes v.n is tokens o.assumed seen v.rest v.nodes o.reads (o.next t next) (never_starts bytes seen v.rest v.nodes h) in
-      let N : Production → Type 0 = λ n. EndsAt bytes n tokens s t in
-      let B : List ℕ → Type 0 = λ b. EndsAt b p.File tokens s t in
-      record { tokens = tokens; reached = reached_here; faults = (t, subst B q (subst N file (record { next = next; never = never })), refl) }
+-- tokens before the end of the file are no file
+pub no_file_yet : {P : Type 0} (bytes text : List ℕ) (n : Production) (tokens : List Token) (from to : Spot) → bytes ≡ text → n ≡ p.File → Stand text from.at from.last tokens to.at to.last → P → IsA bytes n tokens → ⊥
+no_file_yet bytes text n tokens from to qb qn stand none a =
+    let B : List ℕ → Type 0 = λ x. IsA x n tokens in
+    let N : Production → Type 0 = λ x. IsA text x tokens in
+    no_file text from.at to.at from.last to.last tokens stand (subst N qn (subst B qb a))
 
 says_so : (bytes : List ℕ) (free : ℕ) (all : List Token) (to : Spot) (low after : ℕ) (pending : Pending) (fault : ParseFault) → Says bytes p.File free all to low after pending (Err fault) → Faults bytes p.File free all to fault
 says_so bytes free all to low after pending (Lexical e) h = h

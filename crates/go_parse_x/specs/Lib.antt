@@ -2,6 +2,7 @@ pub mod Lines
 pub mod Shapes
 pub mod Sizes
 pub mod KindSets
+pub mod Leads
 pub mod Opened
 pub mod TypeParts
 pub mod Heights

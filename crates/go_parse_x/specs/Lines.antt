@@ -28,8 +28,8 @@ from_step part (Close kind) = Do (r.Close kind)
 from_step part (Call n) = r.Call n
 from_step part Nothing = r.Nothing
 from_step part (Seq first) = r.Seq (part 0) (part first)
-from_step part (Or first) = r.Or (part 0) (part first)
-from_step part Many = r.Many (part 0)
+from_step part (Or first set) = r.Or (part 0) (part first)
+from_step part (Many set) = r.Many (part 0)
 from_step part (When asked first) = r.When (ahead_of asked) (part 0) (part first)
 
 abbrev pub from_option : (ℕ → RightSide Production) → Option Step → RightSide Production
@@ -52,3 +52,8 @@ side place = side_at place.0 place.1
 -- what a stack of places stands for, the top first
 abbrev pub sides : List (List Step × ℕ) → List (RightSide Production)
 sides places = reverse (map side places)
+
+-- the same where a place comes first, if there is one
+abbrev pub on_top : Option (List Step × ℕ) → List (RightSide Production) → List (RightSide Production)
+on_top None gs = gs
+on_top (Some place) gs = side place ∷ gs

@@ -4,7 +4,7 @@ ghost use Rattle.go_tree.specs.Tree.{tree_of, trees_of};
 ghost use Rattle.go_tree.specs.Grammar.Reading.{has_text, text_between, node_read, close_last};
 ghost use Rattle.go_parse_x.specs.Opened.{frame, frames, numbers, numbers_in, numbers_among, tree_without, Rises};
 
-use crate::opened::OpenNode;
+use crate::opened::{OpenNode, push_part};
 use go_base::{Bytes, NoMemory};
 use go_tree::{Node, NodeId, NodeKind};
 use std::alloc::Global;
@@ -103,9 +103,8 @@ pub fn close(
         return Ok(());
     };
     let id = next_number(number)?;
-    outer
-        .parts
-        .push(closed(alloc, bytes, inner, kind, end, id)?)?;
+    let node = closed(alloc, bytes, inner, kind, end, id)?;
+    push_part(&mut outer.parts, node)?;
     opened.push(outer)?;
     Ok(())
 }

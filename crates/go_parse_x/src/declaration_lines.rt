@@ -1,148 +1,163 @@
 // Lines of the productions of `declaration_line`. Written by bench/lines.py.
 use crate::line::Step;
 use crate::line_words::line;
+use crate::start_sets::{
+    ELEMENTS, EXPRESSIONS, LENGTH_TAILS, NAMELESS, PARAMETERS, SEMICOLONS, TERMS, TYPE_WORDS,
+    TYPES, TYPES_NO_BRACKET,
+};
 use go_tree::{Form, Items, NodeKind, Production, TokenKind};
 
 /// Decl
 pub const DECL: &[Step] = line![
-    Or 21, Seq 1, Open, Seq 1, Pass KwConst, Or 3, Seq 1, Call ConstSpec, Close ConstDecl, Seq 11,
-    Seq 1, Pass LeftParen, Seq 7, Or 5, Seq 1, Call ConstSpec, Or 1, Call More ConstSpecs, Nothing,
-    Nothing, Pass RightParen, Close ConstGroup, Or 21, Seq 1, Open, Seq 1, Pass KwVar, Or 3, Seq 1,
-    Call VarSpec, Close VarDecl, Seq 11, Seq 1, Pass LeftParen, Seq 7, Or 5, Seq 1, Call VarSpec,
-    Or 1, Call More VarSpecs, Nothing, Nothing, Pass RightParen, Close VarGroup, Seq 1, Open, Seq 1,
-    Pass KwType, Or 3, Seq 1, Call TypeSpec, Close TypeDecl, Seq 11, Seq 1, Pass LeftParen, Seq 7,
-    Or 5, Seq 1, Call TypeSpec, Or 1, Call More TypeSpecs, Nothing, Nothing, Pass RightParen,
-    Close TypeGroup,
+    Or 21 [KwConst], Seq 1, Open, Seq 1, Pass KwConst, Or 3 [Ident], Seq 1, Call ConstSpec,
+    Close ConstDecl, Seq 11, Seq 1, Pass LeftParen, Seq 7, Or 5 [Ident], Seq 1, Call ConstSpec,
+    Or 1 SEMICOLONS, Call More ConstSpecs, Nothing, Nothing, Pass RightParen, Close ConstGroup,
+    Or 21 [KwVar], Seq 1, Open, Seq 1, Pass KwVar, Or 3 [Ident], Seq 1, Call VarSpec, Close VarDecl,
+    Seq 11, Seq 1, Pass LeftParen, Seq 7, Or 5 [Ident], Seq 1, Call VarSpec, Or 1 SEMICOLONS,
+    Call More VarSpecs, Nothing, Nothing, Pass RightParen, Close VarGroup, Seq 1, Open, Seq 1,
+    Pass KwType, Or 3 [Ident], Seq 1, Call TypeSpec, Close TypeDecl, Seq 11, Seq 1, Pass LeftParen,
+    Seq 7, Or 5 [Ident], Seq 1, Call TypeSpec, Or 1 SEMICOLONS, Call More TypeSpecs, Nothing,
+    Nothing, Pass RightParen, Close TypeGroup,
 ];
 
 /// ConstSpec
 pub const CONST_SPEC: &[Step] = line![
-    Seq 1, Open, Seq 11, Seq 1, Call Idents, Or 7, Seq 3, Or 1, Call AnyType, Nothing, Seq 1,
-    Pass Assign, Call Exprs Plain, Nothing, Close ConstSpec,
+    Seq 1, Open, Seq 11, Seq 1, Call Idents,
+    Or 7 [Ident KwChan KwFunc KwInterface KwMap KwStruct Mul Arrow Assign LeftParen LeftBracket],
+    Seq 3, Or 1 TYPES, Call AnyType, Nothing, Seq 1, Pass Assign, Call Exprs Plain, Nothing,
+    Close ConstSpec,
 ];
 
 /// VarSpec
 pub const VAR_SPEC: &[Step] = line![
-    Seq 1, Open, Seq 13, Seq 1, Call Idents, Or 7, Seq 1, Call AnyType, Or 3, Seq 1, Pass Assign,
-    Call Exprs Plain, Nothing, Seq 1, Pass Assign, Call Exprs Plain, Close VarSpec,
+    Seq 1, Open, Seq 13, Seq 1, Call Idents, Or 7 TYPES, Seq 1, Call AnyType, Or 3 [Assign], Seq 1,
+    Pass Assign, Call Exprs Plain, Nothing, Seq 1, Pass Assign, Call Exprs Plain, Close VarSpec,
 ];
 
 /// Idents
 pub const IDENTS: &[Step] = line![
-    Seq 1, Open, Seq 6, Seq 1, Call Name, Many, Seq 1, Pass Comma, Call Name, Close IdentList,
+    Seq 1, Open, Seq 6, Seq 1, Call Name, Many [Comma], Seq 1, Pass Comma, Call Name,
+    Close IdentList,
 ];
 
 /// Exprs Plain
 pub const EXPRS_PLAIN: &[Step] = line![
-    Seq 1, Open, Seq 6, Seq 1, Call Expr Plain, Many, Seq 1, Pass Comma, Call Expr Plain,
+    Seq 1, Open, Seq 6, Seq 1, Call Expr Plain, Many [Comma], Seq 1, Pass Comma, Call Expr Plain,
     Close ExprList,
 ];
 
 /// Exprs Header
 pub const EXPRS_HEADER: &[Step] = line![
-    Seq 1, Open, Seq 6, Seq 1, Call Expr Header, Many, Seq 1, Pass Comma, Call Expr Header,
+    Seq 1, Open, Seq 6, Seq 1, Call Expr Header, Many [Comma], Seq 1, Pass Comma, Call Expr Header,
     Close ExprList,
 ];
 
 /// TypeSpec
 pub const TYPE_SPEC: &[Step] = line![
-    Seq 1, Open, Seq 1, Call Name, Or 5, Seq 1, Pass Assign, Seq 1, Call AnyType, Close AliasSpec,
-    Or 3, Seq 1, Call TypeNoBracket, Close TypeSpec, Seq 1, Open, Seq 1, Pass LeftBracket,
-    Call TypeSpecBracket,
+    Seq 1, Open, Seq 1, Call Name, Or 5 [Assign], Seq 1, Pass Assign, Seq 1, Call AnyType,
+    Close AliasSpec, Or 3 TYPES_NO_BRACKET, Seq 1, Call TypeNoBracket, Close TypeSpec, Seq 1, Open,
+    Seq 1, Pass LeftBracket, Call TypeSpecBracket,
 ];
 
 /// TypeSpecBracket
 pub const TYPE_SPEC_BRACKET: &[Step] = line![
-    Or 7, Seq 1, Pass RightBracket, Seq 1, Call AnyType, Seq 1, Close SliceType, Close TypeSpec,
-    Or 9, Seq 1, Pass Ellipsis, Seq 1, Pass RightBracket, Seq 1, Call AnyType, Seq 1,
-    Close EllipsisArrayType, Close TypeSpec, Or 9, Seq 1, Call ExprNoName, Seq 1, Pass RightBracket,
-    Seq 1, Call AnyType, Seq 1, Close ArrayType, Close TypeSpec, Seq 1, Call Name, Or 13, Seq 3,
-    Or 1, Call CallOrDot, Nothing, Seq 1, Call Tails, Seq 1, Pass RightBracket, Seq 1, Call AnyType,
-    Seq 1, Close ArrayType, Close TypeSpec, Seq 1, Reopen, Seq 12, Or 10, Seq 1, Pass Comma, Seq 1,
-    Call Name, Seq 4, Many, Seq 1, Pass Comma, Call Name, Call Union, Call ConstraintAfterName,
-    Seq 1, Close TypeParam, Seq 3, Or 1, Call More TypeParamGroups, Nothing, Seq 1,
-    Pass RightBracket, Seq 1, Close TypeParams, Or 5, Seq 1, Pass Assign, Seq 1, Call AnyType,
-    Close GenericAliasSpec, Seq 1, Call AnyType, Close GenericTypeSpec,
+    Or 7 [RightBracket], Seq 1, Pass RightBracket, Seq 1, Call AnyType, Seq 1, Close SliceType,
+    Close TypeSpec, Or 9 [Ellipsis], Seq 1, Pass Ellipsis, Seq 1, Pass RightBracket, Seq 1,
+    Call AnyType, Seq 1, Close EllipsisArrayType, Close TypeSpec, Or 9 NAMELESS, Seq 1,
+    Call ExprNoName, Seq 1, Pass RightBracket, Seq 1, Call AnyType, Seq 1, Close ArrayType,
+    Close TypeSpec, Seq 1, Call Name, Or 13 LENGTH_TAILS, Seq 3, Or 1 [LeftParen Dot],
+    Call CallOrDot, Nothing, Seq 1, Call Tails, Seq 1, Pass RightBracket, Seq 1, Call AnyType,
+    Seq 1, Close ArrayType, Close TypeSpec, Seq 1, Reopen, Seq 12, Or 10 [Comma], Seq 1, Pass Comma,
+    Seq 1, Call Name, Seq 4, Many [Comma], Seq 1, Pass Comma, Call Name, Call Union,
+    Call ConstraintAfterName, Seq 1, Close TypeParam, Seq 3, Or 1 [Comma],
+    Call More TypeParamGroups, Nothing, Seq 1, Pass RightBracket, Seq 1, Close TypeParams,
+    Or 5 [Assign], Seq 1, Pass Assign, Seq 1, Call AnyType, Close GenericAliasSpec, Seq 1,
+    Call AnyType, Close GenericTypeSpec,
 ];
 
 /// TypeParams
 pub const TYPE_PARAMS: &[Step] = line![
-    Seq 1, Open, Seq 9, Seq 1, Pass LeftBracket, Seq 1, Call TypeParam, Seq 3, Or 1,
+    Seq 1, Open, Seq 9, Seq 1, Pass LeftBracket, Seq 1, Call TypeParam, Seq 3, Or 1 [Comma],
     Call More TypeParamGroups, Nothing, Pass RightBracket, Close TypeParams,
 ];
 
 /// TypeParam
 pub const TYPE_PARAM: &[Step] = line![
-    Seq 1, Open, Seq 8, Seq 1, Call Name, Seq 4, Many, Seq 1, Pass Comma, Call Name, Call Union,
-    Close TypeParam,
+    Seq 1, Open, Seq 8, Seq 1, Call Name, Seq 4, Many [Comma], Seq 1, Pass Comma, Call Name,
+    Call Union, Close TypeParam,
 ];
 
 /// ConstraintAfterName
 pub const CONSTRAINT_AFTER_NAME: &[Step] = line![
-    Seq 1, Open, Seq 28, Seq 23, Or 1, Call TypeName, Or 1, Call BracketType, Or 1, Call RecvChan,
-    Or 9, Or 1, Call MapType, Or 1, Call ChanType, Or 1, Call FuncType, Or 1, Call StructType,
-    Call InterfaceType, Seq 1, Open, Seq 3, Seq 1, Pass Tilde, Call AnyType, Close TildeType, Many,
-    Seq 1, Pass Or, Call Term, Close Union,
+    Seq 1, Open, Seq 28, Seq 23, Or 1 [Ident], Call TypeName, Or 1 [LeftBracket], Call BracketType,
+    Or 1 [Arrow], Call RecvChan, Or 9 TYPE_WORDS, Or 1 [KwMap], Call MapType, Or 1 [KwChan],
+    Call ChanType, Or 1 [KwFunc], Call FuncType, Or 1 [KwStruct], Call StructType,
+    Call InterfaceType, Seq 1, Open, Seq 3, Seq 1, Pass Tilde, Call AnyType, Close TildeType,
+    Many [Or], Seq 1, Pass Or, Call Term, Close Union,
 ];
 
 /// More ImportSpecs
 pub const MORE_IMPORT_SPECS: &[Step] = line![
-    Seq 3, Or 1, Pass Semicolon, Pass InsertedSemicolon, Or 5, Seq 1, Call ImportSpec, Or 1,
-    Call More ImportSpecs, Nothing, Nothing,
+    Seq 3, Or 1 [Semicolon], Pass Semicolon, Pass InsertedSemicolon, Or 5 [Ident Text Dot], Seq 1,
+    Call ImportSpec, Or 1 SEMICOLONS, Call More ImportSpecs, Nothing, Nothing,
 ];
 
 /// More ConstSpecs
 pub const MORE_CONST_SPECS: &[Step] = line![
-    Seq 3, Or 1, Pass Semicolon, Pass InsertedSemicolon, Or 5, Seq 1, Call ConstSpec, Or 1,
-    Call More ConstSpecs, Nothing, Nothing,
+    Seq 3, Or 1 [Semicolon], Pass Semicolon, Pass InsertedSemicolon, Or 5 [Ident], Seq 1,
+    Call ConstSpec, Or 1 SEMICOLONS, Call More ConstSpecs, Nothing, Nothing,
 ];
 
 /// More VarSpecs
 pub const MORE_VAR_SPECS: &[Step] = line![
-    Seq 3, Or 1, Pass Semicolon, Pass InsertedSemicolon, Or 5, Seq 1, Call VarSpec, Or 1,
-    Call More VarSpecs, Nothing, Nothing,
+    Seq 3, Or 1 [Semicolon], Pass Semicolon, Pass InsertedSemicolon, Or 5 [Ident], Seq 1,
+    Call VarSpec, Or 1 SEMICOLONS, Call More VarSpecs, Nothing, Nothing,
 ];
 
 /// More TypeSpecs
 pub const MORE_TYPE_SPECS: &[Step] = line![
-    Seq 3, Or 1, Pass Semicolon, Pass InsertedSemicolon, Or 5, Seq 1, Call TypeSpec, Or 1,
-    Call More TypeSpecs, Nothing, Nothing,
+    Seq 3, Or 1 [Semicolon], Pass Semicolon, Pass InsertedSemicolon, Or 5 [Ident], Seq 1,
+    Call TypeSpec, Or 1 SEMICOLONS, Call More TypeSpecs, Nothing, Nothing,
 ];
 
 /// More TypeParamGroups
 pub const MORE_TYPE_PARAM_GROUPS: &[Step] = line![
-    Seq 1, Pass Comma, Or 5, Seq 1, Call TypeParam, Or 1, Call More TypeParamGroups, Nothing,
-    Nothing,
+    Seq 1, Pass Comma, Or 5 [Ident], Seq 1, Call TypeParam, Or 1 [Comma], Call More TypeParamGroups,
+    Nothing, Nothing,
 ];
 
 /// More Types
 pub const MORE_TYPES: &[Step] = line![
-    Seq 1, Pass Comma, Or 5, Seq 1, Call AnyType, Or 1, Call More Types, Nothing, Nothing,
+    Seq 1, Pass Comma, Or 5 TYPES, Seq 1, Call AnyType, Or 1 [Comma], Call More Types, Nothing,
+    Nothing,
 ];
 
 /// More Parameters
 pub const MORE_PARAMETERS: &[Step] = line![
-    Seq 1, Pass Comma, Or 5, Seq 1, Call Param, Or 1, Call More Parameters, Nothing, Nothing,
+    Seq 1, Pass Comma, Or 5 PARAMETERS, Seq 1, Call Param, Or 1 [Comma], Call More Parameters,
+    Nothing, Nothing,
 ];
 
 /// More Fields
 pub const MORE_FIELDS: &[Step] = line![
-    Seq 3, Or 1, Pass Semicolon, Pass InsertedSemicolon, Or 5, Seq 1, Call Field, Or 1,
-    Call More Fields, Nothing, Nothing,
+    Seq 3, Or 1 [Semicolon], Pass Semicolon, Pass InsertedSemicolon, Or 5 [Ident Mul], Seq 1,
+    Call Field, Or 1 SEMICOLONS, Call More Fields, Nothing, Nothing,
 ];
 
 /// More Elems
 pub const MORE_ELEMS: &[Step] = line![
-    Seq 3, Or 1, Pass Semicolon, Pass InsertedSemicolon, Or 5, Seq 1, Call Elem, Or 1,
-    Call More Elems, Nothing, Nothing,
+    Seq 3, Or 1 [Semicolon], Pass Semicolon, Pass InsertedSemicolon, Or 5 TERMS, Seq 1, Call Elem,
+    Or 1 SEMICOLONS, Call More Elems, Nothing, Nothing,
 ];
 
 /// More Indexes
 pub const MORE_INDEXES: &[Step] = line![
-    Seq 1, Pass Comma, Or 5, Seq 1, Call Expr Plain, Or 1, Call More Indexes, Nothing, Nothing,
+    Seq 1, Pass Comma, Or 5 EXPRESSIONS, Seq 1, Call Expr Plain, Or 1 [Comma], Call More Indexes,
+    Nothing, Nothing,
 ];
 
 /// More Elements
 pub const MORE_ELEMENTS: &[Step] = line![
-    Seq 1, Pass Comma, Or 5, Seq 1, Call Element, Or 1, Call More Elements, Nothing, Nothing,
+    Seq 1, Pass Comma, Or 5 ELEMENTS, Seq 1, Call Element, Or 1 [Comma], Call More Elements,
+    Nothing, Nothing,
 ];

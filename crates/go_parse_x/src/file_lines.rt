@@ -1,38 +1,43 @@
 // Lines of the productions of `file_line`. Written by bench/lines.py.
 use crate::line::Step;
 use crate::line_words::line;
+use crate::start_sets::SEMICOLONS;
 use go_tree::{Items, NodeKind, Production, TokenKind};
 
 /// File
 pub const FILE: &[Step] = line![
-    Seq 1, Open, Seq 23, Seq 1, Pass KwPackage, Seq 1, Call Name, Seq 3, Or 1, Pass Semicolon,
-    Pass InsertedSemicolon, Seq 6, Many, Seq 1, Call Import, Or 1, Pass Semicolon,
-    Pass InsertedSemicolon, Seq 6, Many, Seq 1, Call Top, Or 1, Pass Semicolon,
+    Seq 1, Open, Seq 23, Seq 1, Pass KwPackage, Seq 1, Call Name, Seq 3, Or 1 [Semicolon],
+    Pass Semicolon, Pass InsertedSemicolon, Seq 6, Many [KwImport], Seq 1, Call Import,
+    Or 1 [Semicolon], Pass Semicolon, Pass InsertedSemicolon, Seq 6,
+    Many [KwConst KwFunc KwType KwVar], Seq 1, Call Top, Or 1 [Semicolon], Pass Semicolon,
     Pass InsertedSemicolon, Pass End, Close File,
 ];
 
 /// Import
 pub const IMPORT: &[Step] = line![
-    Seq 1, Open, Seq 1, Pass KwImport, Or 3, Seq 1, Call ImportSpec, Close ImportDecl, Seq 11,
-    Seq 1, Pass LeftParen, Seq 7, Or 5, Seq 1, Call ImportSpec, Or 1, Call More ImportSpecs,
-    Nothing, Nothing, Pass RightParen, Close ImportGroup,
+    Seq 1, Open, Seq 1, Pass KwImport, Or 3 [Ident Text Dot], Seq 1, Call ImportSpec,
+    Close ImportDecl, Seq 11, Seq 1, Pass LeftParen, Seq 7, Or 5 [Ident Text Dot], Seq 1,
+    Call ImportSpec, Or 1 SEMICOLONS, Call More ImportSpecs, Nothing, Nothing, Pass RightParen,
+    Close ImportGroup,
 ];
 
 /// ImportSpec
 pub const IMPORT_SPEC: &[Step] = line![
-    Seq 1, Open, Seq 11, Seq 9, Or 7, Or 5, Seq 1, Open, Seq 1, Pass Dot, Close DotImport,
-    Call Name, Nothing, Call StringLit, Close ImportSpec,
+    Seq 1, Open, Seq 11, Seq 9, Or 7 [Ident Dot], Or 5 [Dot], Seq 1, Open, Seq 1, Pass Dot,
+    Close DotImport, Call Name, Nothing, Call StringLit, Close ImportSpec,
 ];
 
 /// Top
 pub const TOP: &[Step] = line![
-    Or 1, Call Decl, Seq 1, Open, Seq 1, Pass KwFunc, Or 5, Seq 1, Call Name, Seq 1, Call FuncRest,
-    Close FuncDecl, Seq 1, Call Params, Seq 1, Call Name, Seq 1, Call FuncRest, Close MethodDecl,
+    Or 1 [KwConst KwType KwVar], Call Decl, Seq 1, Open, Seq 1, Pass KwFunc, Or 5 [Ident], Seq 1,
+    Call Name, Seq 1, Call FuncRest, Close FuncDecl, Seq 1, Call Params, Seq 1, Call Name, Seq 1,
+    Call FuncRest, Close MethodDecl,
 ];
 
 /// FuncRest
 pub const FUNC_REST: &[Step] = line![
-    Seq 3, Or 1, Call TypeParams, Nothing, Seq 1, Call Signature, Or 1, Call Block, Nothing,
+    Seq 3, Or 1 [LeftBracket], Call TypeParams, Nothing, Seq 1, Call Signature, Or 1 [LeftBrace],
+    Call Block, Nothing,
 ];
 
 /// Name

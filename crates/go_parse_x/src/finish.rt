@@ -13,8 +13,9 @@ ghost use Rattle.go_parse_x.specs.Weights.{cost};
 use crate::acts::{Here, act};
 use crate::line::Act;
 use crate::opened::OpenNode;
-use crate::place::{Place, Shape};
+use crate::place::Place;
 use crate::prediction::is_empty;
+use crate::shape::{Shape, shape_at};
 use go_base::NoMemory;
 use std::alloc::Global;
 
@@ -58,13 +59,13 @@ fn end(
     ensures cheaper { IfOk result (λ goes. IsTrue goes → cost (sides todo.new.items) < cost (side place ∷ sides todo.old.items)) }
     ensures numbers { OnOk result ((low : ℕ) → Rises low (numbers opened.old.items) number.old → Rises low (numbers opened.new.items) number.new) }
 {
-    match place.shape() {
+    match shape_at(&place) {
         Shape::Pass(_) => return Ok(false),
         Shape::Act(made) => return make(alloc, bytes, number, opened, made, last),
         Shape::Call(n) => todo.push(Place::start(n))?,
-        Shape::Nothing | Shape::Many(_) => {}
+        Shape::Nothing | Shape::Many(..) => {}
         Shape::Seq(g, h) => series(todo, g, h)?,
-        Shape::Or(g, h) => either(todo, g, h)?,
+        Shape::Or(_, g, h) => either(todo, g, h)?,
         Shape::When(_, _, h) => todo.push(h)?,
     }
     Ok(true)

@@ -6,47 +6,11 @@ ghost use Rattle.go_tree.specs.Grammar.Sentence.{can_be_empty as empty_productio
 ghost use Rattle.go_parse_x.specs.KindSets.{set_of};
 
 use crate::kind_sets::{has, kinds};
+use crate::start_sets::{
+    COMPARISONS, EXPRESSIONS, LITERALS, NAMED_TYPES, NAMELESS, OPERANDS, OPERATORS, PRODUCTS,
+    SEMICOLONS, STATEMENT_TAILS, STATEMENTS, SUMS, TYPE_WORDS, TYPES,
+};
 use go_tree::{Items, Production, TokenKind};
-
-const LITERALS: u128 = kinds![Int Float Rune Text];
-
-const TYPE_WORDS: u128 = kinds![KwChan KwFunc KwInterface KwMap KwStruct];
-
-const SEMICOLONS: u128 = kinds![Semicolon InsertedSemicolon];
-
-const NAMED_TYPES: u128 = TYPE_WORDS | kinds![Ident Mul LeftBracket];
-
-const TYPES: u128 = NAMED_TYPES | kinds![Arrow LeftParen];
-
-const OPERANDS: u128 = LITERALS | TYPE_WORDS | kinds![LeftParen LeftBracket];
-
-const NAMELESS: u128 = OPERANDS | kinds![Add Sub Mul And Xor Arrow Not];
-
-const EXPRESSIONS: u128 = NAMELESS | kinds![Ident];
-
-const COMPARISONS: u128 = kinds![Equal Less Greater NotEqual LessEqual GreaterEqual];
-
-const SUMS: u128 = kinds![Add Sub Or Xor];
-
-const PRODUCTS: u128 = kinds![Mul Quo Rem And Shl Shr AndNot];
-
-const OPERATORS: u128 = COMPARISONS | SUMS | PRODUCTS | kinds![LogicalAnd LogicalOr];
-
-const ASSIGN_SUMS: u128 = kinds![AddAssign SubAssign OrAssign XorAssign];
-
-const ASSIGN_PRODUCTS: u128 =
-    kinds![MulAssign QuoAssign RemAssign AndAssign ShlAssign ShrAssign AndNotAssign];
-
-const STATEMENT_TAILS: u128 = ASSIGN_SUMS
-    | ASSIGN_PRODUCTS
-    | kinds![Arrow Inc Dec Assign Define Comma];
-
-const JUMPS: u128 = kinds![KwBreak KwContinue KwFallthrough KwGoto KwReturn];
-
-const STATEMENT_WORDS: u128 = JUMPS
-    | kinds![KwConst KwDefer KwFor KwGo KwIf KwSelect KwSwitch KwType KwVar];
-
-const STATEMENTS: u128 = EXPRESSIONS | STATEMENT_WORDS | kinds![LeftBrace];
 
 /// Whether a production can begin with a token of that kind.
 #[tactic(auto, using(crate::proofs::KindSetLemmas::set_has))]

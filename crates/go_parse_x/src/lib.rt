@@ -42,6 +42,8 @@ mod line;
 mod line_words;
 mod lines;
 mod place;
+mod shape;
+mod start_sets;
 mod statement_lines;
 mod type_lines;
 

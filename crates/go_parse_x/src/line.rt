@@ -32,7 +32,8 @@ pub enum Act {
 }
 
 /// One step of a line. Behind it stand the steps of its first part, and behind those the steps of the
-/// second: the number says how many the first part has.
+/// second: the number says how many the first part has. Beside a choice stands the set of the kinds
+/// that the first part begins with; the first part of an `Or` is never empty.
 #[derive(Clone, Copy, Debug, PartialEq, Eq)]
 pub enum Step {
     Pass(TokenKind),
@@ -44,7 +45,7 @@ pub enum Step {
     Call(Production),
     Nothing,
     Seq(u16),
-    Or(u16),
-    Many,
+    Or(u16, u128),
+    Many(u128),
     When(Asked, u16),
 }

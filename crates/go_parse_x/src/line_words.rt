@@ -1,8 +1,8 @@
-// Words that write lines of steps, as in `line![Seq 1, Open, Pass Ident]`.
+// Words that write lines of steps, as in `line![Or 3 [Comma], Seq 1, Pass Comma, Call Name]`.
 
 macro_rules! line {
-    ($($word:ident $($kind:ident)* $($first:literal)?),* $(,)?) => {
-        &[$(crate::line_words::step!($word $($kind)* $($first)?)),*]
+    ($($word:ident $($name:ident)* $($first:literal $($set:ident)?)? $([$($kind:ident)*])?),* $(,)?) => {
+        &[$(crate::line_words::step!($word $($name)* $($first $($set)?)? $([$($kind)*])?)),*]
     };
 }
 
@@ -15,7 +15,11 @@ macro_rules! step {
     (Call $name:ident Header) => { Step::Call(Production::$name(Form::Header)) };
     (Call $name:ident $of:ident) => { Step::Call(Production::$name(Clauses::$of)) };
     (When $asked:ident $first:literal) => { Step::When(Asked::$asked, $first) };
-    ($word:ident $first:literal) => { Step::$word($first) };
+    (Seq $first:literal) => { Step::Seq($first) };
+    (Or $first:literal $set:ident) => { Step::Or($first, $set) };
+    (Or $first:literal [$($kind:ident)*]) => { Step::Or($first, crate::kind_sets::kinds![$($kind)*]) };
+    (Many $set:ident) => { Step::Many($set) };
+    (Many [$($kind:ident)*]) => { Step::Many(crate::kind_sets::kinds![$($kind)*]) };
     ($word:ident) => { Step::$word };
 }
 

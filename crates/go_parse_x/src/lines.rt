@@ -1,6 +1,7 @@
 // The line of each production. Written by bench/lines.py.
-ghost use Rattle.std.specs.Prelude.{◌≡◌};
+ghost use Rattle.std.specs.Prelude.{◌≡◌, true};
 ghost use Rattle.go_tree.specs.Grammar.Sentence.{production};
+ghost use Rattle.go_parse_x.specs.Leads.{all_led};
 ghost use Rattle.go_parse_x.specs.Lines.{side_at};
 
 use crate::line::Step;
@@ -9,7 +10,8 @@ use go_tree::{Clauses, Form, Items, Production};
 
 /// The steps of a production's right side.
 pub fn line_of(n: Production) -> &'static [Step]
-    ensures { side_at result.now 0 ≡ production n }
+    ensures side { side_at result.now 0 ≡ production n }
+    ensures led { all_led result.now ≡ true }
 {
     match n {
         Production::File => file_lines::FILE,

@@ -1,52 +1,72 @@
 // One step of the machine: what the next token makes of what is to be read.
-ghost use Rattle.std.specs.Prelude.{◌≡◌, ℕ, ◌∷◌, true, false, List, OnOk, IfOk, IsTrue, IsFalse};
+ghost use Rattle.std.specs.Prelude.{◌≡◌, ℕ, ◌∷◌, true, false, List, Some, OnOk, IfOk, IsTrue, IsFalse};
 ghost use Rattle.go_tree.specs.Grammar.RightSide.{RightSide, Do, Call, Seq, Or, Many, When, Pass};
 ghost use Rattle.go_tree.specs.Grammar.Reading.{OpenNode as Opened};
+ghost use Rattle.go_tree.specs.Grammar.Prediction.{is_empty as is_empty_so};
+ghost use Rattle.go_tree.specs.Grammar.Sentence.{tables};
 ghost use Rattle.go_tree.specs.declared.production.Production.{Production as ProductionOf};
 ghost use Rattle.go_tree.specs.declared.production.Production.TheVariants.{Block};
+ghost use Rattle.go_parse_x.specs.declared.seen.Turn.TheVariants.{Turned as TheTurned};
 ghost use Rattle.go_parse_x.specs.Braces.{is_block};
-ghost use Rattle.go_parse_x.specs.Lines.{ahead_of, side, sides};
+ghost use Rattle.go_parse_x.specs.Leads.{IsSetOf};
+ghost use Rattle.go_parse_x.specs.Lines.{ahead_of, on_top, side, sides};
 ghost use Rattle.go_parse_x.specs.Opened.{frames, numbers, Rises};
 ghost use Rattle.go_parse_x.specs.Shapes.{act_of};
 ghost use Rattle.go_parse_x.specs.Turns.{IsSound, IsTurn, IsCheaper, AsksFor};
 
 use crate::acts::{Here, act};
-use crate::kind_sets::same;
+use crate::kind_sets::{has, same};
 use crate::line::{Act, Asked};
 use crate::opened::OpenNode;
-use crate::place::{Place, Shape};
-use crate::prediction::{alone, begins, is_next, together};
+use crate::place::Place;
+use crate::prediction::{alone, together};
 use crate::seen::{Seen, Turn};
+use crate::shape::{Shape, shape_at};
 use go_base::NoMemory;
 use go_tree::{Production, TokenKind};
 use std::alloc::Global;
 
-/// Takes what is to be read next, and does what the next token makes of it.
+/// What a step makes of the token, and what is then to be read before all that waits, if anything is.
+#[derive(Debug, Drop)]
+pub struct Stepped {
+    pub turn: Turn,
+    pub next: Option<Place>,
+}
+
+/// Does what the next token makes of the place, before which nothing is to be read, and behind which
+/// all that waits is.
 pub fn step(
     alloc: Global,
     bytes: &[u8],
     number: &mut usize,
     todo: &mut Vec<Place>,
     opened: &mut Vec<OpenNode>,
+    place: Place,
     seen: Seen,
-) -> Result<Turn, NoMemory>
-    requires { IsSound (sides todo.old.items) }
-    ensures turn { IfOk result (λ turn. IsTurn bytes.now seen turn (sides todo.old.items) (sides todo.new.items) (frames opened.old.items) (frames opened.new.items)) }
-    ensures cheaper { IfOk result (λ turn. IsCheaper turn (sides todo.old.items) (sides todo.new.items)) }
+) -> Result<Stepped, NoMemory>
+    requires { IsSound (side place ∷ sides todo.old.items) }
+    ensures turn { IfOk result (λ s. IsTurn bytes.now seen s.turn (side place ∷ sides todo.old.items) (on_top s.next (sides todo.new.items)) (frames opened.old.items) (frames opened.new.items)) }
+    ensures cheaper { IfOk result (λ s. IsCheaper s.turn (side place ∷ sides todo.old.items) (on_top s.next (sides todo.new.items))) }
     ensures numbers { OnOk result ((low : ℕ) → Rises low (numbers opened.old.items) number.old → Rises low (numbers opened.new.items) number.new) }
 {
-    let Some(place) = todo.pop() else {
-        return Ok(Turn::Stuck);
-    };
-    match place.shape() {
-        Shape::Pass(kind) => Ok(pass(kind, seen)),
-        Shape::Act(made) => make(alloc, bytes, number, opened, made, seen),
-        Shape::Call(n) => call(todo, place, n, seen),
-        Shape::Nothing => Ok(Turn::Turned),
-        Shape::Seq(g, h) => series(todo, g, h, seen),
-        Shape::Or(g, h) => either(todo, g, h, seen),
-        Shape::Many(g) => many(todo, place, g, seen),
-        Shape::When(asked, g, h) => when(todo, asked, g, h, seen),
+    match shape_at(&place) {
+        Shape::Pass(kind) => Ok(Stepped {
+            turn: pass(kind, seen),
+            next: None,
+        }),
+        Shape::Act(made) => {
+            let turn = make(alloc, bytes, number, opened, made, seen)?;
+            Ok(Stepped { turn, next: None })
+        }
+        Shape::Call(n) => Ok(call(place, n, seen)),
+        Shape::Nothing => Ok(Stepped {
+            turn: Turn::Turned,
+            next: None,
+        }),
+        Shape::Seq(g, h) => series(alloc, bytes, number, todo, opened, g, h, seen),
+        Shape::Or(set, g, h) => Ok(either(set, g, h, seen)),
+        Shape::Many(set, g) => many(todo, set, place, g, seen),
+        Shape::When(asked, g, h) => Ok(when(asked, g, h, seen)),
     }
 }
 
@@ -80,16 +100,46 @@ fn make(
     }
 }
 
-// One behind the other.
-fn series(todo: &mut Vec<Place>, g: Place, h: Place, seen: Seen) -> Result<Turn, NoMemory>
+// One behind the other; a token, an act or a production in front is taken at once.
+fn series(
+    alloc: Global,
+    bytes: &[u8],
+    number: &mut usize,
+    todo: &mut Vec<Place>,
+    opened: &mut Vec<OpenNode>,
+    g: Place,
+    h: Place,
+    seen: Seen,
+) -> Result<Stepped, NoMemory>
     requires { IsSound (Seq (side g) (side h) ∷ sides todo.old.items) }
-    ensures turn { IfOk result (λ turn. (bytes : List ℕ) (fs : List Opened) → IsTurn bytes seen turn (Seq (side g) (side h) ∷ sides todo.old.items) (sides todo.new.items) fs fs) }
-    ensures cheaper { IfOk result (λ turn. IsCheaper turn (Seq (side g) (side h) ∷ sides todo.old.items) (sides todo.new.items)) }
+    ensures turn { IfOk result (λ s. IsTurn bytes.now seen s.turn (Seq (side g) (side h) ∷ sides todo.old.items) (on_top s.next (sides todo.new.items)) (frames opened.old.items) (frames opened.new.items)) }
+    ensures cheaper { IfOk result (λ s. IsCheaper s.turn (Seq (side g) (side h) ∷ sides todo.old.items) (on_top s.next (sides todo.new.items))) }
+    ensures numbers { OnOk result ((low : ℕ) → Rises low (numbers opened.old.items) number.old → Rises low (numbers opened.new.items) number.new) }
 {
-    let _ = seen;
-    todo.push(h)?;
-    todo.push(g)?;
-    Ok(Turn::Turned)
+    match shape_at(&g) {
+        Shape::Pass(kind) => Ok(Stepped {
+            turn: pass(kind, seen),
+            next: Some(h),
+        }),
+        Shape::Act(made) => {
+            let turn = make(alloc, bytes, number, opened, made, seen)?;
+            Ok(Stepped {
+                turn,
+                next: Some(h),
+            })
+        }
+        Shape::Call(n) => {
+            todo.push(h)?;
+            if hands_over(n, seen) {
+                return Ok(turned(g));
+            }
+            Ok(turned(Place::start(n)))
+        }
+        _ => {
+            todo.push(h)?;
+            Ok(turned(g))
+        }
+    }
 }
 
 // A token of that kind.
@@ -105,110 +155,121 @@ fn pass(kind: TokenKind, seen: Seen) -> Turn
 }
 
 // A production; a block may be handed over.
-fn call(todo: &mut Vec<Place>, place: Place, n: Production, seen: Seen) -> Result<Turn, NoMemory>
-    requires call { side place ≡ Call n }
-    requires sound { IsSound (Call n ∷ sides todo.old.items) }
-    ensures turn { IfOk result (λ turn. (bytes : List ℕ) (fs : List Opened) → IsTurn bytes seen turn (Call n ∷ sides todo.old.items) (sides todo.new.items) fs fs) }
-    ensures cheaper { IfOk result (λ turn. IsCheaper turn (Call n ∷ sides todo.old.items) (sides todo.new.items)) }
+fn call(place: Place, n: Production, seen: Seen) -> Stepped
+    requires { side place ≡ Call n }
+    ensures turn { (bytes : List ℕ) (fs : List Opened) (gs : List (RightSide ProductionOf)) → IsSound (Call n ∷ gs) → IsTurn bytes seen result.turn (Call n ∷ gs) (on_top result.next gs) fs fs }
+    ensures cheaper { (gs : List (RightSide ProductionOf)) → IsCheaper result.turn (Call n ∷ gs) (on_top result.next gs) }
 {
     if hands_over(n, seen) {
-        return block(todo, place, n, seen);
+        return block(place, n, seen);
     }
-    todo.push(Place::start(n))?;
-    Ok(Turn::Turned)
+    turned(Place::start(n))
 }
 
 // A block that is handed over.
-fn block(todo: &mut Vec<Place>, place: Place, n: Production, seen: Seen) -> Result<Turn, NoMemory>
+fn block(place: Place, n: Production, seen: Seen) -> Stepped
     requires call { side place ≡ Call n }
     requires block { n ≡ Block }
     requires over { seen.hands_over ≡ true }
-    ensures turn { IfOk result (λ turn. (bytes : List ℕ) (fs : List Opened) → IsTurn bytes seen turn (Call n ∷ sides todo.old.items) (sides todo.new.items) fs fs) }
-    ensures cheaper { IfOk result (λ turn. IsCheaper turn (Call n ∷ sides todo.old.items) (sides todo.new.items)) }
+    ensures turn { (bytes : List ℕ) (fs : List Opened) (gs : List (RightSide ProductionOf)) → IsTurn bytes seen result.turn (Call n ∷ gs) (on_top result.next gs) fs fs }
+    ensures cheaper { (gs : List (RightSide ProductionOf)) → IsCheaper result.turn (Call n ∷ gs) (on_top result.next gs) }
 {
     if same(TokenKind::LeftBrace, seen.token.kind) {
-        todo.push(place)?;
-        return Ok(Turn::AtBlock);
+        return Stepped {
+            turn: Turn::AtBlock,
+            next: Some(place),
+        };
     }
-    Ok(Turn::Stuck)
+    Stepped {
+        turn: Turn::Stuck,
+        next: None,
+    }
 }
 
 // One of two.
-fn either(todo: &mut Vec<Place>, g: Place, h: Place, seen: Seen) -> Result<Turn, NoMemory>
-    requires { IsSound (Or (side g) (side h) ∷ sides todo.old.items) }
-    ensures turn { IfOk result (λ turn. (bytes : List ℕ) (fs : List Opened) → IsTurn bytes seen turn (Or (side g) (side h) ∷ sides todo.old.items) (sides todo.new.items) fs fs) }
-    ensures cheaper { IfOk result (λ turn. IsCheaper turn (Or (side g) (side h) ∷ sides todo.old.items) (sides todo.new.items)) }
+fn either(set: u128, g: Place, h: Place, seen: Seen) -> Stepped
+    requires set { IsSetOf set (side g) }
+    requires some { is_empty_so tables (side g) ≡ false }
+    ensures turn { (bytes : List ℕ) (fs : List Opened) (gs : List (RightSide ProductionOf)) → IsSound (Or (side g) (side h) ∷ gs) → IsTurn bytes seen result.turn (Or (side g) (side h) ∷ gs) (on_top result.next gs) fs fs }
+    ensures cheaper { (gs : List (RightSide ProductionOf)) → IsCheaper result.turn (Or (side g) (side h) ∷ gs) (on_top result.next gs) }
 {
-    if is_next(&g, todo, seen.token.kind) {
-        todo.push(g)?;
-        return Ok(Turn::Turned);
+    if has(set, seen.token.kind) {
+        turned(g)
+    } else {
+        turned(h)
     }
-    todo.push(h)?;
-    Ok(Turn::Turned)
 }
 
 // As often as it stands there.
-fn many(todo: &mut Vec<Place>, place: Place, g: Place, seen: Seen) -> Result<Turn, NoMemory>
+fn many(
+    todo: &mut Vec<Place>,
+    set: u128,
+    place: Place,
+    g: Place,
+    seen: Seen,
+) -> Result<Stepped, NoMemory>
     requires many { side place ≡ Many (side g) }
+    requires set { IsSetOf set (side g) }
     requires sound { IsSound (Many (side g) ∷ sides todo.old.items) }
-    ensures turn { IfOk result (λ turn. (bytes : List ℕ) (fs : List Opened) → IsTurn bytes seen turn (Many (side g) ∷ sides todo.old.items) (sides todo.new.items) fs fs) }
-    ensures cheaper { IfOk result (λ turn. IsCheaper turn (Many (side g) ∷ sides todo.old.items) (sides todo.new.items)) }
+    ensures turn { IfOk result (λ s. (bytes : List ℕ) (fs : List Opened) → IsTurn bytes seen s.turn (Many (side g) ∷ sides todo.old.items) (on_top s.next (sides todo.new.items)) fs fs) }
+    ensures cheaper { IfOk result (λ s. IsCheaper s.turn (Many (side g) ∷ sides todo.old.items) (on_top s.next (sides todo.new.items))) }
 {
-    if begins(&g, seen.token.kind) {
+    if has(set, seen.token.kind) {
         todo.push(place)?;
-        todo.push(g)?;
+        return Ok(turned(g));
     }
-    Ok(Turn::Turned)
+    Ok(Stepped {
+        turn: Turn::Turned,
+        next: None,
+    })
 }
 
 // The first, where the tokens that come next are as is asked, else the second.
-fn when(
-    todo: &mut Vec<Place>,
-    asked: Asked,
-    g: Place,
-    h: Place,
-    seen: Seen,
-) -> Result<Turn, NoMemory>
-    requires { IsSound (When (ahead_of asked) (side g) (side h) ∷ sides todo.old.items) }
-    ensures turn { IfOk result (λ turn. (bytes : List ℕ) (fs : List Opened) → IsTurn bytes seen turn (When (ahead_of asked) (side g) (side h) ∷ sides todo.old.items) (sides todo.new.items) fs fs) }
-    ensures cheaper { IfOk result (λ turn. IsCheaper turn (When (ahead_of asked) (side g) (side h) ∷ sides todo.old.items) (sides todo.new.items)) }
+fn when(asked: Asked, g: Place, h: Place, seen: Seen) -> Stepped
+    ensures turn { (bytes : List ℕ) (fs : List Opened) (gs : List (RightSide ProductionOf)) → IsSound (When (ahead_of asked) (side g) (side h) ∷ gs) → IsTurn bytes seen result.turn (When (ahead_of asked) (side g) (side h) ∷ gs) (on_top result.next gs) fs fs }
+    ensures cheaper { (gs : List (RightSide ProductionOf)) → IsCheaper result.turn (When (ahead_of asked) (side g) (side h) ∷ gs) (on_top result.next gs) }
 {
     match alone(asked, seen.token.kind) {
-        Some(so) => {
-            if so {
-                todo.push(g)?;
-                return Ok(Turn::Turned);
-            }
-            todo.push(h)?;
-            Ok(Turn::Turned)
-        }
-        None => pair(todo, asked, g, h, seen),
+        Some(true) => turned(g),
+        Some(false) => turned(h),
+        None => pair(asked, g, h, seen),
     }
 }
 
 // The same where the token behind the next one decides.
-fn pair(
-    todo: &mut Vec<Place>,
-    asked: Asked,
-    g: Place,
-    h: Place,
-    seen: Seen,
-) -> Result<Turn, NoMemory>
-    requires asks { AsksFor asked seen.token.kind }
-    requires sound { IsSound (When (ahead_of asked) (side g) (side h) ∷ sides todo.old.items) }
-    ensures turn { IfOk result (λ turn. (bytes : List ℕ) (fs : List Opened) → IsTurn bytes seen turn (When (ahead_of asked) (side g) (side h) ∷ sides todo.old.items) (sides todo.new.items) fs fs) }
-    ensures cheaper { IfOk result (λ turn. IsCheaper turn (When (ahead_of asked) (side g) (side h) ∷ sides todo.old.items) (sides todo.new.items)) }
+fn pair(asked: Asked, g: Place, h: Place, seen: Seen) -> Stepped
+    requires { AsksFor asked seen.token.kind }
+    ensures turn { (bytes : List ℕ) (fs : List Opened) (gs : List (RightSide ProductionOf)) → IsSound (When (ahead_of asked) (side g) (side h) ∷ gs) → IsTurn bytes seen result.turn (When (ahead_of asked) (side g) (side h) ∷ gs) (on_top result.next gs) fs fs }
+    ensures cheaper { (gs : List (RightSide ProductionOf)) → IsCheaper result.turn (When (ahead_of asked) (side g) (side h) ∷ gs) (on_top result.next gs) }
 {
     match seen.ahead {
-        None => Ok(Turn::Unseen),
+        None => Stepped {
+            turn: Turn::Unseen,
+            next: None,
+        },
         Some(second) => {
             if together(asked, second) {
-                todo.push(g)?;
-                return Ok(Turn::Asked);
+                return Stepped {
+                    turn: Turn::Asked,
+                    next: Some(g),
+                };
             }
-            todo.push(h)?;
-            Ok(Turn::Asked)
+            Stepped {
+                turn: Turn::Asked,
+                next: Some(h),
+            }
         }
+    }
+}
+
+// Less is to be read before the token, and this first.
+fn turned(place: Place) -> Stepped
+    ensures turn { result.turn ≡ TheTurned }
+    ensures next { result.next ≡ Some place }
+{
+    Stepped {
+        turn: Turn::Turned,
+        next: Some(place),
     }
 }
 

@@ -1,5 +1,5 @@
 // Open nodes: what is done with the nodes that are read.
-ghost use Rattle.std.specs.Prelude.{◌≡◌, ℕ, ◌∷◌, [], OnOk, IfSome, option_map};
+ghost use Rattle.std.specs.Prelude.{◌≡◌, ℕ, ◌++◌, ◌∷◌, [], OnOk, IfSome, option_map};
 ghost use Rattle.go_tree.specs.Tree.{tree_of};
 ghost use Rattle.go_tree.specs.Grammar.Reading.{reopen, adopt, tree_read};
 ghost use Rattle.go_parse_x.specs.Opened.{frames, numbers, numbers_in, added, tree_without, Rises};
@@ -41,7 +41,7 @@ pub fn reopen(alloc: Global, opened: &mut Vec<OpenNode>) -> Result<(), NoMemory>
     };
     let start = first.start();
     let mut parts = Vec::new(alloc);
-    parts.push(first)?;
+    push_part(&mut parts, first)?;
     opened.push(outer)?;
     opened.push(OpenNode { start, parts })?;
     Ok(())
@@ -80,8 +80,20 @@ pub fn add(opened: &mut Vec<OpenNode>, node: Node) -> Result<(), NoMemory>
     let Some(mut inner) = opened.pop() else {
         return Ok(());
     };
-    inner.parts.push(node)?;
+    push_part(&mut inner.parts, node)?;
     opened.push(inner)?;
+    Ok(())
+}
+
+/// The node becomes the last part. Most nodes that have parts have one or two, so there is room for
+/// two before there is for more.
+pub fn push_part(parts: &mut Vec<Node>, node: Node) -> Result<(), NoMemory>
+    ensures { OnOk result (parts.new.items ≡ parts.old.items ++ node ∷ []) }
+{
+    if parts.is_empty() {
+        parts.reserve_exact(2)?;
+    }
+    parts.push(node)?;
     Ok(())
 }
 

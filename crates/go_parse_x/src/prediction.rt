@@ -1,7 +1,7 @@
 // What the next token decides.
 ghost use Rattle.std.specs.Prelude.{◌≡◌, List, ◌∷◌, IfSome, IfNone};
 ghost use Rattle.go_tree.specs.declared.token.Token.{Token as TokenOf};
-ghost use Rattle.go_tree.specs.Grammar.Prediction.{begins as begins_so, is_empty as is_empty_so, starts as starts_so, next_of, may_look as may_look_so, may_miss as may_miss_so};
+ghost use Rattle.go_tree.specs.Grammar.Prediction.{begins as begins_so, is_empty as is_empty_so, starts as starts_so, may_look as may_look_so, may_miss as may_miss_so};
 ghost use Rattle.go_tree.specs.Grammar.Reading.{looks};
 ghost use Rattle.go_tree.specs.Grammar.Sentence.{tables};
 ghost use Rattle.go_parse_x.specs.Lines.{ahead_of, side, sides};
@@ -10,7 +10,8 @@ ghost use Rattle.go_parse_x.specs.Turns.{BeginsWith, is_asked as is_asked_so, As
 use crate::firsts::{begins_with, can_be_empty};
 use crate::kind_sets::{has, kinds, same};
 use crate::line::Asked;
-use crate::place::{Place, Shape};
+use crate::place::Place;
+use crate::shape::{Shape, shape_at};
 use go_tree::TokenKind;
 
 const RESULTS: u128 =
@@ -20,7 +21,7 @@ const RESULTS: u128 =
 pub fn begins(place: &Place, kind: TokenKind) -> bool
     ensures { result ≡ begins_so tables (side place.now) kind }
 {
-    match place.shape() {
+    match shape_at(place) {
         Shape::Pass(wanted) => same(wanted, kind),
         Shape::Act(_) => false,
         Shape::Call(n) => begins_with(n, kind),
@@ -28,8 +29,8 @@ pub fn begins(place: &Place, kind: TokenKind) -> bool
         Shape::Seq(first, second) => {
             begins(&first, kind) || is_empty(&first) && begins(&second, kind)
         }
-        Shape::Or(first, second) => begins(&first, kind) || begins(&second, kind),
-        Shape::Many(part) => begins(&part, kind),
+        Shape::Or(_, first, second) => begins(&first, kind) || begins(&second, kind),
+        Shape::Many(_, part) => begins(&part, kind),
         Shape::When(asked, first, second) => {
             may_look(asked, kind) && begins(&first, kind)
                 || may_miss(asked, kind) && begins(&second, kind)
@@ -41,14 +42,14 @@ pub fn begins(place: &Place, kind: TokenKind) -> bool
 pub fn is_empty(place: &Place) -> bool
     ensures { result ≡ is_empty_so tables (side place.now) }
 {
-    match place.shape() {
+    match shape_at(place) {
         Shape::Pass(_) => false,
         Shape::Act(_) => true,
         Shape::Call(n) => can_be_empty(n),
         Shape::Nothing => true,
         Shape::Seq(first, second) => is_empty(&first) && is_empty(&second),
-        Shape::Or(first, second) => is_empty(&first) || is_empty(&second),
-        Shape::Many(_) => true,
+        Shape::Or(_, first, second) => is_empty(&first) || is_empty(&second),
+        Shape::Many(..) => true,
         Shape::When(_, first, second) => is_empty(&first) || is_empty(&second),
     }
 }
@@ -69,13 +70,6 @@ pub fn starts(todo: &[Place], kind: TokenKind) -> bool
         }
     }
     false
-}
-
-/// Whether it can stand next where the place comes, and then all these.
-pub fn is_next(place: &Place, todo: &[Place], kind: TokenKind) -> bool
-    ensures { result ≡ next_of tables (side place.now) (starts_so tables (sides todo.now)) kind }
-{
-    begins(place, kind) || is_empty(place) && starts(todo, kind)
 }
 
 /// The answer to what is asked of the tokens that come next, where the next one is of that kind and

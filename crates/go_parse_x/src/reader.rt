@@ -5,7 +5,7 @@ ghost use Rattle.go_tree.specs.declared.token.TokenKind.{TokenKind as TokenKindO
 ghost use Rattle.go_tree.specs.declared.token.TokenKind.TheVariants.{End};
 ghost use Rattle.go_tree.specs.Scan.{IsNext};
 ghost use Rattle.go_tree.specs.Grammar.Prediction.{starts as starts_so};
-ghost use Rattle.go_tree.specs.Grammar.Sentence.{tables};
+ghost use Rattle.go_tree.specs.Grammar.Sentence.{tables, IsA};
 ghost use Rattle.go_parse_x.specs.declared.fault.ParseFault.{ParseFault as ParseFaultOf};
 ghost use Rattle.go_parse_x.specs.declared.progress.Progress.TheVariants.{Passed as ThePassed};
 ghost use Rattle.go_parse_x.specs.Answers.{spot_of, IsAnswer, IsReady};
@@ -123,8 +123,8 @@ pub fn one_token(
     requires solid { IsSolid (sides pending.old.todo.items) }
     requires next { IsNext cursor.old.bytes.now cursor.old.at cursor.old.last token }
     requires more { token.kind ≢ End }
-    requires starts { starts_so tables (sides pending.old.todo.items) token.kind ≡ true }
     ensures progress { (front : List TokenOf) (low : ℕ) → IsOpen cursor.old.bytes.now (open_view pending.old) front low cursor.old.number cursor.old.at cursor.old.last →
+        (starts_so tables (sides pending.old.todo.items) token.kind ≡ false → IsA cursor.old.bytes.now (piece pending.old.reading) front → ⊥) →
         IsProgress cursor.old.bytes.now (piece pending.old.reading) pending.old.free front (spot_of cursor.old) (spot_of cursor.new) low cursor.new.number pending.new token result }
     ensures passed { IfOk result (λ progress. progress ≡ ThePassed → (spot_of cursor.new ≡ behind token) × IsSolid (sides pending.new.todo.items) × (pending.new.awaits ≡ pending.old.awaits)) }
     ensures begun { IfOk result (λ _. pending.new.begun ≡ pending.old.begun) }

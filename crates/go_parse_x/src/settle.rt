@@ -1,7 +1,7 @@
 // What the next token makes of all that is to be read.
-ghost use Rattle.std.specs.Prelude.{◌≡◌, ℕ, OnOk, IfOk, if◌then◌else◌};
+ghost use Rattle.std.specs.Prelude.{◌≡◌, ℕ, [], ◌∷◌, OnOk, IfOk, IfSome, IfNone, if◌then◌else◌};
 ghost use Rattle.go_parse_x.specs.declared.seen.Turn.TheVariants.{Astray as TheAstray, Stuck as TheStuck};
-ghost use Rattle.go_parse_x.specs.Lines.{sides};
+ghost use Rattle.go_parse_x.specs.Lines.{on_top, side, sides};
 ghost use Rattle.go_parse_x.specs.Opened.{frames, numbers, Rises};
 ghost use Rattle.go_parse_x.specs.Turns.{IsSound, IsSettled};
 
@@ -26,19 +26,46 @@ pub fn settle(
     ensures numbers { OnOk result ((low : ℕ) → Rises low (numbers opened.old.items) number.old → Rises low (numbers opened.new.items) number.new) }
 {
     let mut asked = false;
+    let mut next = None;
     loop {
-        match step(alloc, bytes, number, todo, opened, seen) {
-            Err(fault) => return Err(fault),
-            Ok(Turn::Turned) => {}
-            Ok(Turn::Asked) => asked = true,
-            Ok(Turn::Stuck) => return Ok(stuck(asked)),
+        let Some(place) = take(next, todo) else {
+            return Ok(stuck(asked));
+        };
+        let stepped = step(alloc, bytes, number, todo, opened, place, seen)?;
+        next = stepped.next;
+        match stepped.turn {
+            Turn::Turned => {}
+            Turn::Asked => asked = true,
+            Turn::Stuck => return Ok(stuck(asked)),
             // one step does not go astray
-            Ok(Turn::Astray) => return Ok(Turn::Astray),
-            Ok(Turn::Passed) => return Ok(Turn::Passed),
-            Ok(Turn::Unseen) => return Ok(Turn::Unseen),
-            Ok(Turn::AtBlock) => return Ok(Turn::AtBlock),
+            Turn::Astray => return Ok(Turn::Astray),
+            Turn::Unseen => return Ok(Turn::Unseen),
+            Turn::Passed => return put_back(next, todo, Turn::Passed),
+            Turn::AtBlock => return put_back(next, todo, Turn::AtBlock),
         }
     }
+}
+
+// What is to be read next.
+fn take(next: Option<Place>, todo: &mut Vec<Place>) -> Option<Place>
+    ensures some { IfSome result (λ place. on_top next (sides todo.old.items) ≡ side place ∷ sides todo.new.items) }
+    ensures none { IfNone result (on_top next (sides todo.old.items) ≡ []) }
+{
+    match next {
+        Some(place) => Some(place),
+        None => todo.pop(),
+    }
+}
+
+// The answer, where that is to be read before all that waits.
+fn put_back(next: Option<Place>, todo: &mut Vec<Place>, turn: Turn) -> Result<Turn, NoMemory>
+    ensures turn { IfOk result (λ so. so ≡ turn) }
+    ensures todo { OnOk result (sides todo.new.items ≡ on_top next (sides todo.old.items)) }
+{
+    if let Some(place) = next {
+        todo.push(place)?;
+    }
+    Ok(turn)
 }
 
 // Whether it is the token that cannot stand here, or the one behind it.

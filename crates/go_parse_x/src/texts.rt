@@ -22,7 +22,6 @@ use crate::fault::ParseFault;
 use crate::finish::finish;
 use crate::opened::last_node;
 use crate::pending::Pending;
-use crate::prediction::starts;
 use crate::progress::Progress;
 use crate::reader::one_token;
 use crate::seen::{Seen, Turn};
@@ -67,9 +66,6 @@ fn read_tokens(
             Err(lex) => return Err(ParseFault::Lexical(lex)),
             Ok(token) => token,
         };
-        if !starts(&pending.todo, token.kind) {
-            return Err(ParseFault::Syntax(token.start));
-        }
         if is_end(token.kind) {
             return last_token(alloc, cursor, pending, token);
         }

@@ -1,5 +1,5 @@
 // All that a file breaks by its form (Go specification, "Source file organization").
-ghost use Rattle.std.specs.Prelude.{◌≡◌, ◌++◌, ◌∷◌, false, OnOk, IfOk, map};
+ghost use Rattle.std.specs.Prelude.{◌≡◌, ◌++◌, [], ◌∷◌, false, IsTrue, OnOk, IfOk, map};
 ghost use Rattle.std.specs.List.{flat_map};
 ghost use Rattle.go_tree.specs.Scan.{Gap};
 ghost use Rattle.go_tree.specs.Tree.{tree_of, trees_of, start_of, parts_of};
@@ -54,10 +54,17 @@ fn broken_in(alloc: Global, node: &Node, found: &mut Vec<Broken>) -> Result<(), 
     ensures { OnOk result (found.new.items
         ≡ found.old.items ++ flat_map broken_at_node (written (tree_of node.now))) }
 {
-    if is_copy(node.kind()) {
+    if is_copy(node.kind()) || is_bare_name(node) {
         return Ok(());
     }
     broken_from(alloc, node, found)
+}
+
+// Whether it is a name, as most nodes are: nothing is broken there.
+fn is_bare_name(node: &Node) -> bool
+    ensures { IsTrue result → flat_map broken_at_node (written (tree_of node.now)) ≡ [] }
+{
+    node.is(NodeKind::Name) && node.parts().is_empty()
 }
 
 // Whether a node of that kind is the copy of a list that a constant spec omits.

@@ -1,11 +1,13 @@
-use Rattle.std.proofs.Common.{refl, ◌∙◌, None}
-use Rattle.go_parse_x.proofs.TurnLemmas.{sides_push, chosen_same, passed_by_same, alone_sure}
+use Rattle.std.proofs.Common.{refl, None}
+use Rattle.go_parse_x.proofs.TurnLemmas.{chosen_same, passed_by_same, alone_sure}
 use Rattle.go_parse_x.proofs.machine.when.Goals as goal
 
-pub returns-then-so-clause-turn : goal.returns-then-so-clause-turn
-returns-then-so-clause-turn c = λ bytes fs.
-    rw (c.in_ok-push-in-Some.ensures.items, sides_push) (chosen_same bytes c.args.seen None _ _ _ _ fs c.requires (λ ts a. c.in-Some.ensures.some c.args.seen.token ts refl ∙ c.if-so.true) (λ none. alone_sure c.args.asked c.args.seen.token _ _ _ c.in-Some.ensures.some))
+pub returns-in-Some-true-clause-turn : goal.returns-in-Some-true-clause-turn
+returns-in-Some-true-clause-turn c = λ bytes fs gs s.
+    let is = rw c.in-Some-true.field-0-test at c.in-Some-true.ensures.some in
+    rw (c.turned.ensures.turn, c.turned.ensures.next) (chosen_same bytes c.args.seen None _ _ _ gs fs s (λ ts a. is c.args.seen.token ts refl) (λ none. alone_sure c.args.asked c.args.seen.token _ _ _ is))
 
-pub returns-in_ok-push-in-Some-2-clause-turn : goal.returns-in_ok-push-in-Some-2-clause-turn
-returns-in_ok-push-in-Some-2-clause-turn c = λ bytes fs.
-    rw (c.in_ok-push-in-Some-2.ensures.items, sides_push) (passed_by_same bytes c.args.seen None _ _ _ _ fs c.requires (λ ts a. c.in-Some.ensures.some c.args.seen.token ts refl ∙ c.if-so.false) (λ none. alone_sure c.args.asked c.args.seen.token _ _ _ c.in-Some.ensures.some))
+pub returns-in-Some-false-clause-turn : goal.returns-in-Some-false-clause-turn
+returns-in-Some-false-clause-turn c = λ bytes fs gs s.
+    let is = rw c.in-Some-false.field-0-test at c.in-Some-false.ensures.some in
+    rw (c.turned-in-Some-false.ensures.turn, c.turned-in-Some-false.ensures.next) (passed_by_same bytes c.args.seen None _ _ _ gs fs s (λ ts a. is c.args.seen.token ts refl) (λ none. alone_sure c.args.asked c.args.seen.token _ _ _ is))

@@ -12,5 +12,5 @@ returns-in_default-clause-numbers c = λ low middle next h k.
 
 pub returns-clause-numbers : goal.returns-clause-numbers
 returns-clause-numbers c = λ low middle next h k.
-    let more : numbers c.push-2.new.self.items ≡ numbers c.args.opened.now.items ++ numbers_in (tree_of c.args.node) = simp (c.in-Some.ensures.items, c.in_ok-push-2.ensures.items, c.in_ok-push.ensures.items, numbers_push, numbers_among_push, append_assoc) refl in
+    let more : numbers c.push.new.self.items ≡ numbers c.args.opened.now.items ++ numbers_in (tree_of c.args.node) = simp (c.in-Some.ensures.items, c.in_ok-push.ensures.items, c.in_ok-push_part.ensures, numbers_push, numbers_among_push, append_assoc) refl in
     subst (λ ns. Rises low ns next) (sym more) (Rises-append low middle next (numbers c.args.opened.now.items) (numbers_in (tree_of c.args.node)) h k)

@@ -38,7 +38,7 @@ pub returns-in-Err-one_token-clause-answer : goal.returns-in-Err-one_token-claus
 returns-in-Err-one_token-clause-answer c = λ front low o.
     let i = c.loop-lex.invariant in
     let z = i.still_open front low o in
-    answer_behind _ _ _ _ _ _ front z.0 _ (spot_of c.loop-lex.cursor) _ low _ _ _ i.text.0 (ap piece i.same_piece.0) i.same_piece.1 z.1 z.2 (c.in-Err-one_token.ensures.progress (front ++ z.0) low z.3)
+    answer_behind _ _ _ _ _ _ front z.0 _ (spot_of c.loop-lex.cursor) _ low _ _ _ i.text.0 (ap piece i.same_piece.0) i.same_piece.1 z.1 z.2 (c.in-Err-one_token.ensures.progress (front ++ z.0) low z.3 (λ h a. absurd (let q = sym (c.is_last.ensures.no (rw c.if-is_last.false refl)).1 ∙ h in cc)))
 
 pub returns-in-Ok-AtBlock-clause-answer : goal.returns-in-Ok-AtBlock-clause-answer
 returns-in-Ok-AtBlock-clause-answer c = λ front low o.
@@ -46,7 +46,7 @@ returns-in-Ok-AtBlock-clause-answer c = λ front low o.
     let z = i.still_open front low o in
     let p = rw c.in-Ok-AtBlock.field-0-is at c.in-Ok-AtBlock.ensures.progress in
     answer_behind _ _ _ _ _ _ front z.0 _ (spot_of c.loop-lex.cursor) _ low _ _ _ i.text.0 (ap piece i.same_piece.0) i.same_piece.1 z.1 z.2
-    (block_answer _ (open_view c.loop-lex.pending) (piece_is c.loop-lex.pending.reading) (front ++ z.0) low _ (spot_of c.loop-lex.cursor) z.3 _ _ c.in-Ok.token _ (ap piece (sym c.in-Ok-AtBlock.ensures.piece.0)) (sym c.in-Ok-AtBlock.ensures.piece.1) (c.in-Ok-AtBlock.ensures.begun ∙ i.begun) (p (front ++ z.0) low z.3))
+    (block_answer _ (open_view c.loop-lex.pending) (piece_is c.loop-lex.pending.reading) (front ++ z.0) low _ (spot_of c.loop-lex.cursor) z.3 _ _ c.in-Ok.token _ (ap piece (sym c.in-Ok-AtBlock.ensures.piece.0)) (sym c.in-Ok-AtBlock.ensures.piece.1) (c.in-Ok-AtBlock.ensures.begun ∙ i.begun) (p (front ++ z.0) low z.3 (λ h a. absurd (let q = sym (c.is_last.ensures.no (rw c.if-is_last.false refl)).1 ∙ h in cc))))
 
 pub loop-lex-preserved : goal.loop-lex-preserved
 loop-lex-preserved c =
@@ -63,7 +63,7 @@ loop-lex-preserved c =
       same_piece = (d.piece.0 ∙ i.same_piece.0, d.piece.1 ∙ i.same_piece.1);
       still_open = λ front low o.
           let z = i.still_open front low o in
-          let w = p (front ++ z.0) low z.3 in
+          let w = p (front ++ z.0) low z.3 (λ h a. absurd (let q = sym no.1 ∙ h in cc)) in
           let x = open_behind _ _ _ (piece c.args.pending.now.reading) front z.0 c.in-Ok.token low _ _ (spot_of c.loop-lex.cursor) (spot_of c.one_token.new.cursor) i.text.0 (ap piece (d.piece.0 ∙ i.same_piece.0)) z.1 z.2 c.in-Ok.ensures.token no.0 w.0 (rw d.piece.0 (w.1 (ap hands (d.piece.0 ∙ i.same_piece.0) ∙ c.requires.piece))) w.2 in
           (x.0, x.1, x.2, rw d.text.0 x.3);
     }

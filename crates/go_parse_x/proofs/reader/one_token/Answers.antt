@@ -15,7 +15,7 @@ use Rattle.go_parse_x.proofs.AnswerLemmas.{memory_answer, on_ok, ok_alone, if_ok
 use Rattle.go_parse_x.proofs.reader.one_token.Goals as goal
 
 pub returns-in-Ok-Passed-clause-progress : goal.returns-in-Ok-Passed-clause-progress
-returns-in-Ok-Passed-clause-progress c = λ front low o.
+returns-in-Ok-Passed-clause-progress c = λ front low o no_piece.
     let v = open_view c.args.pending.now in
     let is = piece_is c.args.pending.now.reading in
     let s = spot_of c.args.cursor.now in
@@ -40,26 +40,26 @@ returns-in-Ok-Passed-clause-passed c =
     if_ok c.pass.result (λ a h q. (h.1, new, c.pass.ensures.stays.2)) c.pass.ensures.passed
 
 pub returns-in-Ok-Stuck-clause-progress : goal.returns-in-Ok-Stuck-clause-progress
-returns-in-Ok-Stuck-clause-progress c = λ front low o.
+returns-in-Ok-Stuck-clause-progress c = λ front low o no_piece.
     let t = rw c.in-Ok-Stuck.field-0-is at c.in-Ok-Stuck.ensures.turn in
-    stuck_answer _ (open_view c.args.pending.now) (piece_is c.args.pending.now.reading) front low _ (spot_of c.args.cursor.now) o _ _ _ refl c.requires.next t (solid_sound _ c.requires.solid) c.requires.starts
+    stuck_answer _ (open_view c.args.pending.now) (piece_is c.args.pending.now.reading) front low _ (spot_of c.args.cursor.now) o _ _ _ refl c.requires.next t (solid_sound _ c.requires.solid) no_piece
 
 pub returns-in-Ok-Astray-clause-progress : goal.returns-in-Ok-Astray-clause-progress
-returns-in-Ok-Astray-clause-progress c = λ front low o.
+returns-in-Ok-Astray-clause-progress c = λ front low o no_piece.
     let t = rw c.in-Ok-Astray.field-0-is at c.in-Ok-Astray.ensures.turn in
     astray_answer _ (open_view c.args.pending.now) (piece_is c.args.pending.now.reading) front low _ (spot_of c.args.cursor.now) o _ _ _ refl c.requires.next c.requires.more t.0 t.3 t.2
     (λ u w. let z = c.ahead.ensures.some t.0 t.1 in ap (λ (x : Token). x.kind) (one_next _ _ _ u z.0 w z.1) ∙ z.2)
     _ _ c.stray.ensures.stray
 
 pub returns-in-Ok-Unseen-clause-progress : goal.returns-in-Ok-Unseen-clause-progress
-returns-in-Ok-Unseen-clause-progress c = λ front low o.
+returns-in-Ok-Unseen-clause-progress c = λ front low o no_piece.
     let t = rw c.in-Ok-Unseen.field-0-is at c.in-Ok-Unseen.ensures.turn in
     stray_answer _ (open_view c.args.pending.now) (piece_is c.args.pending.now.reading) front low _ (spot_of c.args.cursor.now) o _ _ _ refl c.requires.next c.requires.more t.1
     (λ u w b. c.ahead.ensures.none t.0 t.1.asked u w)
     _ _ c.stray-in-Ok-Unseen.ensures.stray
 
 pub returns-in-Ok-AtBlock-clause-progress : goal.returns-in-Ok-AtBlock-clause-progress
-returns-in-Ok-AtBlock-clause-progress c = λ front low o.
+returns-in-Ok-AtBlock-clause-progress c = λ front low o no_piece.
     let v = open_view c.args.pending.now in
     let is = piece_is c.args.pending.now.reading in
     let s = spot_of c.args.cursor.now in
@@ -72,5 +72,5 @@ returns-in-Ok-AtBlock-clause-progress c = λ front low o.
     )) c.hand_over.ensures.fits)
 
 pub returns-in-Err-clause-progress : goal.returns-in-Err-clause-progress
-returns-in-Err-clause-progress c = λ front low o.
+returns-in-Err-clause-progress c = λ front low o no_piece.
     memory_answer _ (open_view c.args.pending.now) (piece_is c.args.pending.now.reading) front low _ (spot_of c.args.cursor.now) o _ _

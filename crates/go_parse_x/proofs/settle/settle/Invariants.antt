@@ -1,18 +1,18 @@
 use Rattle.std.proofs.Common.{ℕ}
-use Rattle.go_parse_x.specs.Lines.{sides}
+use Rattle.go_parse_x.specs.Lines.{on_top, sides}
 use Rattle.go_parse_x.specs.Opened.{frames, numbers, Rises}
 use Rattle.go_parse_x.specs.Turns.{IsSound, IsSame, IsMet}
 use Rattle.go_parse_x.specs.Weights.{cost}
 use Rattle.go_parse_x.proofs.SettleLemmas.{assumed_so}
 use Rattle.go_parse_x.proofs.settle.settle.Given as goal
 
-abbrev pub invariant-loop-fault : goal.invariant-loop-fault
-invariant-loop-fault l = record {
-  same : IsSame l.bytes l.seen (assumed_so l.seen l.asked) (sides l.fn.todo.items) (sides l.todo.items) (frames l.fn.opened.items) (frames l.opened.items);
+abbrev pub invariant-loop-place : goal.invariant-loop-place
+invariant-loop-place l = record {
+  same : IsSame l.bytes l.seen (assumed_so l.seen l.asked) (sides l.fn.todo.items) (on_top l.next (sides l.todo.items)) (frames l.fn.opened.items) (frames l.opened.items);
   met : IsMet l.bytes l.seen l.asked (sides l.fn.todo.items) (frames l.fn.opened.items);
-  sound : IsSound (sides l.todo.items);
+  sound : IsSound (on_top l.next (sides l.todo.items));
   numbers : (low : ℕ) → Rises low (numbers l.fn.opened.items) l.fn.number → Rises low (numbers l.opened.items) l.number;
 }
 
-abbrev pub decreases-loop-fault : goal.decreases-loop-fault
-decreases-loop-fault l = cost (sides l.todo.items)
+abbrev pub decreases-loop-place : goal.decreases-loop-place
+decreases-loop-place l = cost (on_top l.next (sides l.todo.items))

@@ -1,0 +1,1 @@
+use Rattle.gocheck.proofs.form.whole.is_bare_name.Goals as goal
