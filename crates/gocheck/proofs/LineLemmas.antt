@@ -8,8 +8,8 @@ use Rattle.go_tree.specs.declared.node.Node.{Node}
 use Rattle.go_tree.specs.Tree.{Tree, branch, trees_of, tree_of, parts_of, start_of, node_count, node_count_of_all}
 use Rattle.go_tree.proofs.TreeLemmas.{part_within}
 use Rattle.gocheck.specs.declared.line.Line.{Line}
-use Rattle.gocheck.specs.Resolution.{name_of, value_of, names_of, resolve}
-use Rattle.gocheck.specs.Records.{Headers}
+use Rattle.go_model.specs.Resolution.{name_of, value_of, names_of, resolve}
+use Rattle.go_model.specs.Records.{Headers}
 use Rattle.gocheck.specs.Report.{defs_from, declared_at, uses_in, exprs_in, lines_of}
 
 -- a walk from the back: what is pushed is the reverse of what is done

@@ -17,8 +17,8 @@ use Rattle.go_tree.specs.declared.node.Node.{Node}
 use Rattle.go_tree.specs.declared.node_kind.NodeKind.TheVariants.{Name}
 use Rattle.go_tree.specs.Tree.{Tree, branch, Trees, no_trees, more_trees, tree_of, text_of}
 use Rattle.gocheck.specs.Names.{has_name, with_name, distinct}
-use Rattle.gocheck.specs.Resolution.{name_of, value_of, names_of, same_text, resolve}
-use Rattle.gocheck.specs.Rules.{is_repeated, repeated_at, repeated, undeclared_at, undeclared_in, undeclared_among, undeclared}
+use Rattle.go_model.specs.Resolution.{name_of, value_of, names_of, same_text, resolve}
+use Rattle.go_model.specs.Rules.{is_repeated, repeated_at, repeated, undeclared_at, undeclared_in, undeclared_among, undeclared}
 
 same_truth : (a b : Bool) → (a ≡ true → b ≡ true) → (b ≡ true → a ≡ true) → a ≡ b
 same_truth true b there back = sym (there refl)

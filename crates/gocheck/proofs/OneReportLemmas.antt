@@ -8,16 +8,17 @@ use Rattle.go_parse_x.specs.declared.fault.ParseFault.TheVariants.{NoMemory}
 use Rattle.go_parse_s.specs.Files.{IsFileOf, IsFaultOf}
 use Rattle.go_parse_s.proofs.LawLemmas.{one_file_lem, one_fault_lem, file_or_fault_lem}
 use Rattle.go_tree.specs.Tree.{Tree, text_of}
-use Rattle.gocheck.specs.Fault.{broken_by}
-use Rattle.gocheck.specs.FormRules.Order.{IsListOf}
-use Rattle.gocheck.specs.FormRules.Whole.{AreBrokenForms}
-use Rattle.gocheck.specs.Resolution.{first_part, constants_of, names_of}
-use Rattle.gocheck.specs.Records.{Headers}
-use Rattle.gocheck.specs.Rules.{broken_names, broken_values}
-use Rattle.gocheck.specs.Waiting.{Chain}
+use Rattle.go_model.specs.Fault.{broken_by}
+use Rattle.go_model.specs.FormRules.Order.{IsListOf}
+use Rattle.go_model.specs.FormRules.Whole.{AreBrokenForms}
+use Rattle.go_model.specs.declared.built.Built.TheVariants.{Constants}
+use Rattle.go_model.specs.Resolution.{first_part, constants_of, names_of}
+use Rattle.go_model.specs.Records.{Headers}
+use Rattle.go_model.specs.Rules.{broken_names, broken_values}
+use Rattle.go_model.specs.Waiting.{Chain}
 use Rattle.gocheck.specs.Report.{Report, refused, refused_package, first_number, lines_of, values_report, ValuesReport, PackageReport, by_names, by_values, ReportOf, too_long, no_tree, broken_form, read}
-use Rattle.gocheck.proofs.BrokenListLemmas.{one_list, none_of_none}
-use Rattle.gocheck.proofs.WholeLemmas.{one_list_of_forms}
+use Rattle.go_model.proofs.BrokenListLemmas.{one_list, none_of_none}
+use Rattle.go_model.proofs.WholeLemmas.{one_list_of_forms}
 
 same_option : (x y : Option ℤ) → ((h : ℤ) → x ≡ Some h → y ≡ Some h) → ((h : ℤ) → y ≡ Some h → x ≡ Some h) → x ≡ y
 same_option None None f g = refl
@@ -67,8 +68,8 @@ module _ (bytes : List ℕ) where
       let one : b ≡ c = cc equal in
       ap (λ (x : Broken). refused (x ∷ [])) one
 
-  no_forms : (t : Tree) (b : Broken) (bs : List Broken) → AreBrokenForms bytes t (b ∷ bs) → AreBrokenForms bytes t [] → ⊥
-  no_forms t b bs some none = let same = one_list_of_forms bytes t (b ∷ bs) [] some none in cc same
+  no_forms : (t : Tree) (b : Broken) (bs : List Broken) → AreBrokenForms Constants bytes t (b ∷ bs) → AreBrokenForms Constants bytes t [] → ⊥
+  no_forms t b bs some none = let same = one_list_of_forms Constants bytes t (b ∷ bs) [] some none in cc same
 
   one_tree : (t u : Tree) → IsFileOf bytes first_number t → IsFileOf bytes first_number u → u ≡ t
   one_tree t u i j = one_file_lem bytes first_number u t j i
@@ -86,11 +87,11 @@ module _ (bytes : List ℕ) where
   one_report a b (broken_form t d ds x i k) (too_long y) = absurd (omega arith)
   one_report a b (broken_form t d ds x i k) (no_tree g c y w q) = absurd (no_tree_beside t g c i w q)
   one_report a b (broken_form t d ds x i k) (broken_form u c cs y j l) =
-      let there = subst (λ (tree : Tree). AreBrokenForms bytes tree (c ∷ cs)) (one_tree t u i j) l in
-      ap refused (one_list_of_forms bytes t (d ∷ ds) (c ∷ cs) k there)
-  one_report a b (broken_form t d ds x i k) (read u s y j m q) = absurd (no_forms t d ds k (subst (λ (tree : Tree). AreBrokenForms bytes tree []) (one_tree t u i j) m))
+      let there = subst (λ (tree : Tree). AreBrokenForms Constants bytes tree (c ∷ cs)) (one_tree t u i j) l in
+      ap refused (one_list_of_forms Constants bytes t (d ∷ ds) (c ∷ cs) k there)
+  one_report a b (broken_form t d ds x i k) (read u s y j m q) = absurd (no_forms t d ds k (subst (λ (tree : Tree). AreBrokenForms Constants bytes tree []) (one_tree t u i j) m))
   one_report a b (read t r x i n p) (too_long y) = absurd (omega arith)
   one_report a b (read t r x i n p) (no_tree g c y w q) = absurd (no_tree_beside t g c i w q)
-  one_report a b (read t r x i n p) (broken_form u c cs y j l) = absurd (no_forms t c cs (subst (λ (tree : Tree). AreBrokenForms bytes tree (c ∷ cs)) (one_tree t u i j) l) n)
+  one_report a b (read t r x i n p) (broken_form u c cs y j l) = absurd (no_forms t c cs (subst (λ (tree : Tree). AreBrokenForms Constants bytes tree (c ∷ cs)) (one_tree t u i j) l) n)
   one_report a b (read t r x i n p) (read u s y j m q) =
       one_of_package (text_of (first_part t)) (constants_of t) r s p (subst (λ (tree : Tree). PackageReport (text_of (first_part tree)) (constants_of tree) s) (one_tree t u i j) q)

@@ -8,7 +8,7 @@ use Rattle.go_tree.specs.declared.node.Node.TheViews.{out-Node}
 use Rattle.go_tree.specs.declared.node_kind.NodeKind.TheVariants.{ConstDecl}
 use Rattle.go_tree.specs.Tree.{Tree, branch, no_trees, more_trees, trees_of, list_of, tree_of, kind_of, parts_of}
 use Rattle.go_tree.proofs.TreeLemmas.{tree_of-out, list_of-trees_of}
-use Rattle.gocheck.specs.Resolution.{first_part, last_of, last_part, constant_in, constants_of}
+use Rattle.go_model.specs.Resolution.{first_part, last_of, last_part, constant_in, constants_of}
 
 pub first_part-none : (t : Tree) → trees_of [] ≡ parts_of t → first_part t ≡ t
 first_part-none (branch id from to kind text no_trees) e = refl

@@ -5,16 +5,17 @@ use Rattle.go_base.specs.declared.rule.Broken.{Broken}
 use Rattle.go_tree.specs.Tree.{Tree}
 use Rattle.gocheck.specs.declared.line.Line.{Line}
 use Rattle.go_parse_s.specs.Files.{IsFileOf}
-use Rattle.gocheck.specs.FormRules.Order.{IsListOf}
-use Rattle.gocheck.specs.FormRules.Whole.{AreBrokenForms}
-use Rattle.gocheck.specs.Headers.{Known}
-use Rattle.gocheck.specs.Records.{Headers}
-use Rattle.gocheck.specs.Resolution.{names_of}
-use Rattle.gocheck.specs.Rules.{broken_names, broken_values}
-use Rattle.gocheck.proofs.BrokenListLemmas.{none_found}
+use Rattle.go_model.specs.FormRules.Order.{IsListOf}
+use Rattle.go_model.specs.FormRules.Whole.{AreBrokenForms}
+use Rattle.go_model.specs.declared.built.Built.TheVariants.{Constants}
+use Rattle.go_model.specs.Headers.{Known}
+use Rattle.go_model.specs.Records.{Headers}
+use Rattle.go_model.specs.Resolution.{names_of}
+use Rattle.go_model.specs.Rules.{broken_names, broken_values}
+use Rattle.go_model.proofs.BrokenListLemmas.{none_found}
 use Rattle.gocheck.specs.Table.{slot_of}
-use Rattle.gocheck.specs.Marks.{is_marked}
-use Rattle.gocheck.specs.Waiting.{Chain}
+use Rattle.go_load.specs.Marks.{is_marked}
+use Rattle.go_model.specs.Waiting.{Chain}
 use Rattle.gocheck.specs.Report.{accepted, refused, refused_package, lines_of, values_report, ValuesReport, PackageReport, by_names, ReportOf, broken_form, most_bytes, first_number}
 
 pub if_ok-map : {A E : Type 0} (r : Result A E) (P Q : A → Type 0) → ((x : A) → P x → Q x) → IfOk r P → IfOk r Q
@@ -57,7 +58,7 @@ pub refused_names : (name : List ℕ) (constants : List Tree) (list : List Broke
 refused_names name constants [] i some = absurd (some refl)
 refused_names name constants (b ∷ bs) i some = by_names b bs i
 
-pub refused_form : (bytes : List ℕ) (tree : Tree) (list : List Broken) → length bytes ≤ most_bytes → IsFileOf bytes first_number tree → AreBrokenForms bytes tree list → list ≢ [] → ReportOf bytes (refused list)
+pub refused_form : (bytes : List ℕ) (tree : Tree) (list : List Broken) → length bytes ≤ most_bytes → IsFileOf bytes first_number tree → AreBrokenForms Constants bytes tree list → list ≢ [] → ReportOf bytes (refused list)
 refused_form bytes tree [] size is_tree i some = absurd (some refl)
 refused_form bytes tree (b ∷ bs) size is_tree i some = broken_form tree b bs size is_tree i
 

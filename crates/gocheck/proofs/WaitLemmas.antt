@@ -8,12 +8,13 @@ use Rattle.go_tree.specs.declared.node.Node.{Node}
 use Rattle.go_tree.specs.declared.node_kind.NodeKind.TheVariants.{AddExpr, Name, IntLit}
 use Rattle.go_tree.specs.Tree.{Tree, branch, Trees, no_trees, more_trees, trees_of, tree_of, kind_of, text_of, parts_of, node_count, node_count_of_all}
 use Rattle.go_tree.proofs.TreeLemmas.{part_within}
-use Rattle.gocheck.specs.Resolution.{same_text}
-use Rattle.gocheck.specs.Resolution.{name_of, value_of, names_of, resolve}
-use Rattle.gocheck.specs.Records.{Headers, record_of}
-use Rattle.gocheck.specs.Tests.{name_test, sum_test, test_of}
-use Rattle.gocheck.specs.Waiting.{lacked, lacked_in, lacked_among, Waits, Chain, one, more}
-use Rattle.gocheck.specs.Marks.{Graph, lacking, HasEdge, Path, edge, further, IsGraph}
+use Rattle.go_model.specs.Resolution.{same_text}
+use Rattle.go_model.specs.Resolution.{name_of, value_of, names_of, resolve}
+use Rattle.go_model.specs.Records.{Headers, record_of}
+use Rattle.go_model.specs.Tests.{name_test, sum_test, test_of}
+use Rattle.go_model.specs.Waiting.{lacked, lacked_in, lacked_among, Waits, Chain, one, more}
+use Rattle.go_model.specs.Graph.{Graph, HasEdge, Path, edge, further, IsGraph}
+use Rattle.gocheck.specs.Lacking.{lacking}
 
 count-parts : (t : Tree) → node_count t ≡ 1 + node_count_of_all (parts_of t)
 count-parts (branch id from to kind text parts) = refl

@@ -2,10 +2,10 @@
 use Rattle.std.proofs.Common.{◌≡◌, ℕ, ℤ, Option, Some, None, List, [], refl}
 use Rattle.go_tree.specs.declared.node_kind.NodeKind.TheVariants.{AddExpr, Name, IntLit}
 use Rattle.go_tree.specs.Tree.{Tree, branch, no_trees, more_trees, kind_of, parts_of}
-use Rattle.gocheck.specs.Resolution.{resolve}
-use Rattle.gocheck.specs.Records.{Headers}
-use Rattle.gocheck.specs.Tests.{name_test, test_of}
-use Rattle.gocheck.specs.Rules.{wide_at}
+use Rattle.go_model.specs.Resolution.{resolve}
+use Rattle.go_model.specs.Records.{Headers}
+use Rattle.go_model.specs.Tests.{name_test, test_of}
+use Rattle.go_model.specs.Rules.{wide_at}
 
 -- a name is not wide
 wide_at-header : (headers : Headers) (from d : ℕ) (h : Option ℤ) → headers d ≡ h → wide_at from (Some (name_test headers (Some d))) ≡ []

@@ -2,7 +2,7 @@
 -- Says which list names leave that are added one after another.
 use Rattle.std.specs.Prelude.{ℕ, Bool, if◌then◌else◌, List, [], ◌∷◌, ◌++◌, fold}
 use Rattle.std.specs.List.{list_any}
-use Rattle.gocheck.specs.Resolution.{same_text}
+use Rattle.go_model.specs.Resolution.{same_text}
 
 abbrev pub has_name : List (List ℕ) → List ℕ → Bool
 has_name names name = list_any (same_text name) names

@@ -11,16 +11,17 @@ use Rattle.gocheck.specs.declared.line.Line.{Line}
 use Rattle.gocheck.specs.declared.line.Line.TheVariants.{Def, Use, Expr}
 use Rattle.go_parse_x.specs.declared.fault.ParseFault.{ParseFault}
 use Rattle.go_parse_s.specs.Files.{IsFileOf, IsFaultOf}
-use Rattle.gocheck.specs.Fault.{broken_by}
-use Rattle.gocheck.specs.Broken.{broken_at}
-use Rattle.gocheck.specs.FormRules.Order.{IsListOf}
-use Rattle.gocheck.specs.FormRules.RuleNames.{unbuilt_form_rule}
-use Rattle.gocheck.specs.FormRules.Whole.{AreBrokenForms}
-use Rattle.gocheck.specs.Resolution.{first_part, name_of, value_of, constants_of, names_of, resolve}
-use Rattle.gocheck.specs.Records.{Headers, record_of}
-use Rattle.gocheck.specs.Headers.{Known}
-use Rattle.gocheck.specs.Waiting.{Chain}
-use Rattle.gocheck.specs.Rules.{broken_names, broken_values}
+use Rattle.go_model.specs.declared.built.Built.TheVariants.{Constants}
+use Rattle.go_model.specs.Fault.{broken_by}
+use Rattle.go_model.specs.Broken.{broken_at}
+use Rattle.go_model.specs.FormRules.Order.{IsListOf}
+use Rattle.go_model.specs.FormRules.RuleNames.{unbuilt_form_rule}
+use Rattle.go_model.specs.FormRules.Whole.{AreBrokenForms}
+use Rattle.go_model.specs.Resolution.{first_part, name_of, value_of, constants_of, names_of, resolve}
+use Rattle.go_model.specs.Records.{Headers, record_of}
+use Rattle.go_model.specs.Headers.{Known}
+use Rattle.go_model.specs.Waiting.{Chain}
+use Rattle.go_model.specs.Rules.{broken_names, broken_values}
 
 -- a line for each constant, from the constant d on
 abbrev pub defs_from : Headers → ℕ → List Tree → List Line
@@ -93,5 +94,5 @@ first_number = 45
 pub data ReportOf (bytes : List ℕ) : Report → Type 0 where
   too_long : most_bytes < length bytes → ReportOf bytes (refused (broken_at 0 unbuilt_form_rule ∷ []))
   no_tree : (fault : ParseFault) (b : Broken) → length bytes ≤ most_bytes → IsFaultOf bytes fault → broken_by fault ≡ Some b → ReportOf bytes (refused (b ∷ []))
-  broken_form : (tree : Tree) (b : Broken) (bs : List Broken) → length bytes ≤ most_bytes → IsFileOf bytes first_number tree → AreBrokenForms bytes tree (b ∷ bs) → ReportOf bytes (refused (b ∷ bs))
-  read : (tree : Tree) (report : Report) → length bytes ≤ most_bytes → IsFileOf bytes first_number tree → AreBrokenForms bytes tree [] → PackageReport (text_of (first_part tree)) (constants_of tree) report → ReportOf bytes report
+  broken_form : (tree : Tree) (b : Broken) (bs : List Broken) → length bytes ≤ most_bytes → IsFileOf bytes first_number tree → AreBrokenForms Constants bytes tree (b ∷ bs) → ReportOf bytes (refused (b ∷ bs))
+  read : (tree : Tree) (report : Report) → length bytes ≤ most_bytes → IsFileOf bytes first_number tree → AreBrokenForms Constants bytes tree [] → PackageReport (text_of (first_part tree)) (constants_of tree) report → ReportOf bytes report

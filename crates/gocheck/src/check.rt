@@ -4,16 +4,15 @@ ghost use Rattle.go_tree.specs.Scan.{Gap};
 ghost use Rattle.go_tree.specs.Tree.{start_of, text_of, tree_of};
 ghost use Rattle.go_parse_s.specs.Files.{IsFileOf};
 ghost use Rattle.gocheck.specs.Report.{PackageReport, refused, ReportOf, most_bytes, first_number};
-ghost use Rattle.gocheck.specs.Resolution as resolution;
+ghost use Rattle.go_model.specs.Resolution as resolution;
 ghost use Rattle.gocheck.specs.View.{report_view};
 
-use crate::broken::{breaks_none, broken_at};
 use crate::constants::check_constants;
-use crate::fault::broken_by;
-use crate::form::whole::broken_forms;
 use crate::parts::{constants_of, first_part};
 use crate::report::Report;
 use go_base::{Broken, Bytes, NoMemory, UNBUILT_FORM};
+use go_load::{breaks_none, broken_at, broken_by, broken_forms};
+use go_model::Built;
 use go_parse_s::parse_file;
 use go_tree::{Node, NodeId};
 use std::alloc::Global;
@@ -44,7 +43,7 @@ fn check_tree(alloc: Global, bytes: &[u8], root: Node) -> Result<Report, NoMemor
     requires start { Gap false bytes.now 0 (start_of (tree_of root)) }
     ensures { IfOk result (λ report. ReportOf bytes.now (report_view report)) }
 {
-    let list = broken_forms(alloc, bytes, &root)?;
+    let list = broken_forms(alloc, Built::Constants, bytes, &root)?;
     if breaks_none(&list) {
         check_package(alloc, root)
     } else {

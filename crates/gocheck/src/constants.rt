@@ -1,15 +1,13 @@
 // The check of the constants of a package.
 ghost use Rattle.std.specs.Prelude.{◌≡◌, ◌≢◌, true, false, [], IfOk, map};
 ghost use Rattle.go_tree.specs.Tree.{tree_of};
-ghost use Rattle.gocheck.specs.FormRules.Order.{IsListOf};
+ghost use Rattle.go_model.specs.FormRules.Order.{IsListOf};
 ghost use Rattle.gocheck.specs.Names.{distinct};
 ghost use Rattle.gocheck.specs.Report.{PackageReport, ValuesReport};
-ghost use Rattle.gocheck.specs.Resolution.{names_of};
-ghost use Rattle.gocheck.specs.Rules as rules;
+ghost use Rattle.go_model.specs.Resolution.{names_of};
+ghost use Rattle.go_model.specs.Rules as rules;
 ghost use Rattle.gocheck.specs.View.{report_view};
 
-use crate::broken::breaks_none;
-use crate::form::order::ordered;
 use crate::headers::headers;
 use crate::names::Names;
 use crate::repeated::repeated;
@@ -19,6 +17,7 @@ use crate::undeclared::push_undeclared;
 use crate::values::broken_values;
 use crate::waits::cyclic_constants;
 use go_base::{Broken, Bytes, NoMemory};
+use go_load::{breaks_none, ordered};
 use go_tree::Node;
 use std::alloc::Global;
 

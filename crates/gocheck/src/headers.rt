@@ -1,8 +1,8 @@
 // The headers of constants, found in rounds (Go specification, "Constant declarations").
 ghost use Rattle.std.specs.Prelude.{◌≡◌, ◌<◌, ◌↔◌, ℕ, ℤ, Some, false, length, map, IfOk, IsTrue};
 ghost use Rattle.go_tree.specs.Tree.{tree_of};
-ghost use Rattle.gocheck.specs.Resolution.{names_of};
-ghost use Rattle.gocheck.specs.Headers.{Known};
+ghost use Rattle.go_model.specs.Resolution.{names_of};
+ghost use Rattle.go_model.specs.Headers.{Known};
 ghost use Rattle.gocheck.specs.Table.{slot_of, IsBacked, IsSettled, open_count};
 
 use crate::names::Names;

@@ -1,27 +1,6 @@
-// Laws of the maps of headers, which hold of every map, and of the report of a file.
+// A law of the report of a file: the contract of a function that does nothing.
 ghost use Rattle.std.specs.Prelude.{◌≡◌, ℕ, List};
-ghost use Rattle.go_tree.specs.Tree.{Tree};
-ghost use Rattle.gocheck.specs.Records.{Headers};
-ghost use Rattle.gocheck.specs.Laws.{IsPart, DecidedStays, RecordsStay, OneHeader};
 ghost use Rattle.gocheck.specs.Report.{Report, ReportOf};
-
-/// A test that is decided over some headers is decided alike over more, and one that lacks a header
-/// lacks it as long as it is missing.
-pub fn decided_stays()
-    ensures { (names : List (List ℕ)) (known more : Headers) → IsPart known more
-        → (t : Tree) → DecidedStays names known more t }
-{}
-
-/// A record over some headers is the record over more.
-pub fn records_stay()
-    ensures { (names : List (List ℕ)) (known more : Headers) → IsPart known more
-        → RecordsStay names known more }
-{}
-
-/// A constant has at most one header.
-pub fn one_header()
-    ensures { (constants : List Tree) → OneHeader constants }
-{}
 
 /// A file has at most one report.
 pub fn one_report()

@@ -1,15 +1,12 @@
 //! `gocheck ROOT`: checks the Go file `a.go` below ROOT and prints its report.
 #![tactic(auto)]
 
-mod broken;
 mod check;
 mod constants;
 mod cycles;
-mod fault;
 mod fields;
 mod folder;
 mod folder_list;
-mod form;
 mod headers;
 mod laws;
 mod line;

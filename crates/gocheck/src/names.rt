@@ -2,7 +2,7 @@
 ghost use Rattle.std.specs.Prelude.{◌≡◌, [], not, IfOk, OnOk, map};
 ghost use Rattle.go_tree.specs.Tree.{tree_of};
 ghost use Rattle.gocheck.specs.Names.{has_name, with_name, distinct};
-ghost use Rattle.gocheck.specs.Resolution.{names_of, resolve};
+ghost use Rattle.go_model.specs.Resolution.{names_of, resolve};
 
 use crate::parts::name_of;
 use go_base::NoMemory;

@@ -1,7 +1,7 @@
 // The parts of files and declarations.
 ghost use Rattle.std.specs.Prelude.{◌≡◌, ◌≢◌, ◌∷◌, ◌++◌, [], IfOk, OnOk, IfSome, IfNone, length, map, option_to_list};
 ghost use Rattle.go_tree.specs.Tree.{tree_of, trees_of, parts_of};
-ghost use Rattle.gocheck.specs.Resolution as resolution;
+ghost use Rattle.go_model.specs.Resolution as resolution;
 
 use go_base::NoMemory;
 use go_tree::{Node, NodeKind};

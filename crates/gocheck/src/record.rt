@@ -2,7 +2,7 @@
 ghost use Rattle.std.specs.Prelude.{◌≡◌, IfSome, IfNone};
 ghost use Rattle.go_tree.specs.Tree.{Tree, tree_of, kind_of, parts_of, more_trees, no_trees};
 ghost use Rattle.go_tree.specs.declared.node_kind.NodeKind.TheVariants as node_kind;
-ghost use Rattle.gocheck.specs.Records.{record_of, sum_of};
+ghost use Rattle.go_model.specs.Records.{record_of, sum_of};
 ghost use Rattle.gocheck.specs.Table.{slot_of};
 
 use crate::names::Names;

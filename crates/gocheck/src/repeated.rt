@@ -2,15 +2,15 @@
 ghost use Rattle.std.specs.Prelude.{◌≡◌, ◌∷◌, ◌++◌, [], ℕ, List, IfOk, OnOk, map, if◌then◌else◌};
 ghost use Rattle.go_tree.specs.Tree.{tree_of, start_of};
 ghost use Rattle.gocheck.specs.Names.{has_name};
-ghost use Rattle.gocheck.specs.Resolution.{names_of};
-ghost use Rattle.gocheck.specs.Broken as of_file;
-ghost use Rattle.gocheck.specs.Rules as rules;
-ghost use Rattle.gocheck.specs.Rules.{is_repeated, repeated_name};
+ghost use Rattle.go_model.specs.Resolution.{names_of};
+ghost use Rattle.go_model.specs.Broken as of_file;
+ghost use Rattle.go_model.specs.Rules as rules;
+ghost use Rattle.go_model.specs.Rules.{is_repeated, repeated_name};
 
-use crate::broken::broken_at;
 use crate::names::Names;
 use crate::parts::name_of;
 use go_base::{Broken, NoMemory, REPEATED_NAME};
+use go_load::broken_at;
 use go_tree::Node;
 use std::alloc::Global;
 

@@ -3,14 +3,14 @@ ghost use Rattle.std.specs.Prelude.{◌≡◌, ◌++◌, OnOk, map};
 ghost use Rattle.std.specs.List.{flat_map};
 ghost use Rattle.go_tree.specs.Tree.{tree_of, start_of};
 ghost use Rattle.gocheck.specs.Names.{distinct};
-ghost use Rattle.gocheck.specs.Resolution.{names_of};
-ghost use Rattle.gocheck.specs.Rules.{undeclared_at, undeclared_in};
-ghost use Rattle.gocheck.specs.Rules as rules;
+ghost use Rattle.go_model.specs.Resolution.{names_of};
+ghost use Rattle.go_model.specs.Rules.{undeclared_at, undeclared_in};
+ghost use Rattle.go_model.specs.Rules as rules;
 
-use crate::broken::broken_at;
 use crate::names::Names;
 use crate::parts::value_of;
 use go_base::{Broken, NoMemory, UNDECLARED_NAME};
+use go_load::broken_at;
 use go_tree::{Node, NodeKind};
 
 /// Pushes the rule P7 at each identifier of an expression that is none of the names, in source order.

@@ -1,16 +1,16 @@
 // The rules that constants break by their values.
 ghost use Rattle.std.specs.Prelude.{◌≡◌, ◌++◌, IfOk, OnOk, map};
 ghost use Rattle.go_tree.specs.Tree.{tree_of};
-ghost use Rattle.gocheck.specs.Rules.{cyclic_at};
-ghost use Rattle.gocheck.specs.Rules as rules;
+ghost use Rattle.go_model.specs.Rules.{cyclic_at};
+ghost use Rattle.go_model.specs.Rules as rules;
 ghost use Rattle.gocheck.specs.Table.{slot_of};
-ghost use Rattle.gocheck.specs.Marks as marking;
+ghost use Rattle.go_load.specs.Marks as marking;
 
-use crate::broken::broken_at;
 use crate::names::Names;
 use crate::parts::{name_of, value_of};
 use crate::wide::push_wide;
 use go_base::{Broken, CYCLIC_DECLARATION, NoMemory};
+use go_load::broken_at;
 use go_tree::Node;
 use std::alloc::Global;
 

@@ -1,11 +1,13 @@
 // Which constant waits for the header of which (Go specification, "Constant declarations").
 ghost use Rattle.std.specs.Prelude.{option_to_list, ◌≡◌, ◌++◌, ◌↔◌, ℕ, true, IfOk, OnOk, length, map};
 ghost use Rattle.go_tree.specs.Tree.{tree_of};
-ghost use Rattle.gocheck.specs.Resolution.{names_of};
+ghost use Rattle.go_model.specs.Resolution.{names_of};
 ghost use Rattle.gocheck.specs.Table.{slot_of};
-ghost use Rattle.gocheck.specs.Tests.{test_of};
-ghost use Rattle.gocheck.specs.Waiting.{Chain, lacked, lacked_in};
-ghost use Rattle.gocheck.specs.Marks.{is_marked, lacking, rows_of};
+ghost use Rattle.go_model.specs.Tests.{test_of};
+ghost use Rattle.go_model.specs.Waiting.{Chain, lacked, lacked_in};
+ghost use Rattle.go_model.specs.Graph.{graph_of};
+ghost use Rattle.go_load.specs.Marks.{is_marked};
+ghost use Rattle.gocheck.specs.Lacking.{lacking};
 
 use crate::cycles::cyclic;
 use crate::names::Names;
@@ -39,7 +41,7 @@ pub fn waits_of(
     constants: &[Node],
 ) -> Result<Vec<Vec<usize>>, NoMemory>
     ensures { IfOk result (λ waits.
-        rows_of waits.items ≡ lacking names.now (slot_of table.now) (map tree_of constants.now)) }
+        graph_of waits.items ≡ lacking names.now (slot_of table.now) (map tree_of constants.now)) }
 {
     let mut waits = Vec::new(alloc);
     for constant in constants {

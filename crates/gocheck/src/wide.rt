@@ -4,15 +4,15 @@ ghost use Rattle.go_tree.specs.Tree.{Tree, tree_of, trees_of, start_of, text_of,
 ghost use Rattle.go_num.specs.Arithmetic.{limited};
 ghost use Rattle.go_tree.specs.declared.node_kind.NodeKind.TheVariants as node_kind;
 ghost use Rattle.go_tree.specs.LiteralValues.{int_lit_value};
-ghost use Rattle.gocheck.specs.Records.{record_of, sum_of};
-ghost use Rattle.gocheck.specs.Rules.{wide_in, wide_among, wide_at};
+ghost use Rattle.go_model.specs.Records.{record_of, sum_of};
+ghost use Rattle.go_model.specs.Rules.{wide_in, wide_among, wide_at};
 ghost use Rattle.gocheck.specs.Table.{slot_of};
-ghost use Rattle.gocheck.specs.Tests.{Decided, test_of, sum_test};
+ghost use Rattle.go_model.specs.Tests.{Decided, test_of, sum_test};
 
-use crate::broken::broken_at;
 use crate::names::Names;
 use crate::record::{operands, parenthesized, record, sum};
 use go_base::{Broken, NoMemory, WIDE_INTEGER};
+use go_load::broken_at;
 use go_scan::int_lit_value;
 use go_tree::{Node, NodeKind};
 

@@ -3,7 +3,7 @@ use Rattle.std.specs.Prelude.{IfOk}
 use Rattle.go_tree.specs.Tree.{Tree, tree_of, text_of}
 use Rattle.gocheck.specs.declared.report.Report.{Report as Own}
 use Rattle.gocheck.specs.Report.{PackageReport}
-use Rattle.gocheck.specs.Resolution.{first_part}
+use Rattle.go_model.specs.Resolution.{first_part}
 use Rattle.gocheck.specs.View.{report_view}
 use Rattle.gocheck.proofs.check.check_package.Goals as goal
 

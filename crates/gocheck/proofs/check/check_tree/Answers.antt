@@ -1,9 +1,10 @@
 use Rattle.std.proofs.Common.{◌≡◌, ◌≢◌, ◌∙◌, [], subst}
 use Rattle.go_tree.specs.Tree.{tree_of, text_of}
 use Rattle.gocheck.specs.declared.report.Report.{Report as Own}
-use Rattle.gocheck.specs.FormRules.Whole.{AreBrokenForms}
+use Rattle.go_model.specs.FormRules.Whole.{AreBrokenForms}
+use Rattle.go_model.specs.declared.built.Built.TheVariants.{Constants}
 use Rattle.gocheck.specs.Report.{PackageReport, ReportOf, read}
-use Rattle.gocheck.specs.Resolution.{first_part, constants_of}
+use Rattle.go_model.specs.Resolution.{first_part, constants_of}
 use Rattle.gocheck.specs.View.{report_view}
 use Rattle.gocheck.proofs.ReportLemmas.{if_ok-map, refused_form}
 use Rattle.gocheck.proofs.check.check_tree.Goals as goal
@@ -12,7 +13,7 @@ pub returns-then-breaks_none : goal.returns-then-breaks_none
 returns-then-breaks_none c =
     let tree = tree_of c.args.root in
     let none : c.in_ok-list.list.items ≡ [] = cc (c.breaks_none.ensures.none c.if-breaks_none.true, c.deref.ensures.value) in
-    let sound = subst (AreBrokenForms c.args.bytes.now tree) none c.in_ok-list.ensures in
+    let sound = subst (AreBrokenForms Constants c.args.bytes.now tree) none c.in_ok-list.ensures in
     if_ok-map c.check_package.result (λ (r : Own). PackageReport (text_of (first_part tree)) (constants_of tree) (report_view r)) (λ (r : Own). ReportOf c.args.bytes.now (report_view r))
     (λ r p. read tree (report_view r) c.requires.size c.requires.tree sound p)
     c.check_package.ensures

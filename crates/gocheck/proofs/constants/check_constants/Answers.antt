@@ -2,7 +2,7 @@ use Rattle.std.proofs.Common.{◌≡◌, ◌≢◌, ◌∙◌, [], map}
 use Rattle.go_tree.specs.Tree.{tree_of}
 use Rattle.gocheck.specs.declared.report.Report.{Report as Own}
 use Rattle.gocheck.specs.Report.{PackageReport, ValuesReport, by_values}
-use Rattle.gocheck.specs.Rules.{broken_names}
+use Rattle.go_model.specs.Rules.{broken_names}
 use Rattle.gocheck.specs.View.{report_view}
 use Rattle.gocheck.proofs.NameLemmas.{distinct-names}
 use Rattle.gocheck.proofs.ReportLemmas.{if_ok-map, refused_names, nothing_broken}

@@ -2,7 +2,7 @@ use Rattle.std.proofs.Common.{◌≡◌, ◌≢◌, ◌∙◌, [], map, ap}
 use Rattle.go_tree.specs.Tree.{tree_of}
 use Rattle.gocheck.specs.Report.{lines_of}
 use Rattle.gocheck.specs.Table.{slot_of}
-use Rattle.gocheck.specs.Marks.{is_marked}
+use Rattle.go_load.specs.Marks.{is_marked}
 use Rattle.gocheck.proofs.ReportLemmas.{values_read, accepted_values, refused_values}
 use Rattle.gocheck.proofs.constants.check_values.Goals as goal
 

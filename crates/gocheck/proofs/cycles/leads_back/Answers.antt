@@ -1,7 +1,8 @@
 use Rattle.std.proofs.Common.{vec_len, ◌∙◌, sym, refl, arith}
 use Rattle.std.proofs.lemmas.Bool.{false≢true, eqb-true}
-use Rattle.gocheck.specs.Marks.{rows_of}
-use Rattle.gocheck.proofs.MarkLemmas.{row_at, no_path, marked_at}
+use Rattle.go_model.specs.Graph.{graph_of}
+use Rattle.go_load.proofs.MarkLemmas.{row_at, marked_at}
+use Rattle.gocheck.proofs.CycleLemmas.{no_path}
 use Rattle.gocheck.proofs.cycles.leads_back.Goals as goal
 
 pub returns-then-is_empty : goal.returns-then-is_empty
@@ -9,7 +10,7 @@ returns-then-is_empty c =
     let g = c.args.graph.now in
     let at = row_at g c.args.vertex c.index-graph-vertex.result c.index-graph-vertex.result.items c.requires.within c.index-graph-vertex.is refl in
     let none = eqb-true (vec_len c.index-graph-vertex.result) 0 (sym c.is_empty.ensures ∙ c.if-is_empty.true) in
-    (λ e. absurd (false≢true e), λ p. absurd (no_path (rows_of g) c.args.vertex c.args.vertex c.index-graph-vertex.result.items at (omega arith) p))
+    (λ e. absurd (false≢true e), λ p. absurd (no_path (graph_of g) c.args.vertex c.args.vertex c.index-graph-vertex.result.items at (omega arith) p))
 
 pub returns : goal.returns
 returns c =

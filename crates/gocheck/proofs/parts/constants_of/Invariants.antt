@@ -1,8 +1,8 @@
 use Rattle.std.proofs.Common.{◌≡◌, ◌++◌, length, map, reverse}
 use Rattle.std.specs.List.{flat_map}
 use Rattle.go_tree.specs.Tree.{tree_of}
-use Rattle.gocheck.specs.Resolution as resolution
-use Rattle.gocheck.specs.Resolution.{constant_in}
+use Rattle.go_model.specs.Resolution as resolution
+use Rattle.go_model.specs.Resolution.{constant_in}
 use Rattle.gocheck.proofs.parts.constants_of.Given as goal
 
 abbrev pub invariant-loop-declaration : goal.invariant-loop-declaration

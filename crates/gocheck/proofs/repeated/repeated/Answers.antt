@@ -1,9 +1,9 @@
 use Rattle.std.proofs.Common.{◌≡◌, [], ◌∷◌, ◌++◌, map, ap, ◌∙◌, arith}
 use Rattle.std.specs.Prelude.{if◌then◌else◌}
 use Rattle.go_tree.specs.Tree.{Tree, tree_of, text_of, start_of}
-use Rattle.gocheck.specs.Resolution.{name_of, names_of}
-use Rattle.gocheck.specs.Broken.{broken_at}
-use Rattle.gocheck.specs.Rules.{is_repeated, repeated_at, repeated_name}
+use Rattle.go_model.specs.Resolution.{name_of, names_of}
+use Rattle.go_model.specs.Broken.{broken_at}
+use Rattle.go_model.specs.Rules.{is_repeated, repeated_at, repeated_name}
 use Rattle.gocheck.proofs.NameLemmas.{one_more_constant}
 use Rattle.gocheck.proofs.repeated.repeated.Goals as goal
 

@@ -1,9 +1,9 @@
 use Rattle.std.proofs.Common.{◌≡◌, ◌++◌, map, drop}
 use Rattle.std.specs.List.{flat_map}
 use Rattle.go_tree.specs.Tree.{tree_of}
-use Rattle.gocheck.specs.Resolution.{name_of, names_of}
-use Rattle.gocheck.specs.Rules as rules
-use Rattle.gocheck.specs.Rules.{repeated_at}
+use Rattle.go_model.specs.Resolution.{name_of, names_of}
+use Rattle.go_model.specs.Rules as rules
+use Rattle.go_model.specs.Rules.{repeated_at}
 use Rattle.gocheck.proofs.repeated.repeated.Given as goal
 
 abbrev pub invariant-loop-constant : goal.invariant-loop-constant

@@ -1,7 +1,7 @@
 use Rattle.std.proofs.Common.{◌≡◌, Bool, true, false, not, List, ℕ, map, take, refl, sym, ap, ◌∙◌, subst, arith}
 use Rattle.go_tree.specs.Tree.{tree_of, text_of}
-use Rattle.gocheck.specs.Resolution.{names_of}
-use Rattle.gocheck.specs.Rules.{is_repeated}
+use Rattle.go_model.specs.Resolution.{names_of}
+use Rattle.go_model.specs.Rules.{is_repeated}
 use Rattle.gocheck.proofs.NameLemmas.{IsCounted, counted-new, counted-again, names-more, names-whole}
 use Rattle.gocheck.proofs.repeated.repeated_names.Goals as goal
 use Rattle.gocheck.proofs.repeated.repeated_names.Goals.{then-not-branch+in_ok-add-2, else-not-branch}

@@ -1,6 +1,6 @@
 use Rattle.std.proofs.Common.{map, take}
 use Rattle.go_tree.specs.Tree.{tree_of}
-use Rattle.gocheck.specs.Resolution.{names_of}
+use Rattle.go_model.specs.Resolution.{names_of}
 use Rattle.gocheck.proofs.NameLemmas.{IsCounted}
 use Rattle.gocheck.proofs.repeated.repeated_names.Given as goal
 

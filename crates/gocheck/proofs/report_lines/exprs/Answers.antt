@@ -1,6 +1,6 @@
 use Rattle.std.proofs.Common.{ap, arith}
 use Rattle.go_tree.specs.Tree.{Tree}
-use Rattle.gocheck.specs.Resolution.{value_of}
+use Rattle.go_model.specs.Resolution.{value_of}
 use Rattle.gocheck.specs.Table.{slot_of}
 use Rattle.gocheck.specs.Report.{exprs_in}
 use Rattle.gocheck.proofs.LineLemmas.{walked_back}

@@ -1,7 +1,7 @@
 use Rattle.std.proofs.Common.{◌≡◌, map, drop, reverse}
 use Rattle.std.specs.List.{flat_map}
 use Rattle.go_tree.specs.Tree.{tree_of}
-use Rattle.gocheck.specs.Resolution.{value_of}
+use Rattle.go_model.specs.Resolution.{value_of}
 use Rattle.gocheck.specs.Table.{slot_of}
 use Rattle.gocheck.specs.Report.{exprs_in}
 use Rattle.gocheck.proofs.report_lines.exprs.Given as goal

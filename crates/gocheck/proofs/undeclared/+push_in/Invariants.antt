@@ -1,6 +1,6 @@
 use Rattle.std.proofs.Common.{◌≡◌, ◌++◌, map, drop}
 use Rattle.go_tree.specs.Tree.{tree_of, trees_of, node_count}
-use Rattle.gocheck.specs.Rules.{undeclared_among}
+use Rattle.go_model.specs.Rules.{undeclared_among}
 use Rattle.gocheck.proofs.undeclared.+push_in.Given as goal
 
 abbrev pub decreases-push_in : goal.decreases-push_in

@@ -1,7 +1,7 @@
 use Rattle.std.proofs.Common.{◌++◌, map, ap, ◌∙◌, arith}
 use Rattle.go_tree.specs.Tree.{tree_of}
-use Rattle.gocheck.specs.Resolution.{value_of}
-use Rattle.gocheck.specs.Rules.{undeclared_in}
+use Rattle.go_model.specs.Resolution.{value_of}
+use Rattle.go_model.specs.Rules.{undeclared_in}
 use Rattle.gocheck.proofs.NameLemmas.{no_more_constants, undeclared-distinct}
 use Rattle.gocheck.proofs.undeclared.push_undeclared.Goals as goal
 

@@ -1,8 +1,8 @@
 use Rattle.std.proofs.Common.{◌≡◌, ◌++◌, map, drop}
 use Rattle.std.specs.List.{flat_map}
 use Rattle.go_tree.specs.Tree.{tree_of}
-use Rattle.gocheck.specs.Resolution.{value_of}
-use Rattle.gocheck.specs.Rules.{undeclared_in}
+use Rattle.go_model.specs.Resolution.{value_of}
+use Rattle.go_model.specs.Rules.{undeclared_in}
 use Rattle.gocheck.proofs.undeclared.push_undeclared.Given as goal
 
 abbrev pub invariant-loop-constant : goal.invariant-loop-constant

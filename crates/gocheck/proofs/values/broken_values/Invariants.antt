@@ -1,8 +1,8 @@
 use Rattle.std.proofs.Common.{◌≡◌, ◌++◌, map, drop}
 use Rattle.go_tree.specs.Tree.{tree_of}
 use Rattle.gocheck.specs.Table.{slot_of}
-use Rattle.gocheck.specs.Marks.{is_marked}
-use Rattle.gocheck.specs.Rules as rules
+use Rattle.go_load.specs.Marks.{is_marked}
+use Rattle.go_model.specs.Rules as rules
 use Rattle.gocheck.proofs.values.broken_values.Given as goal
 
 abbrev pub invariant-loop-place : goal.invariant-loop-place

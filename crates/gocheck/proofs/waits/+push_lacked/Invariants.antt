@@ -1,7 +1,7 @@
 use Rattle.std.proofs.Common.{◌≡◌, ◌++◌, map, drop}
 use Rattle.go_tree.specs.Tree.{tree_of, trees_of, node_count}
 use Rattle.gocheck.specs.Table.{slot_of}
-use Rattle.gocheck.specs.Waiting.{lacked_among}
+use Rattle.go_model.specs.Waiting.{lacked_among}
 use Rattle.gocheck.proofs.waits.+push_lacked.Given as goal
 
 abbrev pub decreases-push_lacked : goal.decreases-push_lacked

@@ -1,7 +1,7 @@
 use Rattle.std.proofs.Common.{◌≡◌, ◌+◌, ◌*◌, ◌++◌, map, drop}
 use Rattle.go_tree.specs.Tree.{tree_of, trees_of, node_count, node_count_of_all}
 use Rattle.gocheck.specs.Table.{slot_of}
-use Rattle.gocheck.specs.Rules.{wide_among}
+use Rattle.go_model.specs.Rules.{wide_among}
 use Rattle.gocheck.proofs.wide.+wide.Given as goal
 
 abbrev pub decreases-push_wide : goal.decreases-push_wide

@@ -1,5 +1,5 @@
 use Rattle.std.proofs.Common.{ap, ◌∙◌}
-use Rattle.gocheck.specs.Resolution.{resolve}
+use Rattle.go_model.specs.Resolution.{resolve}
 use Rattle.gocheck.proofs.NameLemmas.{position-of}
 use Rattle.gocheck.proofs.names.Names.index_of.Goals as goal
 

@@ -2,7 +2,7 @@ use Rattle.std.proofs.Common.{◌≡◌, map, drop}
 use Rattle.std.specs.Prelude.{fold}
 use Rattle.go_tree.specs.Tree.{tree_of}
 use Rattle.gocheck.specs.Names.{with_name, distinct}
-use Rattle.gocheck.specs.Resolution.{names_of}
+use Rattle.go_model.specs.Resolution.{names_of}
 use Rattle.gocheck.proofs.names.Names.of.Given as goal
 
 abbrev pub invariant-loop-constant : goal.invariant-loop-constant

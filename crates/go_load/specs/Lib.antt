@@ -1,0 +1,13 @@
+pub mod ModuleFolders
+pub mod ModuleFile
+pub mod Seen
+pub mod OpenImports
+pub mod ReadSources
+pub mod Certificate
+pub mod Marks
+pub mod Heads
+pub mod Paths
+pub mod Packages
+pub mod PathSets
+pub mod ReachMarks
+pub mod BrokenImports

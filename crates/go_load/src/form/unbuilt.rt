@@ -1,0 +1,115 @@
+// Forms that are not built yet.
+ghost use Rattle.std.specs.Prelude.{◌≡◌, ◌++◌, ◌∷◌, ◌<◌, [], OnOk, IfSome, IfNone, if◌then◌else◌, map};
+ghost use Rattle.std.specs.Option.{option_to_list};
+ghost use Rattle.go_tree.specs.Tree.{tree_of, trees_of, start_of, kind_of, parts_of, node_count};
+ghost use Rattle.go_model.specs.FormRules.BuiltForms as rules;
+ghost use Rattle.go_model.specs.FormRules.Unbuilt.{unbuilt_in, unbuilt_in_spec, unbuilt_among};
+
+use crate::form::built_forms::{is_built, is_built_spec, is_built_whole, is_unbuilt_name};
+use crate::form::part_list::three_parts;
+use go_base::NoMemory;
+use go_model::Built;
+use go_tree::{Node, NodeKind};
+
+/// Pushes each form of the tree that is not built, in source order.
+#[cycle(unbuilt)]
+pub fn unbuilt(built: Built, node: &Node, found: &mut Vec<usize>) -> Result<(), NoMemory>
+    ensures { OnOk result (found.new.items ≡ found.old.items ++ unbuilt_in built (tree_of node.now)) }
+{
+    match node.kind() {
+        NodeKind::Name => push_if(is_unbuilt_name(built, node.text()), node, found),
+        NodeKind::ConstSpec => unbuilt_in_spec(built, node, found),
+        _ => unbuilt_by_kind(built, node, found),
+    }
+}
+
+// Pushes the node where it is not built, else the forms in it that are not.
+#[cycle(unbuilt)]
+fn unbuilt_by_kind(built: Built, node: &Node, found: &mut Vec<usize>) -> Result<(), NoMemory>
+    ensures { OnOk result (found.new.items ≡ found.old.items
+        ++ (if rules.is_built_whole built (kind_of (tree_of node.now)) (parts_of (tree_of node.now)) then []
+        else if rules.is_built built (kind_of (tree_of node.now)) then unbuilt_among built (parts_of (tree_of node.now))
+        else start_of (tree_of node.now) ∷ [])) }
+{
+    if is_built_whole(built, node) {
+        return Ok(());
+    }
+    if is_built(built, node.kind()) {
+        return unbuilt_among(built, node.parts(), found);
+    }
+    push_if(true, node, found)
+}
+
+#[cycle(unbuilt)]
+fn unbuilt_among(built: Built, nodes: &[Node], found: &mut Vec<usize>) -> Result<(), NoMemory>
+    ensures { OnOk result (found.new.items
+        ≡ found.old.items ++ unbuilt_among built (trees_of (map tree_of nodes.now))) }
+{
+    for node in nodes {
+        unbuilt(built, node, found)?;
+    }
+    Ok(())
+}
+
+#[cycle(unbuilt)]
+fn unbuilt_in_spec(built: Built, spec: &Node, found: &mut Vec<usize>) -> Result<(), NoMemory>
+    ensures { OnOk result (found.new.items ≡ found.old.items
+        ++ unbuilt_in_spec built (start_of (tree_of spec.now)) (parts_of (tree_of spec.now))) }
+{
+    match built_spec(built, spec) {
+        Some((names, written_type, values)) => {
+            unbuilt(built, names, found)?;
+            push_place(written_type, found)?;
+            unbuilt(built, values, found)
+        }
+        None => push_if(true, spec, found),
+    }
+}
+
+// The names, the place of the type if any, and the list of a spec that has a list and is built.
+#[tactic(auto, using(crate::proofs::UnbuiltLemmas::spec_lemmas))]
+fn built_spec(built: Built, spec: &Node) -> Option<(&Node, Option<usize>, &Node)>
+    ensures some { IfSome result (λ p.
+        unbuilt_in_spec built (start_of (tree_of spec.now)) (parts_of (tree_of spec.now))
+        ≡ unbuilt_in built (tree_of p.0.now) ++ (option_to_list p.1 ++ unbuilt_in built (tree_of p.2.now))) }
+    ensures name { IfSome result (λ p. node_count (tree_of p.0.now) < node_count (tree_of spec.now)) }
+    ensures value { IfSome result (λ p. node_count (tree_of p.2.now) < node_count (tree_of spec.now)) }
+    ensures none { IfNone result (
+        unbuilt_in_spec built (start_of (tree_of spec.now)) (parts_of (tree_of spec.now))
+        ≡ start_of (tree_of spec.now) ∷ []) }
+{
+    if let Some((names, values)) = spec.both_parts() {
+        if is_built_spec(built, names, values) {
+            return Some((names, None, values));
+        }
+        return None;
+    }
+    if let Some((names, written_type, values)) = three_parts(spec) {
+        if is_built_spec(built, names, values) {
+            return Some((names, Some(written_type.start()), values));
+        }
+        return None;
+    }
+    None
+}
+
+// Pushes the place of a node that is an unbuilt form.
+fn push_if(unbuilt: bool, node: &Node, found: &mut Vec<usize>) -> Result<(), NoMemory>
+    ensures { OnOk result (found.new.items ≡ found.old.items
+        ++ (if unbuilt then start_of (tree_of node.now) ∷ [] else [])) }
+{
+    if unbuilt {
+        found.push(node.start())?;
+    }
+    Ok(())
+}
+
+// Pushes a place, if any.
+fn push_place(place: Option<usize>, found: &mut Vec<usize>) -> Result<(), NoMemory>
+    ensures { OnOk result (found.new.items ≡ found.old.items ++ option_to_list place) }
+{
+    if let Some(place) = place {
+        found.push(place)?;
+    }
+    Ok(())
+}

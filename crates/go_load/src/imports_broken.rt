@@ -1,0 +1,181 @@
+// What imports and package names break.
+ghost use Rattle.std.specs.Prelude.{◌≡◌, ◌++◌, IfOk, OnOk};
+ghost use Rattle.std.specs.List.{flat_map};
+ghost use Rattle.go_load.specs.BrokenImports.{told_if, begins_with, is_unnamed, is_unbuilt, broken_import};
+ghost use Rattle.go_load.specs.BrokenImports.{broken_imports_at, broken_package, broken_if_reached};
+ghost use Rattle.go_load.specs.BrokenImports.{broken_imports_in};
+ghost use Rattle.go_model.specs.FormRules.Order.{IsListOf};
+ghost use Rattle.go_load.specs.PathSets.{row_at};
+
+use crate::form::order::ordered;
+use crate::heads::{Head, Import};
+use crate::named::{is_marked, named};
+use crate::names_broken::{add_names, broken_at};
+use crate::numbers::Numbers;
+use crate::path_set::PathSet;
+use crate::rules::{MISSING_PACKAGE, SPECIAL_IMPORT};
+use crate::table::Packages;
+use go_base::{Broken, NoMemory};
+use std::alloc::Global;
+
+/// What the imports and the package names of reached packages break, in the order of a report: by
+/// files, then by offsets, then by rules, each once. The packages are those that these files make. In a
+/// place the file is its number among the heads. NoMemory comes only where memory runs out.
+pub fn broken_imports(
+    alloc: Global,
+    heads: &[Head],
+    packages: &Packages,
+) -> Result<Vec<Broken>, NoMemory>
+    ensures { IfOk result (λ list. IsListOf (broken_imports_in heads.now packages.now) list.items) }
+{
+    let places = PathSet::of(alloc, packages.paths())?;
+    let mut found = Vec::new(alloc);
+    for k in 0..packages.paths().len() {
+        add_package(&mut found, heads, packages, &places, k)?;
+    }
+    Ok(ordered(found))
+}
+
+// Adds what a package breaks, if it is reached.
+fn add_package(
+    found: &mut Vec<Broken>,
+    heads: &[Head],
+    packages: &Packages,
+    places: &PathSet,
+    k: usize,
+) -> Result<(), NoMemory>
+    requires { places.now ≡ packages.now.paths }
+    ensures { OnOk result (found.new.items
+        ≡ found.old.items ++ broken_if_reached heads.now packages.now k) }
+{
+    if !is_marked(packages.reached(), k) {
+        return Ok(());
+    }
+    let files = row_at(packages.files(), k);
+    let from_stub = is_marked(packages.stubs(), k);
+    add_names(found, heads, files)?;
+    add_imports(found, heads, places, packages.stubs(), from_stub, files)?;
+    Ok(())
+}
+
+// The row at a place, and none where there is no such row.
+fn row_at(rows: &[Numbers], place: usize) -> &[usize]
+    ensures { result.now ≡ row_at rows.now place }
+{
+    match rows.get(place) {
+        Some(row) => row.as_slice(),
+        None => &[],
+    }
+}
+
+// Adds what the imports of these files break.
+fn add_imports(
+    found: &mut Vec<Broken>,
+    heads: &[Head],
+    places: &PathSet,
+    stubs: &[bool],
+    from_stub: bool,
+    files: &[usize],
+) -> Result<(), NoMemory>
+    ensures { OnOk result (found.new.items ≡ found.old.items
+        ++ flat_map (broken_imports_at places.now stubs.now heads.now from_stub) files.now) }
+{
+    for file in files {
+        add_file(found, heads, places, stubs, from_stub, *file)?;
+    }
+    Ok(())
+}
+
+// Adds what the imports of a file break.
+fn add_file(
+    found: &mut Vec<Broken>,
+    heads: &[Head],
+    places: &PathSet,
+    stubs: &[bool],
+    from_stub: bool,
+    file: usize,
+) -> Result<(), NoMemory>
+    ensures { OnOk result (found.new.items ≡ found.old.items
+        ++ broken_imports_at places.now stubs.now heads.now from_stub file) }
+{
+    match heads.get(file) {
+        Some(head) => add_each_import(found, places, stubs, from_stub, file, head.imports()),
+        None => Ok(()),
+    }
+}
+
+// Adds what these imports of a file break.
+fn add_each_import(
+    found: &mut Vec<Broken>,
+    places: &PathSet,
+    stubs: &[bool],
+    from_stub: bool,
+    file: usize,
+    imports: &[Import],
+) -> Result<(), NoMemory>
+    ensures { OnOk result (found.new.items ≡ found.old.items
+        ++ flat_map (broken_import places.now stubs.now from_stub file) imports.now) }
+{
+    for import in imports {
+        add_import(found, places, stubs, from_stub, file, import)?;
+    }
+    Ok(())
+}
+
+// Adds what an import breaks.
+fn add_import(
+    found: &mut Vec<Broken>,
+    places: &PathSet,
+    stubs: &[bool],
+    from_stub: bool,
+    file: usize,
+    import: &Import,
+) -> Result<(), NoMemory>
+    ensures { OnOk result (found.new.items
+        ≡ found.old.items ++ broken_import places.now stubs.now from_stub file import.now) }
+{
+    let unnamed = is_unnamed(places, stubs, from_stub, import.path());
+    add_if(
+        found,
+        unnamed,
+        broken_at(file, import.at(), MISSING_PACKAGE),
+    )?;
+    let unbuilt = is_unbuilt(import.path());
+    add_if(found, unbuilt, broken_at(file, import.at(), SPECIAL_IMPORT))
+}
+
+// Adds what is broken, if it is.
+fn add_if(found: &mut Vec<Broken>, holds: bool, broken: Broken) -> Result<(), NoMemory>
+    ensures { OnOk result (found.new.items ≡ found.old.items ++ told_if holds broken) }
+{
+    if holds {
+        found.push(broken)?;
+    }
+    Ok(())
+}
+
+// Whether the path of an import names no package.
+fn is_unnamed(places: &PathSet, stubs: &[bool], from_stub: bool, path: &[u8]) -> bool
+    ensures { result ≡ is_unnamed places.now stubs.now from_stub path.now }
+{
+    path.is_empty() || named(places, stubs, from_stub, path).is_none()
+}
+
+// Whether an import by this path is outside the language that is checked.
+fn is_unbuilt(path: &[u8]) -> bool
+    ensures { result ≡ is_unbuilt path.now }
+{
+    path == b"C".as_slice()
+        || path == b"unsafe".as_slice()
+        || begins_with(path, b'.')
+        || begins_with(path, b'/')
+}
+
+fn begins_with(path: &[u8], byte: u8) -> bool
+    ensures { result ≡ begins_with byte path.now }
+{
+    match path.first() {
+        Some(first) => *first == byte,
+        None => false,
+    }
+}

@@ -1,0 +1,51 @@
+// The rules that a module breaks before its packages are checked, in the order of their table.
+use go_base::{Family, Rule};
+
+/// Not exactly one line of go.mod that names the module by a well-formed path.
+pub const MODULE_LINE: Rule = Rule {
+    family: Family::M,
+    number: 2,
+};
+
+/// Not exactly one line of go.mod that names a version of Go.
+pub const GO_LINE: Rule = Rule {
+    family: Family::M,
+    number: 3,
+};
+
+/// An import whose path is empty or names no package (Go specification, "Import declarations").
+pub const MISSING_PACKAGE: Rule = Rule {
+    family: Family::P,
+    number: 1,
+};
+
+/// The name in a package clause, where those of a folder differ or one is `_` (Go specification,
+/// "Package clause").
+pub const PACKAGE_NAME: Rule = Rule {
+    family: Family::P,
+    number: 3,
+};
+
+/// A version of Go other than 1.21 in go.mod.
+pub const OTHER_VERSION: Rule = Rule {
+    family: Family::U,
+    number: 1,
+};
+
+/// A path of a file with a byte other than ASCII letters, digits and `-._~+/`.
+pub const SPECIAL_FILE_PATH: Rule = Rule {
+    family: Family::U,
+    number: 6,
+};
+
+/// An import of `C` or `unsafe`, or of a path that begins with `.` or `/`.
+pub const SPECIAL_IMPORT: Rule = Rule {
+    family: Family::U,
+    number: 7,
+};
+
+/// A file of more than 16,777,216 bytes.
+pub const LARGE_FILE: Rule = Rule {
+    family: Family::L,
+    number: 1,
+};

@@ -1,0 +1,83 @@
+// What a Go file breaks by itself (Go specification, "Source file organization").
+ghost use Rattle.std.specs.Prelude.{false, IfOk};
+ghost use Rattle.go_tree.specs.Scan.{Gap};
+ghost use Rattle.go_tree.specs.Tree.{start_of, tree_of};
+ghost use Rattle.go_model.specs.Sources.{AreBrokenWith};
+ghost use Rattle.go_load.specs.ReadSources.{IsOneBroken, IsSource};
+
+use crate::broken::broken_at;
+use crate::broken_list::breaks_none;
+use crate::fault::broken_by;
+use crate::form::order::ordered;
+use crate::form::whole::broken_forms;
+use crate::path_parts::is_plain_path;
+use crate::rules::{LARGE_FILE, SPECIAL_FILE_PATH};
+use go_base::{Broken, NoMemory};
+use go_model::Built;
+use go_parse_s::parse_file;
+use go_tree::{File, NodeId};
+use std::alloc::Global;
+
+/// The most bytes that a file may have.
+pub const MOST_BYTES: usize = 16_777_216;
+
+/// A Go file that was read: its tree, or the rules that it breaks by itself, at least one.
+#[derive(Debug, Drop)]
+pub enum ReadSource {
+    Whole(File),
+    Broken(Vec<Broken>),
+}
+
+/// What the file with that path and these bytes breaks by itself, where these forms are built; its tree
+/// where that is nothing. The numbers of the tree's nodes run on from `first`.
+pub fn read_source(
+    alloc: Global,
+    built: Built,
+    path: &[u8],
+    bytes: &[u8],
+    number: usize,
+    first: NodeId,
+) -> Result<ReadSource, NoMemory>
+    ensures { IfOk result (λ read. IsSource built path.now bytes.now number first.0 read) }
+{
+    if bytes.len() > MOST_BYTES {
+        return one_broken(alloc, broken_at(0, LARGE_FILE));
+    }
+    match parse_file(alloc, bytes, number, first) {
+        Err(fault) => one_broken(alloc, broken_by(fault)?),
+        Ok(file) => {
+            let list = broken_with(alloc, built, path, bytes, &file)?;
+            if breaks_none(&list) {
+                Ok(ReadSource::Whole(file))
+            } else {
+                Ok(ReadSource::Broken(list))
+            }
+        }
+    }
+}
+
+// One rule, which the file breaks alone.
+fn one_broken(alloc: Global, broken: Broken) -> Result<ReadSource, NoMemory>
+    ensures { IfOk result (λ read. IsOneBroken broken read) }
+{
+    Ok(ReadSource::Broken(vec![in alloc; broken]?))
+}
+
+// What a file with that tree breaks by its path and its form.
+fn broken_with(
+    alloc: Global,
+    built: Built,
+    path: &[u8],
+    bytes: &[u8],
+    file: &File,
+) -> Result<Vec<Broken>, NoMemory>
+    requires { Gap false bytes.now 0 (start_of (tree_of file.now.root)) }
+    ensures { IfOk result (λ list. AreBrokenWith built path.now bytes.now (tree_of file.now.root) list.items) }
+{
+    let mut list = broken_forms(alloc, built, bytes, &file.root)?;
+    if is_plain_path(path) {
+        return Ok(list);
+    }
+    list.push(broken_at(0, SPECIAL_FILE_PATH))?;
+    Ok(ordered(list))
+}

@@ -1,0 +1,28 @@
+// Objects: what names denote (Go specification, "Declarations and scope").
+use go_base::Name;
+use go_tree::NodeId;
+
+/// The number of an object. Universe names have 0 to 43, the method of `error` has 44, and any other
+/// object has the number of the node that declares it.
+#[derive(Clone, Copy, Debug, PartialEq, Eq, Hash)]
+pub struct ObjId(pub usize);
+
+/// What an object is.
+#[derive(Clone, Copy, Debug, PartialEq, Eq)]
+pub enum ObjKind {
+    /// a constant ("Constant declarations")
+    Const,
+    /// a package, by the name of an import ("Import declarations")
+    Package,
+}
+
+/// An object: its name, what it is, the node that declares it, the place of its package in the module,
+/// and how many type parameters it has.
+#[derive(Debug, Drop)]
+pub struct Object {
+    pub name: Name,
+    pub kind: ObjKind,
+    pub at: NodeId,
+    pub package: usize,
+    pub params: usize,
+}

@@ -1,0 +1,54 @@
+// The lines of an accepted package.
+use crate::object::ObjId;
+use crate::rec::Mode;
+use crate::report::At;
+use go_base::{LineCol, Name};
+use go_num::Value;
+use go_term::Term;
+
+/// The lines of a package in their order, and the objects that their types name, each once, in the
+/// order in which they first stand there.
+#[derive(Debug, Drop)]
+pub struct Records {
+    pub lines: Vec<Line>,
+    pub named: Vec<NamedObject>,
+}
+
+/// An object that a type names: the path of its package, its name and its place, none of a universe
+/// name; whether it is declared in a function; the names of its type parameters.
+#[derive(Debug, Drop)]
+pub struct NamedObject {
+    pub object: ObjId,
+    pub path: Name,
+    pub name: Name,
+    pub at: Option<At>,
+    pub local: bool,
+    pub params: Vec<Name>,
+}
+
+/// A line: where it stands, and what it says.
+#[derive(Debug, Drop)]
+pub struct Line {
+    pub at: At,
+    pub what: What,
+}
+
+/// What a line says.
+#[derive(Debug, Drop)]
+pub enum What {
+    /// a name, and what it is declared as
+    Def(Name, DefKind),
+    /// a name, and where what it denotes is declared; none in the universe
+    Used(Name, Option<At>),
+    /// where an expression ends, and its record
+    Expr(LineCol, Mode, Option<Term>, Option<Value>),
+}
+
+/// What a name is declared as.
+#[derive(Debug, Drop)]
+pub enum DefKind {
+    /// a constant, with its type and value
+    Const(Term, Value),
+    /// the name of an import, with the path of its package
+    Package(Name),
+}
