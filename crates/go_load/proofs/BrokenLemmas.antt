@@ -2,27 +2,25 @@
 use Rattle.std.proofs.Common.{◌≡◌, ℕ, suc, ◌+◌, ◌<◌, Bool, true, false, not, ◌||◌, List, [], ◌∷◌, ◌++◌, length, map, get_or, refl, sym, ap, ◌∙◌, append_assoc, arith}
 use Rattle.std.specs.Prelude.{if◌then◌else◌, slice_get, unwrap_or, codes}
 use Rattle.std.specs.List.{flat_map, list_any, range_with_len}
-use Rattle.std.proofs.lemmas.Grind.{flat_map-append}
-use Rattle.std.proofs.lemmas.List.{append-nil}
+use Rattle.std.proofs.lemmas.List.{flat_map_more}
 use Rattle.go_base.specs.declared.rule.Broken.{Broken}
-use Rattle.go_load.specs.Heads.{FileHead}
-use Rattle.go_load.specs.Paths.{same_text}
-use Rattle.go_load.specs.Packages.{PackageTable, is_marked}
-use Rattle.go_load.specs.BrokenImports.{name_at, is_mixed, broken_names, broken_imports_at, broken_package, broken_if_reached}
+use Rattle.go_model.specs.Heads.{FileHead}
+use Rattle.go_model.specs.Paths.{same_text}
+use Rattle.go_model.specs.Packages.{PackageTable, is_marked}
+use Rattle.go_model.specs.BrokenImports.{name_at, is_mixed, broken_names, broken_imports_at, broken_package, broken_if_reached}
 use Rattle.go_load.proofs.MemberLemmas.{range_more}
 use Rattle.go_load.proofs.PathSetLemmas.{same, same_text-sym, list_any-map}
 
 -- one more package
-pub packages_more : (f : ℕ → List Broken) (k : ℕ) (old new : List Broken) → old ≡ flat_map f (range_with_len 0 k) → new ≡ old ++ f k → new ≡ flat_map f (range_with_len 0 (k + 1))
-packages_more f k old new so_far now =
+pub packages_more : (f : ℕ → List Broken) (k : ℕ) (start old new : List Broken) → old ≡ start ++ flat_map f (range_with_len 0 k) → new ≡ old ++ f k → new ≡ start ++ flat_map f (range_with_len 0 (k + 1))
+packages_more f k start old new so_far now =
     let one : suc k ≡ k + 1 = omega arith in
     let at : 0 + k ≡ k = omega arith in
     now
     ∙ ap (λ x. x ++ f k) so_far
-    ∙ ap (λ x. flat_map f (range_with_len 0 k) ++ x) (sym (append-nil (f k)))
-    ∙ sym (flat_map-append f (range_with_len 0 k) (k ∷ []))
-    ∙ ap (λ n. flat_map f (range_with_len 0 k ++ n ∷ [])) (sym at)
-    ∙ ap (flat_map f) (sym (range_more 0 k) ∙ ap (range_with_len 0) one)
+    ∙ flat_map_more f start (range_with_len 0 k) k
+    ∙ ap (λ n. start ++ flat_map f (range_with_len 0 k ++ n ∷ [])) (sym at)
+    ∙ ap (λ x. start ++ flat_map f x) (sym (range_more 0 k) ∙ ap (range_with_len 0) one)
 
 -- what a reached package breaks, by its names and then by its imports
 pub package_told : (heads : List FileHead) (t : PackageTable) (k : ℕ) (paths : List (List ℕ)) (stubs : List Bool) (from_stub : Bool) (files : List ℕ) (start mid new : List Broken) → is_marked t.reached k ≡ true → paths ≡ t.paths → stubs ≡ t.stubs → from_stub ≡ is_marked t.stubs k → files ≡ unwrap_or (slice_get t.files k) [] → mid ≡ start ++ broken_names heads files → new ≡ mid ++ flat_map (broken_imports_at paths stubs heads from_stub) files → new ≡ start ++ broken_if_reached heads t k

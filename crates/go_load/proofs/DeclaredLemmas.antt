@@ -4,7 +4,7 @@ use Rattle.std.specs.List.{filter_map, cons_option}
 use Rattle.std.proofs.lemmas.List.{drop_more}
 use Rattle.go_load.specs.declared.module_lines.Line.{Line}
 use Rattle.go_model.specs.ModuleLines.{Placed}
-use Rattle.go_load.specs.ModuleFile.{declared_by, placed_at}
+use Rattle.go_model.specs.ModuleRules.{declared_by, placed_at}
 use Rattle.go_load.specs.Seen.{seen}
 
 -- what a line declares is told before what those behind it declare

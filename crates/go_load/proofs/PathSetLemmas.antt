@@ -12,7 +12,7 @@ use Rattle.indexmap.specs.IndexSet.{insert_key}
 use Rattle.std.proofs.lemmas.List.Folds.{list_any-append}
 use Rattle.std.proofs.lemmas.Slice.Eq.{bytes_eq-Decides}
 use Rattle.std.proofs.lemmas.List.{length-map, map-append, append-nil, append_assoc, take_more}
-use Rattle.go_load.specs.Paths.{same_text, has_path}
+use Rattle.go_model.specs.Paths.{same_text, has_path}
 use Rattle.go_load.specs.PathSets.{with_path, place_of}
 
 same_truth : (a b : Bool) → (a ≡ true → b ≡ true) → (b ≡ true → a ≡ true) → a ≡ b
@@ -23,7 +23,7 @@ same_truth false false there back = refl
 pub same : (a b : List ℕ) → same_text a b ≡ true → a ≡ b
 same a b e = (bytes_eq-Decides a b).0 e
 
-same_text-refl : (a : List ℕ) → same_text a a ≡ true
+pub same_text-refl : (a : List ℕ) → same_text a a ≡ true
 same_text-refl a = (bytes_eq-Decides a a).1 refl
 
 pub same_text-sym : (a b : List ℕ) → same_text a b ≡ same_text b a

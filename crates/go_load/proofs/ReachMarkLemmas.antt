@@ -4,7 +4,7 @@ use Rattle.std.specs.Prelude.{◌↔◌, slice_get, slice_set, Contains, All, sl
 use Rattle.std.proofs.lemmas.Bool.{cases_eq}
 use Rattle.std.proofs.lemmas.List.{take_at, length-append}
 use Rattle.std.proofs.lemmas.List.Elements.{Contains-append_left, Contains-push, Contains-push_cases, All-weaker, All-contains_itself}
-use Rattle.go_load.specs.Packages.{is_marked, Leads, Reached, own, imported}
+use Rattle.go_model.specs.Packages.{is_marked, Leads, Reached, own, imported}
 use Rattle.go_load.specs.ReachMarks.{IsGraph, unmarked_count, Extends, IsSearch}
 
 -- one mark set

@@ -4,10 +4,10 @@ use Rattle.std.specs.Prelude.{◌↔◌, slice_get, position, if◌then◌else�
 use Rattle.std.specs.List.{Contains, cons_option, position_or_len}
 use Rattle.std.proofs.lemmas.Bool.Decides.{nat_tests}
 use Rattle.std.proofs.lemmas.List.{length-map}
-use Rattle.go_load.specs.Heads.{FileHead, ImportSpec}
+use Rattle.go_model.specs.Heads.{FileHead, ImportSpec}
 use Rattle.go_model.specs.PathParts.{folder_of_path}
-use Rattle.go_load.specs.Paths.{same_text, own_paths, has_path, import_path, home, homes}
-use Rattle.go_load.specs.Packages.{is_marked, visible, named, all_named, imports_in, imports_of, files_of, IsPathList, IsTableOf, Reached}
+use Rattle.go_model.specs.Paths.{same_text, own_paths, has_path, import_path, home, homes}
+use Rattle.go_model.specs.Packages.{is_marked, visible, named, all_named, imports_in, imports_of, files_of, IsPathList, IsTableOf, Reached}
 use Rattle.go_load.specs.PathSets.{imports_by}
 use Rattle.go_load.specs.ReachMarks.{IsGraph}
 use Rattle.go_load.proofs.MemberLemmas.{cons_cases, contains_none}

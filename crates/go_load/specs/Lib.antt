@@ -1,3 +1,12 @@
+pub mod Reading
+pub mod Strings
+pub mod Trees
+pub mod Made
+pub mod SourceFiles
+pub mod Placing
+pub mod Calls
+pub mod ModuleTexts
+pub mod ReadTexts
 pub mod ModuleFolders
 pub mod ModuleFile
 pub mod Seen
@@ -5,9 +14,7 @@ pub mod OpenImports
 pub mod ReadSources
 pub mod Certificate
 pub mod Marks
-pub mod Heads
-pub mod Paths
-pub mod Packages
 pub mod PathSets
 pub mod ReachMarks
-pub mod BrokenImports
+pub mod CyclicImports
+pub mod Assembly

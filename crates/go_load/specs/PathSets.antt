@@ -1,9 +1,9 @@
 -- Lists that have each of their paths once.
 -- Says which list paths leave that are added one after another.
 use Rattle.std.specs.Prelude.{ℕ, Bool, if◌then◌else◌, List, [], ◌∷◌, ◌++◌, Option, None, Some, position, slice_get, slice_set, unwrap_or}
-use Rattle.go_load.specs.Heads.{FileHead}
-use Rattle.go_load.specs.Paths.{same_text, has_path}
-use Rattle.go_load.specs.Packages.{imports_of}
+use Rattle.go_model.specs.Heads.{FileHead}
+use Rattle.go_model.specs.Paths.{same_text, has_path}
+use Rattle.go_model.specs.Packages.{imports_of}
 
 -- the path stands last, unless the list has it
 abbrev pub with_path : List (List ℕ) → List ℕ → List (List ℕ)

@@ -1,7 +1,7 @@
 -- Marks on packages, in a search along their imports.
 -- Says what the search keeps: what it has marked, and what on its stack is still to be gone through.
 use Rattle.std.specs.Prelude.{◌≡◌, ℕ, suc, ◌+◌, ◌<◌, ◌⊎◌, Bool, true, false, Some, List, [], ◌∷◌, length, slice_get, Contains}
-use Rattle.go_load.specs.Packages.{is_marked, Leads, Reached}
+use Rattle.go_model.specs.Packages.{is_marked, Leads, Reached}
 
 -- all rows lead to rows
 abbrev pub IsGraph : List (List ℕ) → Type 0

@@ -1,10 +1,8 @@
 // Lists of broken rules.
 ghost use Rattle.std.specs.Prelude.{◌≡◌, ◌≢◌, true, false, []};
 
-use go_base::Broken;
-
-/// Whether no rule is broken.
-pub fn breaks_none(list: &[Broken]) -> bool
+/// Whether a list of broken rules, with or without their places, has none.
+pub fn breaks_none<T>(list: &[T]) -> bool
     ensures none { result ≡ true → list.now ≡ [] }
     ensures some { result ≡ false → list.now ≢ [] }
 {

@@ -1,7 +1,7 @@
 // What is known of each package: whether it is a stub, and what its imports name.
 ghost use Rattle.std.specs.Prelude.{◌≡◌, IfOk, length, map, not};
-ghost use Rattle.go_load.specs.Paths.{has_path};
-ghost use Rattle.go_load.specs.Packages.{imports_of};
+ghost use Rattle.go_model.specs.Paths.{has_path};
+ghost use Rattle.go_model.specs.Packages.{imports_of};
 ghost use Rattle.go_load.specs.PathSets.{imports_by};
 
 use crate::heads::Head;

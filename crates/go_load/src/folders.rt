@@ -1,6 +1,6 @@
 // The paths under which files are imported.
 ghost use Rattle.std.specs.Prelude.{◌≡◌, IfOk};
-ghost use Rattle.go_load.specs.Paths.{import_path};
+ghost use Rattle.go_model.specs.Paths.{import_path};
 
 use crate::heads::Head;
 use crate::path_parts;

@@ -3,7 +3,7 @@ ghost use Rattle.std.specs.Prelude.{◌≡◌, IfOk, OnOk, length, map, replicat
 ghost use Rattle.std.specs.Cmp.Lexicographic.{slice_cmp};
 ghost use Rattle.std.specs.List.Sorted.{IsStrictlySortedBy};
 ghost use Rattle.std.specs.Ordering.{nat_cmp};
-ghost use Rattle.go_load.specs.Packages.{files_of};
+ghost use Rattle.go_model.specs.Packages.{files_of};
 ghost use Rattle.go_load.specs.PathSets.{home_place, put_in};
 
 use crate::numbers::Numbers;

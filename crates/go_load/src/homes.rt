@@ -1,6 +1,6 @@
 // The packages that files belong to.
 ghost use Rattle.std.specs.Prelude.{◌≡◌, IfOk};
-ghost use Rattle.go_load.specs.Paths.{own_paths, home, homes};
+ghost use Rattle.go_model.specs.Paths.{own_paths, home, homes};
 
 use crate::folders::import_path;
 use crate::heads::Head;

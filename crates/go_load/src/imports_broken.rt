@@ -1,13 +1,11 @@
 // What imports and package names break.
-ghost use Rattle.std.specs.Prelude.{◌≡◌, ◌++◌, IfOk, OnOk};
+ghost use Rattle.std.specs.Prelude.{◌≡◌, ◌++◌, OnOk};
 ghost use Rattle.std.specs.List.{flat_map};
-ghost use Rattle.go_load.specs.BrokenImports.{told_if, begins_with, is_unnamed, is_unbuilt, broken_import};
-ghost use Rattle.go_load.specs.BrokenImports.{broken_imports_at, broken_package, broken_if_reached};
-ghost use Rattle.go_load.specs.BrokenImports.{broken_imports_in};
-ghost use Rattle.go_model.specs.FormRules.Order.{IsListOf};
+ghost use Rattle.go_model.specs.BrokenImports.{told_if, begins_with, is_unnamed, is_unbuilt, broken_import};
+ghost use Rattle.go_model.specs.BrokenImports.{broken_imports_at, broken_package, broken_if_reached};
+ghost use Rattle.go_model.specs.BrokenImports.{broken_imports_in};
 ghost use Rattle.go_load.specs.PathSets.{row_at};
 
-use crate::form::order::ordered;
 use crate::heads::{Head, Import};
 use crate::named::{is_marked, named};
 use crate::names_broken::{add_names, broken_at};
@@ -16,24 +14,22 @@ use crate::path_set::PathSet;
 use crate::rules::{MISSING_PACKAGE, SPECIAL_IMPORT};
 use crate::table::Packages;
 use go_base::{Broken, NoMemory};
-use std::alloc::Global;
 
-/// What the imports and the package names of reached packages break, in the order of a report: by
-/// files, then by offsets, then by rules, each once. The packages are those that these files make. In a
-/// place the file is its number among the heads. NoMemory comes only where memory runs out.
-pub fn broken_imports(
-    alloc: Global,
+/// Adds what the package names of reached packages break, and their imports but for those on cycles.
+pub fn add_broken_imports(
+    found: &mut Vec<Broken>,
     heads: &[Head],
     packages: &Packages,
-) -> Result<Vec<Broken>, NoMemory>
-    ensures { IfOk result (λ list. IsListOf (broken_imports_in heads.now packages.now) list.items) }
+    places: &PathSet,
+) -> Result<(), NoMemory>
+    requires { places.now ≡ packages.now.paths }
+    ensures { OnOk result (found.new.items
+        ≡ found.old.items ++ broken_imports_in heads.now packages.now) }
 {
-    let places = PathSet::of(alloc, packages.paths())?;
-    let mut found = Vec::new(alloc);
     for k in 0..packages.paths().len() {
-        add_package(&mut found, heads, packages, &places, k)?;
+        add_package(found, heads, packages, places, k)?;
     }
-    Ok(ordered(found))
+    Ok(())
 }
 
 // Adds what a package breaks, if it is reached.
@@ -58,8 +54,8 @@ fn add_package(
     Ok(())
 }
 
-// The row at a place, and none where there is no such row.
-fn row_at(rows: &[Numbers], place: usize) -> &[usize]
+/// The row at a place, and none where there is no such row.
+pub fn row_at(rows: &[Numbers], place: usize) -> &[usize]
     ensures { result.now ≡ row_at rows.now place }
 {
     match rows.get(place) {
@@ -144,8 +140,8 @@ fn add_import(
     add_if(found, unbuilt, broken_at(file, import.at(), SPECIAL_IMPORT))
 }
 
-// Adds what is broken, if it is.
-fn add_if(found: &mut Vec<Broken>, holds: bool, broken: Broken) -> Result<(), NoMemory>
+/// Adds what is broken, if it is.
+pub fn add_if(found: &mut Vec<Broken>, holds: bool, broken: Broken) -> Result<(), NoMemory>
     ensures { OnOk result (found.new.items ≡ found.old.items ++ told_if holds broken) }
 {
     if holds {

@@ -1,6 +1,10 @@
-//! Laws of the import order.
+//! Laws of the import order and of modules.
 ghost use Rattle.std.specs.Prelude.{◌≡◌, ◌<◌, ℕ, List, length, Contains};
+ghost use Rattle.go_model.specs.Folders.{Folder};
 ghost use Rattle.go_model.specs.ImportOrder.{IsOrder, RespectsImports};
+ghost use Rattle.go_model.specs.Loading.{IsModule};
+ghost use Rattle.go_model.specs.Module.{ModuleData};
+ghost use Rattle.go_model.specs.ModuleLaws.{ImportsStandBefore};
 
 /// In an import order each package stands once, behind all that it imports.
 pub fn behind_imports()
@@ -16,4 +20,9 @@ pub fn no_package_is_left()
 /// A graph has one import order.
 pub fn one_order()
     ensures { (graph : List (List ℕ)) (a b : List ℕ) → IsOrder graph a → IsOrder graph b → a ≡ b }
+{}
+
+/// In a module each package stands once, behind all that it imports: no two packages have one path.
+pub fn imports_stand_before()
+    ensures { (own stubs : Folder) (m : ModuleData) → IsModule own stubs m → ImportsStandBefore m }
 {}

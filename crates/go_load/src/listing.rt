@@ -1,8 +1,7 @@
 // The Go files of a module.
-ghost use Rattle.std.specs.Prelude.{◌≡◌, ◌||◌, IfOk, IsPermutation, IsSorted, ℕ, List, filter};
-ghost use Rattle.std.specs.Cmp.Lexicographic.{slice_cmp};
+ghost use Rattle.std.specs.Prelude.{◌≡◌, ◌||◌, IfOk, ℕ, List, filter};
 ghost use Rattle.std.specs.List.{list_any};
-ghost use Rattle.std.specs.Ordering.{nat_cmp};
+ghost use Rattle.go_model.specs.Folders.{AreGoFiles};
 ghost use Rattle.go_model.specs.Listing as listing;
 ghost use Rattle.go_load.specs.ModuleFolders.{is_one};
 ghost use Rattle.go_model.specs.PathParts as of_path;
@@ -14,15 +13,15 @@ use go_base::{Name, NoMemory};
 use std::alloc::Global;
 
 /// The files of Go below a root, of whose files these are the paths: no tests, nothing hidden,
-/// nothing below `testdata`, `vendor` or a folder with a go.mod of its own. They are in byte order.
-/// Fails only for want of memory.
+/// nothing below `testdata`, `vendor` or a folder with a go.mod of its own. They are in byte order,
+/// each once. Fails only for want of memory.
 pub fn go_files(alloc: Global, paths: &[Name]) -> Result<Vec<Name>, NoMemory>
-    ensures sorted { IfOk result (λ files. IsSorted (slice_cmp nat_cmp) files.items) }
-    ensures same { IfOk result (λ files.
-        IsPermutation (filter (listing.counts paths.now) paths.now) files.items) }
+    ensures { IfOk result (λ files. (bytes : List ℕ → List ℕ) →
+        AreGoFiles (record { paths = paths.now; bytes = bytes }) files.items) }
 {
     let mut files = in_any_order(alloc, paths)?;
     files.sort_unstable();
+    files.dedup();
     Ok(files)
 }
 

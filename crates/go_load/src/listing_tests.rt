@@ -58,6 +58,7 @@ fn files_of_a_module(rt: HostRuntime) -> Result<(), NoMemory> {
             " a/c.go a/go.mod/b.go b/c.go",
         ),
         ("a/x.go a.go a-b/x.go", " a-b/x.go a.go a/x.go"),
+        ("b.go a.go b.go a.go b.go", " a.go b.go"),
         (
             "b.go B.go a0.go a.go \u{e9}.go aa.go",
             " B.go a.go a0.go aa.go b.go \u{e9}.go",

@@ -6,14 +6,17 @@ ghost use Rattle.go_model.specs.ModuleLines.{Placed};
 ghost use Rattle.go_load.specs.Seen.{seen};
 ghost use Rattle.go_model.specs.ModulePath.{module_path};
 ghost use Rattle.go_model.specs.LanguageVersion.{go_version};
-ghost use Rattle.go_load.specs.ModuleFile.{broken_at, broken_lines, declared_by, placed_at, unless_one, other_version, IsModuleFile};
+ghost use Rattle.go_model.specs.FormRules.Whole.{told};
+ghost use Rattle.go_model.specs.ModuleRules.{broken_lines, declared_by, placed_at, unless_one, other_version};
+ghost use Rattle.go_load.specs.ModuleFile.{IsModuleFile};
 
+use crate::broken::broken_at;
 use crate::form::order::ordered;
 use crate::language_version::{go_version, is_1_21};
 use crate::module_lines::{Line, outside_blocks};
 use crate::module_path::module_path;
 use crate::rules::{GO_LINE, MODULE_LINE, OTHER_VERSION};
-use go_base::{Broken, Bytes, NoMemory, Pos, Rule};
+use go_base::{Broken, Bytes, NoMemory, Rule};
 use std::alloc::Global;
 
 /// What go.mod says.
@@ -98,10 +101,10 @@ fn broken_rules(
 
 fn push_unless_one(list: &mut Vec<Broken>, rule: Rule, lines: &[Line<'_>]) -> Result<(), NoMemory>
     ensures { OnOk result (list.new.items
-        ≡ list.old.items ++ map (broken_at rule) (unless_one (map seen lines.now))) }
+        ≡ list.old.items ++ told rule (unless_one (map seen lines.now))) }
 {
     match lines {
-        [] => list.push(broken_at(rule, 0))?,
+        [] => list.push(broken_at(0, rule))?,
         [_] => {}
         _ => push_each(list, rule, lines)?,
     }
@@ -110,22 +113,22 @@ fn push_unless_one(list: &mut Vec<Broken>, rule: Rule, lines: &[Line<'_>]) -> Re
 
 fn push_each(list: &mut Vec<Broken>, rule: Rule, lines: &[Line<'_>]) -> Result<(), NoMemory>
     ensures { OnOk result (list.new.items
-        ≡ list.old.items ++ map (broken_at rule) (map (λ l. l.offset) (map seen lines.now))) }
+        ≡ list.old.items ++ told rule (map (λ l. l.offset) (map seen lines.now))) }
 {
     for line in lines {
-        list.push(broken_at(rule, line.offset))?;
+        list.push(broken_at(line.offset, rule))?;
     }
     Ok(())
 }
 
 fn push_other_version(list: &mut Vec<Broken>, gos: &[Line<'_>]) -> Result<(), NoMemory>
     ensures { OnOk result (list.new.items
-        ≡ list.old.items ++ map (broken_at OTHER_VERSION) (other_version (map seen gos.now))) }
+        ≡ list.old.items ++ told OTHER_VERSION (other_version (map seen gos.now))) }
 {
     if let [line] = gos
         && !is_1_21(line.text)
     {
-        list.push(broken_at(OTHER_VERSION, line.offset))?;
+        list.push(broken_at(line.offset, OTHER_VERSION))?;
     }
     Ok(())
 }
@@ -136,13 +139,4 @@ fn only_text<'a>(lines: &[Line<'a>]) -> &'a [u8]
     ensures { map (λ l. l.text) (map seen lines.now) ≡ result.now ∷ [] }
 {
     lines[0].text
-}
-
-fn broken_at(rule: Rule, offset: usize) -> Broken
-    ensures { result ≡ broken_at rule offset }
-{
-    Broken {
-        pos: Pos { file: 0, offset },
-        rule,
-    }
 }

@@ -1,6 +1,6 @@
 // What imports name.
 ghost use Rattle.std.specs.Prelude.{◌≡◌, [], ◌∷◌, ◌++◌, IfOk, OnOk};
-ghost use Rattle.go_load.specs.Packages.{is_marked, named, all_named, imports_at, imports_of};
+ghost use Rattle.go_model.specs.Packages.{is_marked, named, all_named, imports_at, imports_of};
 
 use crate::heads::{Head, Import};
 use crate::numbers::Numbers;

@@ -1,8 +1,8 @@
 // Package names that differ in one folder.
 ghost use Rattle.std.specs.Prelude.{◌≡◌, ◌++◌, ◌||◌, not, codes, OnOk, map};
 ghost use Rattle.std.specs.List.{list_any};
-ghost use Rattle.go_load.specs.Paths.{same_text};
-ghost use Rattle.go_load.specs.BrokenImports.{broken_at, mixed_package, name_at, name_place, is_mixed, broken_names};
+ghost use Rattle.go_model.specs.Paths.{same_text};
+ghost use Rattle.go_model.specs.BrokenImports.{broken_at, mixed_package, name_at, name_place, is_mixed, broken_names};
 
 use crate::heads::Head;
 use crate::rules::PACKAGE_NAME;
@@ -66,8 +66,8 @@ fn stands_out(name: &[u8], other: &[u8]) -> bool
     name != other || name == b"_".as_slice()
 }
 
-// The package name of a file.
-fn name_at(heads: &[Head], file: usize) -> &[u8]
+/// The package name of a file, empty where there is no such file.
+pub fn name_at(heads: &[Head], file: usize) -> &[u8]
     ensures { result.now ≡ name_at heads.now file }
 {
     match heads.get(file) {

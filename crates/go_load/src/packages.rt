@@ -3,8 +3,8 @@ ghost use Rattle.std.specs.Prelude.{◌≡◌, ◌↔◌, ℕ, IfOk, length, map
 ghost use Rattle.std.specs.Cmp.Lexicographic.{slice_cmp};
 ghost use Rattle.std.specs.List.Sorted.{IsStrictlySortedBy};
 ghost use Rattle.std.specs.Ordering.{nat_cmp};
-ghost use Rattle.go_load.specs.Paths.{has_path};
-ghost use Rattle.go_load.specs.Packages.{files_of, imports_of, is_marked, IsTableOf, Reached};
+ghost use Rattle.go_model.specs.Paths.{has_path};
+ghost use Rattle.go_model.specs.Packages.{files_of, imports_of, is_marked, IsTableOf, Reached};
 
 use crate::columns::{imports, stubs};
 use crate::groups::groups;

@@ -1,6 +1,6 @@
 // Whole modules: which packages their files make, and what those break.
-use crate::{Head, Import, Packages, broken_imports, packages_of};
-use go_base::{Broken, Bytes, Name};
+use crate::{Head, Import, Packages, broken_packages, packages_of};
+use go_base::{Broken, Bytes, Name, NoMemory};
 use std::alloc::Global;
 use std::test::Fail;
 
@@ -76,11 +76,18 @@ fn broken_of(alloc: Global, list: &[Broken]) -> Result<String, Fail> {
     Ok(text)
 }
 
+// The packages of the module `m`, and what they break.
+fn loaded(alloc: Global, heads: &[Head]) -> Result<(Packages, Vec<Broken>), NoMemory> {
+    let path = b"m".as_slice();
+    let packages = packages_of(alloc, path, heads)?;
+    let broken = broken_packages(alloc, path, heads, &packages)?;
+    Ok((packages, broken))
+}
+
 // What files of the module `m` make, and what they break.
 fn told(alloc: Global, files: &[File]) -> Result<(String, String), Fail> {
     let heads = heads(alloc, files)?;
-    let packages = packages_of(alloc, b"m".as_slice(), heads.as_slice())?;
-    let broken = broken_imports(alloc, heads.as_slice(), &packages)?;
+    let (packages, broken) = loaded(alloc, heads.as_slice())?;
     Ok((
         lines_of(alloc, &packages)?,
         broken_of(alloc, broken.as_slice())?,
@@ -97,7 +104,7 @@ const ROWS: [(&[File], &str, &str); 18] = [
             ("b/d.go", "b", "m m"),
         ],
         "m: 0 > 1\nm/b: 1 2 > 0 0\n",
-        "",
+        "0:100 P2 2:100 P2 2:110 P2 ",
     ),
     (
         &[
@@ -139,7 +146,7 @@ const ROWS: [(&[File], &str, &str); 18] = [
     (
         &[("a.go", "p", "fmt"), ("+fmt/f.go", "fmt", "m fmt")],
         "+fmt: 1 > 0\nm: 0 > 0\n",
-        "1:100 P1 ",
+        "1:100 P1 1:110 P2 ",
     ),
     (&[("a.go", "p", "unsafe")], "m: 0 >\n", "0:100 P1 0:100 U7 "),
     (
@@ -175,7 +182,7 @@ const ROWS: [(&[File], &str, &str); 18] = [
     (
         &[("a.go", "p", "m m/ a")],
         "m: 0 > 0\n",
-        "0:110 P1 0:120 P1 ",
+        "0:100 P2 0:110 P1 0:120 P1 ",
     ),
     (
         &[
@@ -185,7 +192,7 @@ const ROWS: [(&[File], &str, &str); 18] = [
             ("+c/c.go", "c", "z"),
         ],
         "+a: 1 > 1\n+b: 2 > 0 2\n+c: 3 >\nm: 0 > 0\n",
-        "3:100 P1 ",
+        "1:100 P2 2:100 P2 3:100 P1 ",
     ),
 ];
 
@@ -194,6 +201,112 @@ fn modules(rt: HostRuntime) -> Result<(), Fail> {
     for (i, (files, packages, broken)) in ROWS.iter().enumerate() {
         let (lines, found) = told(rt.alloc(), files)?;
         assert_eq!(rt; lines.as_str(), *packages, "packages of row {i}");
+        assert_eq!(rt; found.as_str(), *broken, "broken in row {i}");
+    }
+    Ok(())
+}
+
+// Files whose imports may lie on cycles, and what they break.
+const CYCLES: [(&[File], &str); 12] = [
+    // a package that imports itself, at each such string
+    (
+        &[("a.go", "p", "m x m"), ("b.go", "p", "m/b m")],
+        "0:100 P2 0:110 P1 0:120 P2 1:100 P1 1:110 P2 ",
+    ),
+    // two packages
+    (
+        &[("a/a.go", "a", "m/b"), ("b/b.go", "b", "m/a")],
+        "0:100 P2 1:100 P2 ",
+    ),
+    // three packages, one import of which leads out of the cycle
+    (
+        &[
+            ("a/a.go", "a", "m/b"),
+            ("b/b.go", "b", "m/d m/c"),
+            ("c/c.go", "c", "m/a"),
+            ("d/d.go", "d", "-"),
+        ],
+        "0:100 P2 1:110 P2 2:100 P2 ",
+    ),
+    // imports that lead to a cycle, and do not lie on it
+    (
+        &[
+            ("a.go", "p", "m/a m/b"),
+            ("a/a.go", "a", "m/b"),
+            ("b/b.go", "b", "m/a"),
+        ],
+        "1:100 P2 2:100 P2 ",
+    ),
+    // two cycles, and an import between them
+    (
+        &[
+            ("a/a.go", "a", "m/b"),
+            ("b/b.go", "b", "m/a m/c"),
+            ("c/c.go", "c", "m/d"),
+            ("d/d.go", "d", "m/c"),
+        ],
+        "0:100 P2 1:100 P2 2:100 P2 3:100 P2 ",
+    ),
+    // a package with two ways to another, and no way back
+    (
+        &[
+            ("a/a.go", "a", "m/b m/c"),
+            ("b/b.go", "b", "m/d"),
+            ("c/c.go", "c", "m/d"),
+            ("d/d.go", "d", "-"),
+        ],
+        "",
+    ),
+    // other imports around one that lies on a cycle, in two files of the package
+    (
+        &[
+            ("a/a.go", "a", "f m/b"),
+            ("a/b.go", "a", "x f m/b f"),
+            ("b/b.go", "b", "f m/a y"),
+            ("+f/f.go", "f", "-"),
+        ],
+        "0:110 P2 1:100 P1 1:120 P2 2:110 P2 2:120 P1 ",
+    ),
+    // stubs that nothing reaches
+    (
+        &[
+            ("a.go", "p", "-"),
+            ("+f/f.go", "f", "g f"),
+            ("+g/g.go", "g", "f"),
+        ],
+        "",
+    ),
+    // stubs that are reached over another stub
+    (
+        &[
+            ("a.go", "p", "e"),
+            ("+e/e.go", "e", "f"),
+            ("+f/f.go", "f", "g"),
+            ("+g/g.go", "g", "f e/x"),
+        ],
+        "2:100 P2 3:100 P2 3:110 P1 ",
+    ),
+    // a stub that would import a package of the module, which it does not see
+    (
+        &[("a/a.go", "a", "f"), ("+f/f.go", "f", "m/a")],
+        "1:100 P1 ",
+    ),
+    // several rules at one place
+    (
+        &[("a.go", "p", "C"), ("+C/c.go", "c", "C")],
+        "0:100 U7 1:100 P2 1:100 U7 ",
+    ),
+    // package names that differ stand before the imports of their files
+    (
+        &[("a.go", "p", "m"), ("b.go", "q", "m")],
+        "0:8 P3 0:100 P2 1:8 P3 1:100 P2 ",
+    ),
+];
+
+#[test]
+fn cycles(rt: HostRuntime) -> Result<(), Fail> {
+    for (i, (files, broken)) in CYCLES.iter().enumerate() {
+        let (_, found) = told(rt.alloc(), files)?;
         assert_eq!(rt; found.as_str(), *broken, "broken in row {i}");
     }
     Ok(())
@@ -221,10 +334,9 @@ fn many_files(rt: HostRuntime) -> Result<(), Fail> {
             Vec::new(alloc),
         ))?;
     }
-    let packages = packages_of(alloc, b"m".as_slice(), heads.as_slice())?;
+    let (packages, broken) = loaded(alloc, heads.as_slice())?;
     assert_eq!(rt; packages.paths().len(), 3000);
     assert!(rt; packages.reached().iter().all(|mark| *mark));
-    let broken = broken_imports(alloc, heads.as_slice(), &packages)?;
     assert_eq!(rt;
         broken_of(alloc, broken.as_slice())?.as_str(),
         "2999:20 P1 "

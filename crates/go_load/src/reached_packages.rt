@@ -1,6 +1,6 @@
 // Which packages are reached: those that are no stubs, and what reached packages import.
 ghost use Rattle.std.specs.Prelude.{◌≡◌, ◌<◌, ◌↔◌, ◌⊎◌, ℕ, List, All, Contains, IfOk, OnOk, false, length, slice_get, Some, true};
-ghost use Rattle.go_load.specs.Packages.{is_marked, Reached};
+ghost use Rattle.go_model.specs.Packages.{is_marked, Reached};
 ghost use Rattle.go_load.specs.ReachMarks.{IsGraph, Extends};
 
 use crate::numbers::Numbers;

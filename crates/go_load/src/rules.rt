@@ -1,6 +1,12 @@
 // The rules that a module breaks before its packages are checked, in the order of their table.
 use go_base::{Family, Rule};
 
+/// A root without go.mod.
+pub const MISSING_MODULE_FILE: Rule = Rule {
+    family: Family::M,
+    number: 1,
+};
+
 /// Not exactly one line of go.mod that names the module by a well-formed path.
 pub const MODULE_LINE: Rule = Rule {
     family: Family::M,
@@ -17,6 +23,12 @@ pub const GO_LINE: Rule = Rule {
 pub const MISSING_PACKAGE: Rule = Rule {
     family: Family::P,
     number: 1,
+};
+
+/// An import on a cycle of imports (Go specification, "Import declarations").
+pub const CYCLIC_IMPORT: Rule = Rule {
+    family: Family::P,
+    number: 2,
 };
 
 /// The name in a package clause, where those of a folder differ or one is `_` (Go specification,

@@ -23,7 +23,7 @@ impl Model for Packages {
     ghost use Rattle.std.specs.Cmp.Lexicographic.{slice_cmp};
     ghost use Rattle.std.specs.List.Sorted.{IsStrictlySortedBy};
     ghost use Rattle.std.specs.Ordering.{nat_cmp};
-    ghost use Rattle.go_load.specs.Packages.{PackageTable};
+    ghost use Rattle.go_model.specs.Packages.{PackageTable};
 
     ghost Value = { PackageTable };
 

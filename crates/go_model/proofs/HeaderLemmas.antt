@@ -7,7 +7,7 @@ use Rattle.go_tree.specs.Tree.{Tree, branch, no_trees, more_trees}
 use Rattle.go_model.specs.Resolution.{value_of, names_of, resolve}
 use Rattle.go_model.specs.Records.{Headers, sum_of, record_of}
 use Rattle.go_model.specs.Headers.{headers_of, Follows, Justified, Holds, Known}
-use Rattle.go_model.specs.Laws.{IsPart}
+use Rattle.go_model.specs.Quests.{IsPart}
 
 sum_of-part : (a b a' b' : Option ℤ) (v : ℤ) → ((x : ℤ) → a ≡ Some x → a' ≡ Some x) → ((x : ℤ) → b ≡ Some x → b' ≡ Some x) → sum_of a b ≡ Some v → sum_of a' b' ≡ Some v
 sum_of-part None b a' b' v pa pb e = cc

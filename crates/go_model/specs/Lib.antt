@@ -1,13 +1,21 @@
+-- the report of a file
+pub mod Phases
+pub mod Report
+pub mod FileLines
+pub mod Text
 -- the form of a file
 pub mod Broken
 pub mod Fault
 pub mod FormRules
 -- the constants of a file
+pub mod Scopes
 pub mod Resolution
 pub mod Records
 pub mod Headers
+pub mod Quests
 pub mod Tests
 pub mod Waiting
+pub mod Lacking
 pub mod Rules
 pub mod Laws
 pub mod PathParts
@@ -19,3 +27,13 @@ pub mod ImportOrder
 pub mod Sources
 pub mod Graph
 pub mod ImportCycles
+-- modules
+pub mod Loading
+pub mod Module
+pub mod ModuleLaws
+pub mod Folders
+pub mod ModuleRules
+pub mod Heads
+pub mod Paths
+pub mod Packages
+pub mod BrokenImports

@@ -12,7 +12,8 @@ use Rattle.go_tree.specs.Tree.{Tree, branch, Trees, no_trees, more_trees, start_
 use Rattle.go_model.specs.Broken.{broken_at}
 use Rattle.go_model.specs.Resolution.{name_of, value_of, names_of, same_text, resolve}
 use Rattle.go_model.specs.Records.{Headers}
-use Rattle.go_model.specs.Tests.{Asked, Decided, Lacks, test_of}
+use Rattle.go_model.specs.Quests.{Asked, Decided, Lacks}
+use Rattle.go_model.specs.Tests.{asked_of}
 
 abbrev pub repeated_name : Rule
 repeated_name = record { family = P; number = 4 }
@@ -64,7 +65,7 @@ cyclic_at true spec = broken_at (start_of (name_of spec)) cyclic_declaration ∷
 cyclic_at false spec = []
 
 -- L2: each literal and each sum whose value is outside -2^127 to 2^127-1
-abbrev pub wide_at : ℕ → Option Asked → List Broken
+abbrev pub wide_at : ℕ → Option (Asked Bool) → List Broken
 wide_at from None = []
 wide_at from (Some (Lacks d)) = []
 wide_at from (Some (Decided true)) = []
@@ -72,7 +73,7 @@ wide_at from (Some (Decided false)) = broken_at from wide_integer ∷ []
 
 abbrev mutual
   pub wide_in : List (List ℕ) → Headers → Tree → List Broken
-  wide_in names headers (branch id from to kind text parts) = wide_among names headers parts ++ wide_at from (test_of names headers (branch id from to kind text parts))
+  wide_in names headers (branch id from to kind text parts) = wide_among names headers parts ++ wide_at from (asked_of names headers (branch id from to kind text parts))
 
   pub wide_among : List (List ℕ) → Headers → Trees → List Broken
   wide_among names headers no_trees = []

@@ -1,7 +1,7 @@
 -- Source code representation; Source file organization (Go specification).
 -- Decides what each Go file of a module breaks by itself. Which rule a file without a tree breaks is left
 -- to `Fault`, which rules a file breaks by its form to `FormRules`.
-use Rattle.std.specs.Prelude.{◌≡◌, ℕ, ◌<◌, ◌≤◌, Bool, if◌then◌else◌, Some, List, [], ◌∷◌, ◌++◌, length}
+use Rattle.std.specs.Prelude.{◌≡◌, ℕ, ◌<◌, ◌≤◌, if◌then◌else◌, Some, List, [], ◌∷◌, ◌++◌, length}
 use Rattle.go_base.specs.declared.rule.Broken.{Broken}
 use Rattle.go_base.specs.declared.rule.Family.TheVariants.{U, L}
 use Rattle.go_base.specs.declared.rule.Rule.{Rule}

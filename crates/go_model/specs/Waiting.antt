@@ -1,13 +1,14 @@
 -- Declarations and scope; Constant declarations (Go specification).
 -- Decides which constant waits for the header of which, and which constants wait for themselves.
-use Rattle.std.specs.Prelude.{◌≡◌, ℕ, Option, Some, None, List, [], ◌∷◌, ◌++◌, Contains, slice_get}
+use Rattle.std.specs.Prelude.{◌≡◌, ℕ, Bool, Option, Some, None, List, [], ◌∷◌, ◌++◌, Contains, slice_get}
 use Rattle.go_tree.specs.Tree.{Tree, branch, Trees, no_trees, more_trees}
 use Rattle.go_model.specs.Resolution.{value_of, names_of}
 use Rattle.go_model.specs.Records.{Headers}
-use Rattle.go_model.specs.Tests.{Asked, Decided, Lacks, test_of}
+use Rattle.go_model.specs.Quests.{Asked, Decided, Lacks}
+use Rattle.go_model.specs.Tests.{asked_of}
 
 -- the constant whose header a test lacks
-abbrev pub lacked : Option Asked → List ℕ
+abbrev pub lacked : Option (Asked Bool) → List ℕ
 lacked None = []
 lacked (Some (Decided answer)) = []
 lacked (Some (Lacks d)) = d ∷ []
@@ -15,7 +16,7 @@ lacked (Some (Lacks d)) = d ∷ []
 -- the constants whose headers the tests at the nodes of an expression lack
 abbrev mutual
   pub lacked_in : List (List ℕ) → Headers → Tree → List ℕ
-  lacked_in names headers (branch id from to kind text parts) = lacked (test_of names headers (branch id from to kind text parts)) ++ lacked_among names headers parts
+  lacked_in names headers (branch id from to kind text parts) = lacked (asked_of names headers (branch id from to kind text parts)) ++ lacked_among names headers parts
 
   pub lacked_among : List (List ℕ) → Headers → Trees → List ℕ
   lacked_among names headers no_trees = []

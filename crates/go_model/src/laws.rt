@@ -1,14 +1,25 @@
-// Laws of the maps of headers, which hold of every map.
-ghost use Rattle.std.specs.Prelude.{◌≡◌, ℕ, List};
+// Laws of the maps of headers, which hold of every map, and of the report of a file: each is the
+// contract of a function that does nothing.
+ghost use Rattle.std.specs.Prelude.{◌≡◌, ℕ, List, Option};
 ghost use Rattle.go_tree.specs.Tree.{Tree};
+ghost use Rattle.go_model.specs.Quests.{IsPart, Quest, Stays, run};
 ghost use Rattle.go_model.specs.Records.{Headers};
-ghost use Rattle.go_model.specs.Laws.{IsPart, DecidedStays, RecordsStay, OneHeader};
+ghost use Rattle.go_model.specs.Phases.{ReportOf};
+ghost use Rattle.go_model.specs.Report.{Report};
+ghost use Rattle.go_model.specs.Laws.{TestStays, RecordsStay, OneHeader};
 
-/// A test that is decided over some headers is decided alike over more, and one that lacks a header
-/// lacks it as long as it is missing.
-pub fn decided_stays()
+/// A question that is decided over some headers is decided alike over more, and one that lacks a
+/// header lacks it as long as it is missing.
+pub fn decided_stays<H, A>()
+    ensures { (known more : ℕ → Option H) → IsPart known more
+        → (q : Quest H A) → Stays more (run known q) (run more q) }
+{}
+
+/// A test at a node that is asked over some headers is asked alike over more: one that is decided is
+/// decided alike, and one that lacks a header lacks it as long as it is missing.
+pub fn tests_stay()
     ensures { (names : List (List ℕ)) (known more : Headers) → IsPart known more
-        → (t : Tree) → DecidedStays names known more t }
+        → (t : Tree) → TestStays names known more t }
 {}
 
 /// A record over some headers is the record over more.
@@ -20,4 +31,9 @@ pub fn records_stay()
 /// A constant has at most one header.
 pub fn one_header()
     ensures { (constants : List Tree) → OneHeader constants }
+{}
+
+/// A file has at most one report.
+pub fn one_report()
+    ensures { (bytes : List ℕ) (a b : Report) → ReportOf bytes a → ReportOf bytes b → a ≡ b }
 {}

@@ -24,13 +24,21 @@ mod outcome;
 mod rec;
 
 // Reports.
+mod file_lines;
 mod records;
 mod report;
 
+// Tests.
+#[cfg(test)]
+mod law_tests;
+#[cfg(test)]
+mod scopes_tests;
+
 pub use built::Built;
+pub use file_lines::FileLine;
 pub use form_laws::{one_list, one_list_of_forms};
 pub use header::{Header, Method};
-pub use laws::{decided_stays, one_header, records_stay};
+pub use laws::{decided_stays, one_header, one_report, records_stay, tests_stay};
 pub use module::{Module, Package, SourceFile};
 pub use object::{ObjId, ObjKind, Object};
 pub use outcome::{Answer, Outcome, Spot};

@@ -2,7 +2,6 @@ pub mod FieldLemmas
 pub mod LineLemmas
 pub mod CycleLemmas
 pub mod NameLemmas
-pub mod OneReportLemmas
 pub mod PartLemmas
 pub mod ReportLemmas
 pub mod RoundLemmas

@@ -7,20 +7,20 @@ use Rattle.std.proofs.Math.Seq.{drop-cons}
 use Rattle.go_tree.specs.declared.node.Node.{Node}
 use Rattle.go_tree.specs.Tree.{Tree, branch, trees_of, tree_of, parts_of, start_of, node_count, node_count_of_all}
 use Rattle.go_tree.proofs.TreeLemmas.{part_within}
-use Rattle.gocheck.specs.declared.line.Line.{Line}
+use Rattle.go_model.specs.declared.file_lines.FileLine.{FileLine}
 use Rattle.go_model.specs.Resolution.{name_of, value_of, names_of, resolve}
 use Rattle.go_model.specs.Records.{Headers}
-use Rattle.gocheck.specs.Report.{defs_from, declared_at, uses_in, exprs_in, lines_of}
+use Rattle.go_model.specs.FileLines.{defs_from, declared_at, uses_in, exprs_in, lines_of}
 
 -- a walk from the back: what is pushed is the reverse of what is done
-pushed_back : (old new x done more : List Line) → old ≡ reverse done → more ≡ x ++ done → new ≡ old ++ reverse x → new ≡ reverse more
+pushed_back : (old new x done more : List FileLine) → old ≡ reverse done → more ≡ x ++ done → new ≡ old ++ reverse x → new ≡ reverse more
 pushed_back old new x done more so_far split now =
     now ∙ ap (λ l. l ++ reverse x) so_far ∙ sym (reverse-append x done) ∙ ap reverse (sym split)
 
 drop-step : (ns : List Node) (i : ℕ) (n : Node) → i < length ns → n ≡ get_or ns i n → drop i ns ≡ n ∷ drop (i + 1) ns
 drop-step ns i n lt e = drop-cons ns i n lt ∙ ap (λ (x : Node). x ∷ drop (suc i) ns) (sym e) ∙ ap (λ k. n ∷ drop k ns) (sym (add-one i))
 
-flat_map-step : (f : Tree → List Line) (ns : List Node) (i : ℕ) (n : Node) → i < length ns → n ≡ get_or ns i n → flat_map f (map tree_of (drop i ns)) ≡ f (tree_of n) ++ flat_map f (map tree_of (drop (i + 1) ns))
+flat_map-step : (f : Tree → List FileLine) (ns : List Node) (i : ℕ) (n : Node) → i < length ns → n ≡ get_or ns i n → flat_map f (map tree_of (drop i ns)) ≡ f (tree_of n) ++ flat_map f (map tree_of (drop (i + 1) ns))
 flat_map-step f ns i n lt e = ap (λ l. flat_map f (map tree_of l)) (drop-step ns i n lt e)
 
 count-parts : (t : Tree) → node_count t ≡ 1 + node_count_of_all (parts_of t)
@@ -41,14 +41,14 @@ pub part-smaller : (t : Tree) (ns : List Node) (k : ℕ) (n : Node) → trees_of
 part-smaller t ns k n parts lt at = omega (arith, part_within ns k n lt at, count-parts t, ap node_count_of_all parts)
 
 -- one more declaration, read from the back
-pub walked_back : (f : Tree → List Line) (ns : List Node) (i : ℕ) (n : Node) (old new x : List Line) → 0 < i → i - 1 < length ns → n ≡ get_or ns (i - 1) n → old ≡ reverse (flat_map f (map tree_of (drop i ns))) → x ≡ f (tree_of n) → new ≡ old ++ reverse x → new ≡ reverse (flat_map f (map tree_of (drop (i - 1) ns)))
+pub walked_back : (f : Tree → List FileLine) (ns : List Node) (i : ℕ) (n : Node) (old new x : List FileLine) → 0 < i → i - 1 < length ns → n ≡ get_or ns (i - 1) n → old ≡ reverse (flat_map f (map tree_of (drop i ns))) → x ≡ f (tree_of n) → new ≡ old ++ reverse x → new ≡ reverse (flat_map f (map tree_of (drop (i - 1) ns)))
 walked_back f ns i n old new x some lt at so_far is now =
     let next : (i - 1) + 1 ≡ i = omega arith in
     let split = flat_map-step f ns (i - 1) n lt at ∙ ap (λ k. f (tree_of n) ++ flat_map f (map tree_of (drop k ns))) next in
     pushed_back old new x (flat_map f (map tree_of (drop i ns))) (flat_map f (map tree_of (drop (i - 1) ns))) so_far (split ∙ ap (λ l. l ++ flat_map f (map tree_of (drop i ns))) (sym is)) now
 
 -- the three groups of lines
-pub three_groups : (constants : List Tree) (names : List (List ℕ)) (headers : Headers) (start defs uses exprs whole : List Line) → names ≡ names_of constants → start ≡ [] → defs ≡ start ++ defs_from headers 0 constants → uses ≡ defs ++ flat_map (λ spec. uses_in constants (value_of spec)) constants → exprs ≡ flat_map (λ spec. exprs_in names headers (value_of spec)) constants → whole ≡ uses ++ exprs → whole ≡ lines_of constants headers
+pub three_groups : (constants : List Tree) (names : List (List ℕ)) (headers : Headers) (start defs uses exprs whole : List FileLine) → names ≡ names_of constants → start ≡ [] → defs ≡ start ++ defs_from headers 0 constants → uses ≡ defs ++ flat_map (λ spec. uses_in constants (value_of spec)) constants → exprs ≡ flat_map (λ spec. exprs_in names headers (value_of spec)) constants → whole ≡ uses ++ exprs → whole ≡ lines_of constants headers
 three_groups constants names headers start defs uses exprs whole is_names is_start is_defs is_uses is_exprs is_whole =
     let D = defs_from headers 0 constants in
     let U = flat_map (λ spec. uses_in constants (value_of spec)) constants in

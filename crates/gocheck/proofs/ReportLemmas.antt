@@ -3,7 +3,7 @@ use Rattle.std.proofs.Common.{◌≡◌, ◌≢◌, ℕ, ℤ, Bool, true, Option
 use Rattle.std.specs.Prelude.{◌↔◌, ◌≤◌, IfOk, length}
 use Rattle.go_base.specs.declared.rule.Broken.{Broken}
 use Rattle.go_tree.specs.Tree.{Tree}
-use Rattle.gocheck.specs.declared.line.Line.{Line}
+use Rattle.go_model.specs.declared.file_lines.FileLine.{FileLine}
 use Rattle.go_parse_s.specs.Files.{IsFileOf}
 use Rattle.go_model.specs.FormRules.Order.{IsListOf}
 use Rattle.go_model.specs.FormRules.Whole.{AreBrokenForms}
@@ -16,7 +16,10 @@ use Rattle.go_model.proofs.BrokenListLemmas.{none_found}
 use Rattle.gocheck.specs.Table.{slot_of}
 use Rattle.go_load.specs.Marks.{is_marked}
 use Rattle.go_model.specs.Waiting.{Chain}
-use Rattle.gocheck.specs.Report.{accepted, refused, refused_package, lines_of, values_report, ValuesReport, PackageReport, by_names, ReportOf, broken_form, most_bytes, first_number}
+use Rattle.go_model.specs.Sources.{most_bytes}
+use Rattle.go_model.specs.FileLines.{lines_of}
+use Rattle.go_model.specs.Report.{accepted, refused, refused_package, values_report}
+use Rattle.go_model.specs.Phases.{ValuesReport, PackageReport, by_names, ReportOf, broken_form, first_number}
 
 pub if_ok-map : {A E : Type 0} (r : Result A E) (P Q : A → Type 0) → ((x : A) → P x → Q x) → IfOk r P → IfOk r Q
 if_ok-map (Ok x) P Q f h = f x h
@@ -28,7 +31,7 @@ pub record Values (constants : List Tree) (headers : Headers) (cyclic : ℕ → 
   pub is_cyclic : (d : ℕ) → (cyclic d ≡ true) ↔ Chain constants headers d d
   pub list_is : list ≡ broken_values (names_of constants) headers cyclic 0 constants
 
-pub accepted_values : (name : List ℕ) (constants : List Tree) (headers : Headers) (cyclic : ℕ → Bool) (list : List Broken) (lines : List Line) → Values constants headers cyclic list → list ≡ [] → lines ≡ lines_of constants headers → ValuesReport name constants (accepted name lines)
+pub accepted_values : (name : List ℕ) (constants : List Tree) (headers : Headers) (cyclic : ℕ → Bool) (list : List Broken) (lines : List FileLine) → Values constants headers cyclic list → list ≡ [] → lines ≡ lines_of constants headers → ValuesReport name constants (accepted name lines)
 accepted_values name constants headers cyclic list lines v none e = record {
   headers = headers;
   known = v.known;
@@ -37,7 +40,7 @@ accepted_values name constants headers cyclic list lines v none e = record {
   report_is = rw (← v.list_is, none, e) refl;
 }
 
-refused_list : (name : List ℕ) (list : List Broken) (lines : List Line) → list ≢ [] → refused_package name list ≡ values_report name list lines
+refused_list : (name : List ℕ) (list : List Broken) (lines : List FileLine) → list ≢ [] → refused_package name list ≡ values_report name list lines
 refused_list name [] lines some = absurd (some refl)
 refused_list name (b ∷ bs) lines some = refl
 

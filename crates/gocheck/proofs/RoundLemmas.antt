@@ -9,7 +9,7 @@ use Rattle.go_tree.specs.Tree.{Tree, tree_of}
 use Rattle.go_model.specs.Resolution.{value_of, names_of}
 use Rattle.go_model.specs.Records.{Headers, record_of}
 use Rattle.go_model.specs.Headers.{headers_of, Follows, Justified, Holds, Known}
-use Rattle.go_model.specs.Laws.{IsPart}
+use Rattle.go_model.specs.Quests.{IsPart}
 use Rattle.go_model.proofs.HeaderLemmas.{record_of-part, Follows-part, Follows-same, headers_of-here, headers_of-there, headers_of-holds, stays}
 use Rattle.gocheck.specs.Table.{slot_of, IsBacked, IsSettled, open_count}
 

@@ -1,6 +1,7 @@
 -- What an expression lacks, node by node, and the graph of the waits.
-use Rattle.std.proofs.Common.{◌≡◌, ℕ, zero, suc, ℤ, ◌+◌, ◌<◌, Option, Some, None, List, [], ◌∷◌, length, map, get_or, refl, sym, ap, ◌∙◌, subst, Contains, arith}
+use Rattle.std.proofs.Common.{◌≡◌, ℕ, zero, suc, Bool, ℤ, ◌+◌, ◌<◌, Option, Some, None, List, [], ◌∷◌, length, map, get_or, refl, sym, ap, ◌∙◌, subst, Contains, arith}
 use Rattle.std.specs.Prelude.{◌↔◌, All, slice_get}
+use Rattle.std.specs.Option.{option_map}
 use Rattle.std.proofs.lemmas.List.{length-map}
 use Rattle.std.proofs.lemmas.List.Elements.{All-nil, All-cons, All-append, All-contains}
 use Rattle.std.proofs.lemmas.List.Quantifiers.{position-Some}
@@ -11,10 +12,11 @@ use Rattle.go_tree.proofs.TreeLemmas.{part_within}
 use Rattle.go_model.specs.Resolution.{same_text}
 use Rattle.go_model.specs.Resolution.{name_of, value_of, names_of, resolve}
 use Rattle.go_model.specs.Records.{Headers, record_of}
-use Rattle.go_model.specs.Tests.{name_test, sum_test, test_of}
+use Rattle.go_model.specs.Quests.{Done, run}
+use Rattle.go_model.specs.Tests.{name_test, sum_test, asked_of}
 use Rattle.go_model.specs.Waiting.{lacked, lacked_in, lacked_among, Waits, Chain, one, more}
 use Rattle.go_model.specs.Graph.{Graph, HasEdge, Path, edge, further, IsGraph}
-use Rattle.gocheck.specs.Lacking.{lacking}
+use Rattle.go_model.specs.Lacking.{lacking}
 
 count-parts : (t : Tree) → node_count t ≡ 1 + node_count_of_all (parts_of t)
 count-parts (branch id from to kind text parts) = refl
@@ -25,15 +27,14 @@ part_smaller t ns k n parts lt at = omega (arith, part_within ns k n lt at, coun
 
 -- only a name lacks a header
 
-sum_lacks : (x y : Option ℤ) → lacked (sum_test x y) ≡ []
-sum_lacks None y = refl
-sum_lacks (Some x) None = refl
-sum_lacks (Some x) (Some y) = refl
+sum_lacks : (headers : Headers) (o : Option Bool) → lacked (option_map (run headers) (option_map Done o)) ≡ []
+sum_lacks headers None = refl
+sum_lacks headers (Some b) = refl
 
-pub lacks_none : (names : List (List ℕ)) (headers : Headers) (t : Tree) → (kind_of t ≡ Name → ⊥) → lacked (test_of names headers t) ≡ []
+pub lacks_none : (names : List (List ℕ)) (headers : Headers) (t : Tree) → (kind_of t ≡ Name → ⊥) → lacked (asked_of names headers t) ≡ []
 lacks_none names headers (branch id from to AddExpr text no_trees) other = refl
 lacks_none names headers (branch id from to AddExpr text (more_trees x no_trees)) other = refl
-lacks_none names headers (branch id from to AddExpr text (more_trees x (more_trees y no_trees))) other = sum_lacks (record_of names headers x) (record_of names headers y)
+lacks_none names headers (branch id from to AddExpr text (more_trees x (more_trees y no_trees))) other = sum_lacks headers (sum_test (record_of names headers x) (record_of names headers y))
 lacks_none names headers (branch id from to AddExpr text (more_trees x (more_trees y (more_trees z zs)))) other = refl
 lacks_none names headers (branch id from to Name text parts) other = absurd (other refl)
 lacks_none names headers (branch id from to IntLit text parts) other = refl
@@ -41,15 +42,15 @@ lacks_none names headers (branch id from to kind text parts) other = refl
 
 -- what a name lacks is the place of a constant
 
-slot_within : (n d : ℕ) (h : Option ℤ) → d < n → All (λ k. k < n) (lacked (Some (name_test (λ _. h) (Some d))))
+slot_within : (n d : ℕ) (h : Option ℤ) → d < n → All (λ k. k < n) (lacked (Some (run (λ _. h) (name_test (Some d)))))
 slot_within n d None lt = All-cons (λ k. k < n) d [] lt (All-nil (λ k. k < n))
 slot_within n d (Some h) lt = All-nil (λ k. k < n)
 
-name_within : (names : List (List ℕ)) (headers : Headers) (text : List ℕ) (o : Option ℕ) → resolve names text ≡ o → All (λ k. k < length names) (lacked (Some (name_test headers o)))
+name_within : (names : List (List ℕ)) (headers : Headers) (text : List ℕ) (o : Option ℕ) → resolve names text ≡ o → All (λ k. k < length names) (lacked (Some (run headers (name_test o))))
 name_within names headers text None e = All-nil (λ k. k < length names)
 name_within names headers text (Some d) e = slot_within (length names) d (headers d) (position-Some (λ declared. same_text declared text) names d [] e).0
 
-own_within : (names : List (List ℕ)) (headers : Headers) (t : Tree) → All (λ k. k < length names) (lacked (test_of names headers t))
+own_within : (names : List (List ℕ)) (headers : Headers) (t : Tree) → All (λ k. k < length names) (lacked (asked_of names headers t))
 own_within names headers (branch id from to Name text parts) = name_within names headers text (resolve names text) refl
 own_within names headers (branch id from to kind text parts) =
     subst (All (λ k. k < length names)) (sym (lacks_none names headers (branch id from to kind text parts) (λ e. cc))) (All-nil (λ k. k < length names))
@@ -57,7 +58,7 @@ own_within names headers (branch id from to kind text parts) =
 mutual
   lacked_within : (names : List (List ℕ)) (headers : Headers) (t : Tree) → All (λ k. k < length names) (lacked_in names headers t)
   lacked_within names headers (branch id from to kind text parts) =
-      All-append (λ k. k < length names) (lacked (test_of names headers (branch id from to kind text parts))) (lacked_among names headers parts)
+      All-append (λ k. k < length names) (lacked (asked_of names headers (branch id from to kind text parts))) (lacked_among names headers parts)
       (own_within names headers (branch id from to kind text parts)) (among_within names headers parts)
 
   among_within : (names : List (List ℕ)) (headers : Headers) (ts : Trees) → All (λ k. k < length names) (lacked_among names headers ts)

@@ -12,8 +12,10 @@ use Rattle.go_base.specs.declared.tree.MemFile.{MemFile}
 use Rattle.go_base.specs.Status.{IsReport}
 use Rattle.go_base.specs.Tree.{bytes_of}
 use Rattle.go_base.specs.Sink.{Adds}
-use Rattle.gocheck.specs.Report.{Report, accepted, refused, refused_package, most_bytes, ReportOf}
-use Rattle.gocheck.specs.Text.{report_text}
+use Rattle.go_model.specs.Sources.{most_bytes}
+use Rattle.go_model.specs.Report.{Report, accepted, refused, refused_package}
+use Rattle.go_model.specs.Phases.{ReportOf}
+use Rattle.go_model.specs.Text.Lines.{report_text}
 
 -- own: one byte more than a file may have is read, so that a longer file shows
 abbrev pub source_of : List MemFile → List ℕ → List ℕ

@@ -1,7 +1,7 @@
 -- What a report of the program stands for.
 use Rattle.gocheck.specs.declared.report.Report.{Report as OwnReport}
 use Rattle.gocheck.specs.declared.report.Report.TheVariants.{Accepted, Refused, RefusedPackage}
-use Rattle.gocheck.specs.Report.{Report, accepted, refused, refused_package}
+use Rattle.go_model.specs.Report.{Report, accepted, refused, refused_package}
 
 abbrev pub report_view : OwnReport → Report
 report_view (Accepted name lines) = accepted name lines.items

@@ -3,7 +3,9 @@ ghost use Rattle.std.specs.Prelude.{◌≡◌, ◌≤◌, ◌∷◌, [], false, 
 ghost use Rattle.go_tree.specs.Scan.{Gap};
 ghost use Rattle.go_tree.specs.Tree.{start_of, text_of, tree_of};
 ghost use Rattle.go_parse_s.specs.Files.{IsFileOf};
-ghost use Rattle.gocheck.specs.Report.{PackageReport, refused, ReportOf, most_bytes, first_number};
+ghost use Rattle.go_model.specs.Sources.{most_bytes};
+ghost use Rattle.go_model.specs.Report.{refused};
+ghost use Rattle.go_model.specs.Phases.{PackageReport, ReportOf, first_number};
 ghost use Rattle.go_model.specs.Resolution as resolution;
 ghost use Rattle.gocheck.specs.View.{report_view};
 

@@ -3,7 +3,7 @@ ghost use Rattle.std.specs.Prelude.{◌≡◌, ◌≢◌, true, false, [], IfOk,
 ghost use Rattle.go_tree.specs.Tree.{tree_of};
 ghost use Rattle.go_model.specs.FormRules.Order.{IsListOf};
 ghost use Rattle.gocheck.specs.Names.{distinct};
-ghost use Rattle.gocheck.specs.Report.{PackageReport, ValuesReport};
+ghost use Rattle.go_model.specs.Phases.{PackageReport, ValuesReport};
 ghost use Rattle.go_model.specs.Resolution.{names_of};
 ghost use Rattle.go_model.specs.Rules as rules;
 ghost use Rattle.gocheck.specs.View.{report_view};

@@ -8,8 +8,6 @@ mod fields;
 mod folder;
 mod folder_list;
 mod headers;
-mod laws;
-mod line;
 mod names;
 mod parts;
 mod paths;

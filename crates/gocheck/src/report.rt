@@ -5,14 +5,14 @@ ghost use Rattle.go_base.specs.Status.{IsReport};
 ghost use Rattle.gocheck.specs.Headline.{is_beyond, refusal_of, verdict_of};
 ghost use Rattle.gocheck.specs.View.{report_view};
 
-use crate::line::Line;
 use go_base::{Broken, Bytes, Family, Status};
+use go_model::FileLine;
 
 /// What a run tells of a file.
 #[derive(Debug, Drop)]
 pub enum Report {
     /// The file is accepted: the name of its package, and the lines behind the package's own.
-    Accepted { name: Bytes, lines: Vec<Line> },
+    Accepted { name: Bytes, lines: Vec<FileLine> },
     /// The file itself breaks rules: by offset, then in the order of the table of rules.
     Refused { list: Vec<Broken> },
     /// The constants break rules: the name of the package, and the rules in the same order.

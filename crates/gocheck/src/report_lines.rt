@@ -3,19 +3,19 @@ ghost use Rattle.std.specs.Prelude.{◌≡◌, ◌∷◌, ◌++◌, [], IfOk, On
 ghost use Rattle.std.specs.List.{flat_map};
 ghost use Rattle.std.specs.Option.{option_map_or};
 ghost use Rattle.go_tree.specs.Tree.{tree_of, trees_of, start_of, end_of};
-ghost use Rattle.gocheck.specs.declared.line.Line.TheVariants as line;
+ghost use Rattle.go_model.specs.declared.file_lines.FileLine.TheVariants as line;
 ghost use Rattle.go_model.specs.Resolution.{names_of};
 ghost use Rattle.go_model.specs.Resolution as resolution;
 ghost use Rattle.go_model.specs.Records.{record_of};
 ghost use Rattle.gocheck.specs.Table.{slot_of};
-ghost use Rattle.gocheck.specs.Report.{defs_from, uses_in, exprs_in, exprs_among, lines_of};
-ghost use Rattle.gocheck.specs.Report as report;
+ghost use Rattle.go_model.specs.FileLines.{defs_from, uses_in, exprs_in, exprs_among, lines_of};
+ghost use Rattle.go_model.specs.FileLines as file_lines;
 
-use crate::line::Line;
 use crate::names::Names;
 use crate::parts::{name_of, value_of};
 use crate::record::{operands, parenthesized, record, slot, sum};
 use go_base::NoMemory;
+use go_model::FileLine;
 use go_tree::{Node, NodeKind};
 use std::alloc::Global;
 
@@ -26,7 +26,7 @@ pub fn lines(
     names: &Names,
     table: &[Option<i128>],
     constants: &[Node],
-) -> Result<Vec<Line>, NoMemory>
+) -> Result<Vec<FileLine>, NoMemory>
     requires { names.now ≡ names_of (map tree_of constants.now) }
     ensures { IfOk result (λ lines.
         lines.items ≡ lines_of (map tree_of constants.now) (slot_of table.now)) }
@@ -43,7 +43,7 @@ pub fn lines(
 fn push_defs(
     table: &[Option<i128>],
     constants: &[Node],
-    lines: &mut Vec<Line>,
+    lines: &mut Vec<FileLine>,
 ) -> Result<(), NoMemory>
     ensures { OnOk result (lines.new.items
         ≡ lines.old.items ++ defs_from (slot_of table.now) 0 (map tree_of constants.now)) }
@@ -54,20 +54,24 @@ fn push_defs(
     Ok(())
 }
 
-fn push_def(name: &Node, value: Option<i128>, lines: &mut Vec<Line>) -> Result<(), NoMemory>
+fn push_def(name: &Node, value: Option<i128>, lines: &mut Vec<FileLine>) -> Result<(), NoMemory>
     ensures { OnOk result (lines.new.items ≡ lines.old.items ++ option_map_or (λ v.
         line.Def (start_of (tree_of name.now)) (end_of (tree_of name.now)) v ∷ []) value []) }
 {
     if let Some(value) = value {
         let start = name.start();
         let end = name.end();
-        lines.push(Line::Def { start, end, value })?;
+        lines.push(FileLine::Def { start, end, value })?;
     }
     Ok(())
 }
 
 // Pushes the line of each identifier on a right side that denotes a constant.
-fn push_all_uses(names: &Names, constants: &[Node], lines: &mut Vec<Line>) -> Result<(), NoMemory>
+fn push_all_uses(
+    names: &Names,
+    constants: &[Node],
+    lines: &mut Vec<FileLine>,
+) -> Result<(), NoMemory>
     requires { names.now ≡ names_of (map tree_of constants.now) }
     ensures { OnOk result (lines.new.items ≡ lines.old.items ++ flat_map (λ spec.
         uses_in (map tree_of constants.now) (resolution.value_of spec)) (map tree_of constants.now)) }
@@ -83,7 +87,7 @@ fn push_uses(
     names: &Names,
     constants: &[Node],
     node: &Node,
-    lines: &mut Vec<Line>,
+    lines: &mut Vec<FileLine>,
 ) -> Result<(), NoMemory>
     requires { names.now ≡ names_of (map tree_of constants.now) }
     ensures { OnOk result (lines.new.items
@@ -99,14 +103,14 @@ fn push_uses(
     Ok(())
 }
 
-fn push_use(name: &Node, declared: Option<usize>, lines: &mut Vec<Line>) -> Result<(), NoMemory>
+fn push_use(name: &Node, declared: Option<usize>, lines: &mut Vec<FileLine>) -> Result<(), NoMemory>
     ensures { OnOk result (lines.new.items ≡ lines.old.items ++ option_map_or (λ at.
         line.Use (start_of (tree_of name.now)) (end_of (tree_of name.now)) at ∷ []) declared []) }
 {
     if let Some(declared) = declared {
         let start = name.start();
         let end = name.end();
-        lines.push(Line::Use {
+        lines.push(FileLine::Use {
             start,
             end,
             declared,
@@ -118,7 +122,7 @@ fn push_use(name: &Node, declared: Option<usize>, lines: &mut Vec<Line>) -> Resu
 // Where the constant that a name denotes is declared.
 fn declared_at(names: &Names, constants: &[Node], name: &[u8]) -> Option<usize>
     requires { names.now ≡ names_of (map tree_of constants.now) }
-    ensures { result ≡ report.declared_at (map tree_of constants.now) name.now }
+    ensures { result ≡ file_lines.declared_at (map tree_of constants.now) name.now }
 {
     let constant = constants.get(names.index_of(name)?)?;
     Some(name_of(constant).start())
@@ -131,7 +135,7 @@ fn exprs(
     names: &Names,
     table: &[Option<i128>],
     constants: &[Node],
-) -> Result<Vec<Line>, NoMemory>
+) -> Result<Vec<FileLine>, NoMemory>
     ensures { IfOk result (λ lines. lines.items ≡ flat_map (λ spec.
         exprs_in names.now (slot_of table.now) (resolution.value_of spec)) (map tree_of constants.now)) }
 {
@@ -149,7 +153,7 @@ fn push_exprs_reversed(
     names: &Names,
     table: &[Option<i128>],
     node: &Node,
-    lines: &mut Vec<Line>,
+    lines: &mut Vec<FileLine>,
 ) -> Result<Option<i128>, NoMemory>
     ensures value { IfOk result (λ value.
         value ≡ record_of names.now (slot_of table.now) (tree_of node.now)) }
@@ -176,7 +180,7 @@ fn push_parts_reversed(
     names: &Names,
     table: &[Option<i128>],
     parts: &[Node],
-    lines: &mut Vec<Line>,
+    lines: &mut Vec<FileLine>,
 ) -> Result<(), NoMemory>
     ensures { OnOk result (lines.new.items ≡ lines.old.items
         ++ reverse (exprs_among names.now (slot_of table.now) (trees_of (map tree_of parts.now)))) }
@@ -187,14 +191,14 @@ fn push_parts_reversed(
     Ok(())
 }
 
-fn push_expr(node: &Node, value: Option<i128>, lines: &mut Vec<Line>) -> Result<(), NoMemory>
+fn push_expr(node: &Node, value: Option<i128>, lines: &mut Vec<FileLine>) -> Result<(), NoMemory>
     ensures { OnOk result (lines.new.items ≡ lines.old.items ++ option_map_or (λ v.
         line.Expr (start_of (tree_of node.now)) (end_of (tree_of node.now)) v ∷ []) value []) }
 {
     if let Some(value) = value {
         let start = node.start();
         let end = node.end();
-        lines.push(Line::Expr { start, end, value })?;
+        lines.push(FileLine::Expr { start, end, value })?;
     }
     Ok(())
 }

@@ -1,14 +1,15 @@
 // The text of a report.
 ghost use Rattle.std.specs.Prelude.{◌≡◌, ◌++◌, IfOk, OnOk, map, slice_range, string_bytes};
 ghost use Rattle.std.specs.List.{flat_map};
-ghost use Rattle.gocheck.specs.Text.{line_col, place_text, line_fields, broken_fields, line_text, module_fields, package_fields, report_text};
-ghost use Rattle.gocheck.specs.Report.{accepted, refused, refused_package};
+ghost use Rattle.go_model.specs.Text.Places.{line_col, place_text};
+ghost use Rattle.go_model.specs.Text.Lines.{line_fields, broken_fields, line_text, module_fields, package_fields, report_text};
+ghost use Rattle.go_model.specs.Report.{accepted, refused, refused_package};
 ghost use Rattle.gocheck.specs.View.{report_view};
 
 use crate::fields::put_line;
-use crate::line::Line;
 use crate::report::Report;
 use go_base::{Broken, Lines, NoMemory};
+use go_model::FileLine;
 use std::alloc::{AllocError, Global};
 
 /// The text of a report on the file of these bytes.
@@ -32,7 +33,7 @@ fn accepted_text(
     alloc: Global,
     places: &Lines<'_>,
     name: &[u8],
-    lines: &[Line],
+    lines: &[FileLine],
 ) -> Result<Vec<u8>, AllocError>
     ensures { IfOk result (λ text. text.items ≡ report_text places.now (accepted name.now lines.now)) }
 {
@@ -77,7 +78,7 @@ fn put_lines(
     alloc: Global,
     out: &mut Vec<u8>,
     places: &Lines<'_>,
-    lines: &[Line],
+    lines: &[FileLine],
 ) -> Result<(), AllocError>
     ensures { OnOk result (out.new.items ≡ out.old.items ++ flat_map (λ line. line_text (line_fields places.now line)) lines.now) }
 {
@@ -91,12 +92,12 @@ fn put_one(
     alloc: Global,
     out: &mut Vec<u8>,
     places: &Lines<'_>,
-    line: Line,
+    line: FileLine,
 ) -> Result<(), AllocError>
     ensures { OnOk result (out.new.items ≡ out.old.items ++ line_text (line_fields places.now line)) }
 {
     match line {
-        Line::Def { start, end, value } => {
+        FileLine::Def { start, end, value } => {
             let at = place_text(alloc, places, start)?;
             let name = span(places, start, end);
             let value = format!(in alloc; "{value}")?;
@@ -110,7 +111,7 @@ fn put_one(
             ];
             put_line(out, &fields)
         }
-        Line::Use {
+        FileLine::Use {
             start,
             end,
             declared,
@@ -120,7 +121,7 @@ fn put_one(
             let declared = place_text(alloc, places, declared)?;
             put_line(out, &[b"use", at.as_bytes(), name, declared.as_bytes()])
         }
-        Line::Expr { start, end, value } => {
+        FileLine::Expr { start, end, value } => {
             let at = place_text(alloc, places, start)?;
             let end = line_col(alloc, places, end)?;
             let value = format!(in alloc; "{value}")?;

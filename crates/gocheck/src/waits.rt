@@ -3,11 +3,11 @@ ghost use Rattle.std.specs.Prelude.{option_to_list, ◌≡◌, ◌++◌, ◌↔�
 ghost use Rattle.go_tree.specs.Tree.{tree_of};
 ghost use Rattle.go_model.specs.Resolution.{names_of};
 ghost use Rattle.gocheck.specs.Table.{slot_of};
-ghost use Rattle.go_model.specs.Tests.{test_of};
+ghost use Rattle.go_model.specs.Tests.{asked_of};
 ghost use Rattle.go_model.specs.Waiting.{Chain, lacked, lacked_in};
 ghost use Rattle.go_model.specs.Graph.{graph_of};
 ghost use Rattle.go_load.specs.Marks.{is_marked};
-ghost use Rattle.gocheck.specs.Lacking.{lacking};
+ghost use Rattle.go_model.specs.Lacking.{lacking};
 
 use crate::cycles::cyclic;
 use crate::names::Names;
@@ -74,7 +74,7 @@ fn push_lacked(
 // The constant whose header the test at a node lacks: only a name lacks one.
 fn lacked_here(names: &Names, table: &[Option<i128>], node: &Node) -> Option<usize>
     ensures { option_to_list result
-        ≡ lacked (test_of names.now (slot_of table.now) (tree_of node.now)) }
+        ≡ lacked (asked_of names.now (slot_of table.now) (tree_of node.now)) }
 {
     match node.kind() {
         NodeKind::Name => names

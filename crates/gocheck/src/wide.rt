@@ -1,5 +1,6 @@
 // Integers that no constant can have (Go specification, "Constants", "Constant expressions").
 ghost use Rattle.std.specs.Prelude.{◌≡◌, ◌++◌, IfOk, OnOk, Some, is_some, map, pos};
+ghost use Rattle.std.specs.Option.{option_map};
 ghost use Rattle.go_tree.specs.Tree.{Tree, tree_of, trees_of, start_of, text_of, kind_of, parts_of, more_trees, no_trees};
 ghost use Rattle.go_num.specs.Arithmetic.{limited};
 ghost use Rattle.go_tree.specs.declared.node_kind.NodeKind.TheVariants as node_kind;
@@ -7,7 +8,8 @@ ghost use Rattle.go_tree.specs.LiteralValues.{int_lit_value};
 ghost use Rattle.go_model.specs.Records.{record_of, sum_of};
 ghost use Rattle.go_model.specs.Rules.{wide_in, wide_among, wide_at};
 ghost use Rattle.gocheck.specs.Table.{slot_of};
-ghost use Rattle.go_model.specs.Tests.{Decided, test_of, sum_test};
+ghost use Rattle.go_model.specs.Quests.{Decided};
+ghost use Rattle.go_model.specs.Tests.{asked_of, sum_test};
 
 use crate::names::Names;
 use crate::record::{operands, parenthesized, record, sum};
@@ -20,6 +22,7 @@ use go_tree::{Node, NodeKind};
 /// to 2^127-1, operands before their sum, and returns the record of the expression. Each value is
 /// computed once, from those of the operands.
 #[cycle(wide)]
+#[tactic(auto, using(crate::proofs::WideLemmas::sum_lemma))]
 pub fn push_wide(
     names: &Names,
     table: &[Option<i128>],
@@ -69,7 +72,7 @@ fn push_sum(
 ) -> Result<Option<i128>, NoMemory>
     ensures value { IfOk result (λ value. value ≡ sum_of left right) }
     ensures list { OnOk result (list.new.items
-        ≡ list.old.items ++ wide_at (start_of (tree_of node.now)) (sum_test left right)) }
+        ≡ list.old.items ++ wide_at (start_of (tree_of node.now)) (option_map Decided (sum_test left right))) }
 {
     let value = sum(left, right);
     if left.is_some() && right.is_some() && value.is_none() {
@@ -91,7 +94,7 @@ fn push_leaf(
     ensures value { IfOk result (λ value.
         value ≡ record_of names.now (slot_of table.now) (tree_of node.now)) }
     ensures list { OnOk result (list.new.items ≡ list.old.items
-        ++ wide_at (start_of (tree_of node.now)) (test_of names.now (slot_of table.now) (tree_of node.now))) }
+        ++ wide_at (start_of (tree_of node.now)) (asked_of names.now (slot_of table.now) (tree_of node.now))) }
 {
     if let NodeKind::IntLit = node.kind() {
         return push_literal(node, list);

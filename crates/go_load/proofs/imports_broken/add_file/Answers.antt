@@ -2,8 +2,8 @@ use Rattle.std.proofs.Common.{◌++◌, [], sym, ap, ◌∙◌, Option}
 use Rattle.std.specs.Option.{option_map_or}
 use Rattle.std.specs.List.{flat_map}
 use Rattle.std.proofs.lemmas.List.{append-nil}
-use Rattle.go_load.specs.Heads.{FileHead}
-use Rattle.go_load.specs.BrokenImports.{broken_import}
+use Rattle.go_model.specs.Heads.{FileHead}
+use Rattle.go_model.specs.BrokenImports.{broken_import}
 use Rattle.go_load.proofs.MemberLemmas.{get_beyond}
 use Rattle.go_load.proofs.imports_broken.add_file.Goals as goal
 

@@ -1,7 +1,7 @@
 use Rattle.std.proofs.Common.{◌≡◌, ◌++◌, map, drop}
 use Rattle.std.specs.List.{filter_map}
 use Rattle.go_model.specs.ModulePath.{module_path}
-use Rattle.go_load.specs.ModuleFile.{declared_by}
+use Rattle.go_model.specs.ModuleRules.{declared_by}
 use Rattle.go_load.specs.Seen.{seen}
 use Rattle.go_load.proofs.module_file.module_lines.Given as goal
 

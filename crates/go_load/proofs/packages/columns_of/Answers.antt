@@ -1,7 +1,7 @@
 use Rattle.std.proofs.Common.{length, not, ap, sym, ◌∙◌}
 use Rattle.std.proofs.lemmas.List.{length-map}
-use Rattle.go_load.specs.Paths.{has_path}
-use Rattle.go_load.specs.Packages.{files_of, imports_of}
+use Rattle.go_model.specs.Paths.{has_path}
+use Rattle.go_model.specs.Packages.{files_of, imports_of}
 use Rattle.go_load.proofs.TableLemmas.{columns_imports, imports_graph}
 use Rattle.go_load.proofs.packages.columns_of.Goals as goal
 

@@ -2,7 +2,7 @@ use Rattle.std.proofs.Common.{◌≡◌, ℕ, ◌<◌, ◌⊎◌, ◌+◌, lengt
 use Rattle.std.specs.Prelude.{slice_get}
 use Rattle.std.proofs.lemmas.Bool.{cases_eq}
 use Rattle.std.proofs.lemmas.Option.{slice_get_within}
-use Rattle.go_load.specs.Packages.{is_marked}
+use Rattle.go_model.specs.Packages.{is_marked}
 use Rattle.go_load.proofs.ReachMarkLemmas.{extends_more, flag_here, flag_back}
 use Rattle.go_load.proofs.reached_packages.mark_own.Goals as goal
 

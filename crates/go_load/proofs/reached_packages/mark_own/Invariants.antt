@@ -1,7 +1,7 @@
 use Rattle.std.proofs.Common.{◌≡◌, ℕ, ◌⊎◌, ◌<◌, true, false, Some}
 use Rattle.std.specs.Prelude.{slice_get}
 use Rattle.go_load.specs.ReachMarks.{Extends}
-use Rattle.go_load.specs.Packages.{is_marked}
+use Rattle.go_model.specs.Packages.{is_marked}
 use Rattle.go_load.proofs.reached_packages.mark_own.Given as goal
 
 abbrev pub invariant-loop-k : goal.invariant-loop-k

@@ -1,6 +1,6 @@
 use Rattle.std.proofs.Common.{◌≡◌, true, Contains, inr, ⊎_elim, subst, below_more, arith}
 use Rattle.std.proofs.lemmas.List.Elements.{All-contains, All-from_get_or, Contains-get_or}
-use Rattle.go_load.specs.Packages.{is_marked}
+use Rattle.go_model.specs.Packages.{is_marked}
 use Rattle.go_load.proofs.ReachMarkLemmas.{extends_more}
 use Rattle.go_load.proofs.reached_packages.mark_row.Goals as goal
 

@@ -1,6 +1,6 @@
 use Rattle.std.proofs.Common.{◌≡◌, ℕ, ◌⊎◌, ◌<◌, true, get_or, Contains}
 use Rattle.go_load.specs.ReachMarks.{Extends}
-use Rattle.go_load.specs.Packages.{is_marked}
+use Rattle.go_model.specs.Packages.{is_marked}
 use Rattle.go_load.proofs.reached_packages.mark_row.Given as goal
 
 abbrev pub invariant-loop-number : goal.invariant-loop-number

@@ -1,5 +1,5 @@
 use Rattle.std.proofs.Common.{◌∙◌, ◌≡◌, ◌<◌, arith, length, subst, true, List, Bool}
-use Rattle.go_load.specs.Packages.{is_marked}
+use Rattle.go_model.specs.Packages.{is_marked}
 use Rattle.go_load.proofs.ReachMarkLemmas.{row_here, row_within, next_within, none_marked, search_begins, search_goes_on, search_ends}
 use Rattle.go_load.proofs.PathSetLemmas.{at-any}
 use Rattle.go_load.proofs.reached_packages.reached.Goals as goal

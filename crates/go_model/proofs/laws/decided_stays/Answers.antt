@@ -1,5 +1,5 @@
-use Rattle.go_model.proofs.LawLemmas.{test_of-stays}
+use Rattle.go_model.proofs.QuestLemmas.{run-stays}
 use Rattle.go_model.proofs.laws.decided_stays.Goals as goal
 
 pub returns : goal.returns
-returns c = test_of-stays
+returns g c = run-stays

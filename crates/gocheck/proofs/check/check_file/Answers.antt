@@ -1,7 +1,9 @@
 use Rattle.std.proofs.Common.{◌≡◌, [], ◌∷◌, ◌≤◌, ◌∙◌, length, ap, sym, subst}
 use Rattle.go_base.specs.declared.rule.Broken.{Broken}
 use Rattle.gocheck.specs.declared.report.Report.{Report as Own}
-use Rattle.gocheck.specs.Report.{refused, most_bytes, ReportOf, too_long, no_tree}
+use Rattle.go_model.specs.Sources.{most_bytes}
+use Rattle.go_model.specs.Report.{refused}
+use Rattle.go_model.specs.Phases.{ReportOf, too_long, no_tree}
 use Rattle.gocheck.specs.View.{report_view}
 use Rattle.gocheck.proofs.ReportLemmas.{if_ok-map}
 use Rattle.gocheck.proofs.check.check_file.Goals as goal

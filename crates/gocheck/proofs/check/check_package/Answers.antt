@@ -2,7 +2,7 @@ use Rattle.std.proofs.Common.{ℕ, List, map, ap, ◌∙◌, subst}
 use Rattle.std.specs.Prelude.{IfOk}
 use Rattle.go_tree.specs.Tree.{Tree, tree_of, text_of}
 use Rattle.gocheck.specs.declared.report.Report.{Report as Own}
-use Rattle.gocheck.specs.Report.{PackageReport}
+use Rattle.go_model.specs.Phases.{PackageReport}
 use Rattle.go_model.specs.Resolution.{first_part}
 use Rattle.gocheck.specs.View.{report_view}
 use Rattle.gocheck.proofs.check.check_package.Goals as goal

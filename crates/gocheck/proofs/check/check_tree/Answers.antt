@@ -3,7 +3,7 @@ use Rattle.go_tree.specs.Tree.{tree_of, text_of}
 use Rattle.gocheck.specs.declared.report.Report.{Report as Own}
 use Rattle.go_model.specs.FormRules.Whole.{AreBrokenForms}
 use Rattle.go_model.specs.declared.built.Built.TheVariants.{Constants}
-use Rattle.gocheck.specs.Report.{PackageReport, ReportOf, read}
+use Rattle.go_model.specs.Phases.{PackageReport, ReportOf, read}
 use Rattle.go_model.specs.Resolution.{first_part, constants_of}
 use Rattle.gocheck.specs.View.{report_view}
 use Rattle.gocheck.proofs.ReportLemmas.{if_ok-map, refused_form}

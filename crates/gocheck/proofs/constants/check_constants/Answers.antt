@@ -1,7 +1,7 @@
 use Rattle.std.proofs.Common.{◌≡◌, ◌≢◌, ◌∙◌, [], map}
 use Rattle.go_tree.specs.Tree.{tree_of}
 use Rattle.gocheck.specs.declared.report.Report.{Report as Own}
-use Rattle.gocheck.specs.Report.{PackageReport, ValuesReport, by_values}
+use Rattle.go_model.specs.Phases.{PackageReport, ValuesReport, by_values}
 use Rattle.go_model.specs.Rules.{broken_names}
 use Rattle.gocheck.specs.View.{report_view}
 use Rattle.gocheck.proofs.NameLemmas.{distinct-names}

@@ -1,6 +1,6 @@
 use Rattle.std.proofs.Common.{◌≡◌, ◌≢◌, ◌∙◌, [], map, ap}
 use Rattle.go_tree.specs.Tree.{tree_of}
-use Rattle.gocheck.specs.Report.{lines_of}
+use Rattle.go_model.specs.FileLines.{lines_of}
 use Rattle.gocheck.specs.Table.{slot_of}
 use Rattle.go_load.specs.Marks.{is_marked}
 use Rattle.gocheck.proofs.ReportLemmas.{values_read, accepted_values, refused_values}

@@ -1,7 +1,7 @@
 use Rattle.std.proofs.Common.{◌≡◌, ◌+◌, ◌*◌, ◌++◌, map, drop, reverse}
 use Rattle.go_tree.specs.Tree.{tree_of, trees_of, node_count, node_count_of_all}
 use Rattle.gocheck.specs.Table.{slot_of}
-use Rattle.gocheck.specs.Report.{exprs_among}
+use Rattle.go_model.specs.FileLines.{exprs_among}
 use Rattle.gocheck.proofs.report_lines.+exprs.Given as goal
 
 abbrev pub decreases-push_exprs_reversed : goal.decreases-push_exprs_reversed

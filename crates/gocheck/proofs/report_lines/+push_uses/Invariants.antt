@@ -1,6 +1,6 @@
 use Rattle.std.proofs.Common.{◌≡◌, ◌++◌, map, drop}
 use Rattle.go_tree.specs.Tree.{tree_of, trees_of, node_count}
-use Rattle.gocheck.specs.Report.{uses_among}
+use Rattle.go_model.specs.FileLines.{uses_among}
 use Rattle.gocheck.proofs.report_lines.+push_uses.Given as goal
 
 abbrev pub decreases-push_uses : goal.decreases-push_uses

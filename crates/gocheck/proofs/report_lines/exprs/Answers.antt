@@ -2,7 +2,7 @@ use Rattle.std.proofs.Common.{ap, arith}
 use Rattle.go_tree.specs.Tree.{Tree}
 use Rattle.go_model.specs.Resolution.{value_of}
 use Rattle.gocheck.specs.Table.{slot_of}
-use Rattle.gocheck.specs.Report.{exprs_in}
+use Rattle.go_model.specs.FileLines.{exprs_in}
 use Rattle.gocheck.proofs.LineLemmas.{walked_back}
 use Rattle.gocheck.proofs.report_lines.exprs.Goals as goal
 

@@ -3,7 +3,7 @@ use Rattle.std.specs.List.{flat_map}
 use Rattle.go_tree.specs.Tree.{tree_of}
 use Rattle.go_model.specs.Resolution.{value_of}
 use Rattle.gocheck.specs.Table.{slot_of}
-use Rattle.gocheck.specs.Report.{exprs_in}
+use Rattle.go_model.specs.FileLines.{exprs_in}
 use Rattle.gocheck.proofs.report_lines.exprs.Given as goal
 
 abbrev pub invariant-loop-place : goal.invariant-loop-place

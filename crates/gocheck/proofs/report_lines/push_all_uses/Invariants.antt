@@ -2,7 +2,7 @@ use Rattle.std.proofs.Common.{◌≡◌, ◌++◌, map, drop}
 use Rattle.std.specs.List.{flat_map}
 use Rattle.go_tree.specs.Tree.{tree_of}
 use Rattle.go_model.specs.Resolution.{value_of}
-use Rattle.gocheck.specs.Report.{uses_in}
+use Rattle.go_model.specs.FileLines.{uses_in}
 use Rattle.gocheck.proofs.report_lines.push_all_uses.Given as goal
 
 abbrev pub invariant-loop-constant : goal.invariant-loop-constant

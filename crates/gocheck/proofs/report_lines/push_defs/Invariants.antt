@@ -1,7 +1,7 @@
 use Rattle.std.proofs.Common.{◌≡◌, ◌++◌, map, drop}
 use Rattle.go_tree.specs.Tree.{tree_of}
 use Rattle.gocheck.specs.Table.{slot_of}
-use Rattle.gocheck.specs.Report.{defs_from}
+use Rattle.go_model.specs.FileLines.{defs_from}
 use Rattle.gocheck.proofs.report_lines.push_defs.Given as goal
 
 abbrev pub invariant-loop-place : goal.invariant-loop-place

@@ -1,7 +1,7 @@
 use Rattle.std.proofs.Common.{arith}
 use Rattle.go_base.specs.declared.rule.Broken.{Broken}
 use Rattle.go_base.specs.declared.rule.Family.TheVariants.{S}
-use Rattle.gocheck.specs.Text.{broken_fields, line_text}
+use Rattle.go_model.specs.Text.Lines.{broken_fields, line_text}
 use Rattle.gocheck.proofs.FieldLemmas.{one_more}
 use Rattle.gocheck.proofs.text.put_list.Goals as goal
 

@@ -2,7 +2,7 @@ use Rattle.std.proofs.Common.{◌++◌, ap, ◌∙◌}
 use Rattle.std.specs.Prelude.{codes}
 use Rattle.std.specs.List.{flat_map}
 use Rattle.go_base.specs.declared.rule.Broken.{Broken}
-use Rattle.gocheck.specs.Text.{broken_fields, line_text, module_fields, package_fields}
+use Rattle.go_model.specs.Text.Lines.{broken_fields, line_text, module_fields, package_fields}
 use Rattle.gocheck.proofs.TextLemmas.{behind_two}
 use Rattle.gocheck.proofs.text.refused_package_text.Goals as goal
 

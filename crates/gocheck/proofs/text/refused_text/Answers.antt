@@ -2,7 +2,7 @@ use Rattle.std.proofs.Common.{◌++◌, [], ◌∷◌, ap, ◌∙◌}
 use Rattle.std.specs.Prelude.{codes}
 use Rattle.std.specs.List.{flat_map}
 use Rattle.go_base.specs.declared.rule.Broken.{Broken}
-use Rattle.gocheck.specs.Text.{broken_fields, line_text}
+use Rattle.go_model.specs.Text.Lines.{broken_fields, line_text}
 use Rattle.gocheck.proofs.TextLemmas.{behind_one}
 use Rattle.gocheck.proofs.text.refused_text.Goals as goal
 

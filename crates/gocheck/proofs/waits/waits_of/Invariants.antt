@@ -2,7 +2,7 @@ use Rattle.std.proofs.Common.{◌≡◌, ◌++◌, map, drop}
 use Rattle.go_tree.specs.Tree.{tree_of}
 use Rattle.gocheck.specs.Table.{slot_of}
 use Rattle.go_model.specs.Graph.{graph_of}
-use Rattle.gocheck.specs.Lacking.{lacking}
+use Rattle.go_model.specs.Lacking.{lacking}
 use Rattle.gocheck.proofs.waits.waits_of.Given as goal
 
 abbrev pub invariant-loop-constant : goal.invariant-loop-constant
