@@ -1,11 +1,12 @@
 //! What a module is loaded from, and what it breaks before its packages are checked.
 //!
-//! `read_module_file` reads go.mod, `go_files` says which files below a root count. `broken_by` gives the
-//! rule of a text that is no file, `broken_forms` all that a file breaks by its form, `read_source` all that
-//! it breaks by itself. `packages_of` gives the packages of the files and what their imports name,
-//! `broken_packages` what these break. `import_order` orders packages behind those that they import,
-//! `cyclic_imports` tells which imports lie on a cycle, `reached` where paths of a graph lead. `ordered` makes
-//! the list that a report gives of broken rules that were found in any order.
+//! `load` reads the module below a root of a tree, or gives the rules of the first phase that breaks any. Its
+//! parts: `read_module_file` reads go.mod, `go_files` says which files below a root count, `read_source`
+//! gives all that a file breaks by itself; `packages_of` gives the packages of the files and what their
+//! imports name, `broken_packages` what these break; `import_order` orders packages behind those that they
+//! import, `cyclic_imports` tells which imports lie on a cycle. `broken_by` gives the rule of a text that is
+//! no file, `broken_forms` all that a file breaks by its form. `ordered` makes the list that a report gives of
+//! broken rules that were found in any order, `reached` tells where paths of a graph lead.
 #![tactic(auto)]
 
 mod rules;
@@ -85,6 +86,7 @@ pub use broken_list::breaks_none;
 pub use fault::broken_by;
 pub use form::order::ordered;
 pub use form::whole::broken_forms;
+pub use go_model::{Module, Package, SourceFile};
 pub use graph::is_graph;
 pub use heads::{Head, Import};
 pub use import_cycles::cyclic_imports;
@@ -106,7 +108,6 @@ pub use rules::{
 };
 pub use source::{MOST_BYTES, ReadSource, read_source};
 pub use table::Packages;
-pub use texts::Text;
 
 #[cfg(test)]
 mod import_cycles_tests;
