@@ -6,3 +6,6 @@ pub mod OneReportLemmas
 pub mod OrderLemmas
 pub mod QuestLemmas
 pub mod WholeLemmas
+pub mod MemberLemmas
+pub mod TableLemmas
+pub mod UniverseLemmas

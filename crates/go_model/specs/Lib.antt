@@ -37,3 +37,5 @@ pub mod Heads
 pub mod Paths
 pub mod Packages
 pub mod BrokenImports
+-- names of packages
+pub mod Names

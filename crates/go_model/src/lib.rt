@@ -15,7 +15,10 @@ mod built;
 mod module;
 
 // Names.
+mod block;
 mod object;
+mod object_table;
+mod predeclared;
 mod scopes;
 
 // What is known of declarations and expressions.
@@ -34,6 +37,7 @@ mod law_tests;
 #[cfg(test)]
 mod scopes_tests;
 
+pub use block::{Block, Import, Occurrence, Region, Selected};
 pub use built::Built;
 pub use file_lines::FileLine;
 pub use form_laws::{one_list, one_list_of_forms};
@@ -41,7 +45,9 @@ pub use header::{Header, Method};
 pub use laws::{decided_stays, one_header, one_report, records_stay, tests_stay};
 pub use module::{Module, Package, SourceFile};
 pub use object::{ObjId, ObjKind, Object};
+pub use object_table::{add_objects, copy_object, object_id};
 pub use outcome::{Answer, Outcome, Spot};
+pub use predeclared::{PREDECLARED, universe};
 pub use rec::{Mode, Rec};
 pub use records::{DefKind, Line, NamedObject, Records, What};
 pub use report::{At, PackageReport, Placed, Report, Verdict};

@@ -12,12 +12,21 @@ pub struct ObjId(pub usize);
 pub enum ObjKind {
     /// a constant ("Constant declarations")
     Const,
+    /// a type with a name of its own ("Type definitions", "Predeclared identifiers")
+    Defined,
+    /// another name of a type ("Alias declarations")
+    Alias,
     /// a package, by the name of an import ("Import declarations")
     Package,
+    /// a built-in function ("Built-in functions")
+    Builtin,
+    /// the predeclared `nil`
+    Nil,
 }
 
 /// An object: its name, what it is, the node that declares it, the place of its package in the module,
-/// and how many type parameters it has.
+/// and how many type parameters it has. A universe name has its own number in the place of a node, and 0
+/// in the place of a package.
 #[derive(Debug, Drop)]
 pub struct Object {
     pub name: Name,

@@ -1,11 +1,17 @@
 // What the names of a package denote (Go specification, "Declarations and scope").
-ghost use Rattle.std.specs.Prelude.{◌≡◌, [], IfOk, Some};
+ghost use Rattle.std.specs.Prelude.{◌≡◌, ℕ, [], IfOk, IfSome, IsSome, Some, Contains};
 ghost use Rattle.std.specs.Option.{option_map_or};
-ghost use Rattle.indexmap.specs.IndexMap.{ContainsKey, IsEmpty, get};
+ghost use Rattle.indexmap.specs.IndexMap.{ContainsKey, IsEmpty, get, insert_all};
+ghost use Rattle.go_model.specs.declared.object.ObjId.{ObjId};
+ghost use Rattle.go_model.specs.Module.{ModuleData, PackageData};
+ghost use Rattle.go_model.specs.Names.Tables.{HasTables, objects_of, region_entries, uses_of};
+ghost use Rattle.go_model.specs.Names.Universe.{universe};
 ghost use Rattle.go_model.specs.Scopes.{same_node, same_object};
 
 use crate::header::Method;
 use crate::object::{ObjId, Object};
+use crate::object_table::add_objects;
+use crate::predeclared::universe;
 use go_base::{Name, NoMemory};
 use go_tree::NodeId;
 use indexmap::IndexMap;
@@ -22,26 +28,32 @@ pub struct Scopes {
 }
 
 impl Scopes {
-    /// The scopes of the universe alone. A universe name gets its object with the forms that use it, and
-    /// as none of them is built, the four tables are empty. An error is want of memory.
+    /// The scopes of the universe alone. An error is want of memory.
     pub fn empty(alloc: Global) -> Result<Scopes, NoMemory>
-        ensures objects { IfOk result (λ scopes. IsEmpty scopes.objects) }
+        ensures objects { IfOk result (λ scopes.
+            scopes.objects.entries ≡ insert_all same_object [] (region_entries universe)) }
         ensures uses { IfOk result (λ scopes. IsEmpty scopes.uses) }
         ensures methods { IfOk result (λ scopes. IsEmpty scopes.methods) }
         ensures names { IfOk result (λ scopes. IsEmpty scopes.names) }
     {
+        let mut objects = IndexMap::new(alloc);
+        add_objects(&mut objects, &universe(alloc)?)?;
         Ok(Scopes {
-            objects: IndexMap::new(alloc),
+            objects,
             uses: IndexMap::new(alloc),
             methods: IndexMap::new(alloc),
             names: IndexMap::new(alloc),
         })
     }
 
-    /// The object that an occurrence of a name resolves to; None exactly where the table of uses does
-    /// not have the node.
+    /// The object that an occurrence of an identifier denotes. In the scopes of a package: None exactly
+    /// where the node is no identifier that denotes an object.
     pub fn resolve(&self, id: NodeId) -> Option<ObjId>
-        ensures { result ≡ get same_node self.now.uses id }
+        ensures table { result ≡ get same_node self.now.uses id }
+        ensures denotes { (m : ModuleData) (k : ℕ) (p : PackageData) → HasTables m k p self.now
+            → IfSome result (λ d. Contains (uses_of m k p) (id, d)) }
+        ensures found { (m : ModuleData) (k : ℕ) (p : PackageData) (d : ObjId) → HasTables m k p self.now
+            → Contains (uses_of m k p) (id, d) → IsSome result }
     {
         self.uses.get(&id).copied()
     }
@@ -49,15 +61,19 @@ impl Scopes {
     /// The object of that number, which the table of objects must have.
     pub fn object(&self, d: ObjId) -> &Object
         requires { ContainsKey same_object self.now.objects d }
-        ensures { get same_object self.now.objects d ≡ Some result.now }
+        ensures table { get same_object self.now.objects d ≡ Some result.now }
+        ensures declared { (m : ModuleData) (k : ℕ) (p : PackageData) → HasTables m k p self.now
+            → Contains (objects_of m k p) (d, result.now) }
     {
         &self.objects[&d]
     }
 
     /// The methods of a type; none where the table of methods does not have it.
     pub fn methods(&self, d: ObjId) -> &[Method]
-        ensures { result.now
+        ensures table { result.now
             ≡ option_map_or (λ list. list.items) (get same_object self.now.methods d) [] }
+        ensures unbuilt { (m : ModuleData) (k : ℕ) (p : PackageData) → HasTables m k p self.now
+            → result.now ≡ [] }
     {
         match self.methods.get(&d) {
             Some(list) => list,

@@ -1,0 +1,13 @@
+-- The names of a package: blocks, what is declared in them, what occurs, and what it denotes.
+pub mod Blocks
+pub mod Exported
+pub mod Universe
+pub mod Constants
+pub mod Imports
+pub mod Occurrences
+pub mod Regions
+pub mod Tables
+pub mod BlockRules
+pub mod ImportRules
+pub mod OccurrenceRules
+pub mod BrokenNames
