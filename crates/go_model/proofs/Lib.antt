@@ -2,7 +2,9 @@ pub mod AscendingLemmas
 pub mod BrokenListLemmas
 pub mod HeaderLemmas
 pub mod LawLemmas
+pub mod NameLemmas
 pub mod OneReportLemmas
 pub mod OrderLemmas
+pub mod PartLemmas
 pub mod QuestLemmas
 pub mod WholeLemmas
