@@ -1,5 +1,4 @@
 pub mod BuildConstraintLemmas
-pub mod FormLemmas
 pub mod StatementLemmas
 pub mod UnbuiltLemmas
 pub mod ListingLemmas
@@ -26,7 +25,6 @@ pub mod NamedLemmas
 pub mod PathListLemmas
 pub mod PathSetLemmas
 pub mod TableLemmas
-pub mod PartLemmas
 pub mod HeadLemmas
 pub mod ParsedLemmas
 pub mod StringLemmas
@@ -36,7 +34,6 @@ pub mod CyclicLemmas
 pub mod SlotLemmas
 pub mod OrderPlaceLemmas
 pub mod AssemblyLemmas
-pub mod NameLemmas
 pub mod FrontLemmas
 pub mod AsciiLemmas
 pub mod PlainPathLemmas

@@ -10,7 +10,6 @@ use crate::heads::Head;
 use crate::import_rows::import_rows;
 use crate::imports_broken::row_at;
 use crate::named::is_marked;
-use crate::names::text_name;
 use crate::names_broken::name_at;
 use crate::order::import_order;
 use crate::order_places::{places_at, places_of};
@@ -18,7 +17,7 @@ use crate::paths::ImportPath;
 use crate::slots::{slots_of, take_files};
 use crate::table::Packages;
 use go_base::{Name, NoMemory};
-use go_model::{Module, Package, SourceFile};
+use go_model::{Module, Package, SourceFile, text_name};
 use std::alloc::Global;
 
 /// The module with this path that files make whose heads and packages these are: its packages are those

@@ -4,11 +4,7 @@ pub mod build_constraints;
 pub mod built_forms;
 pub mod declarations;
 pub mod guards;
-pub mod order;
-#[cfg(test)]
-mod order_tests;
 pub mod parameters;
-pub mod part_list;
 pub mod statement_parts;
 pub mod statements;
 pub mod switch_statements;

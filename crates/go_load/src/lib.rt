@@ -5,8 +5,8 @@
 //! gives all that a file breaks by itself; `packages_of` gives the packages of the files and what their
 //! imports name, `broken_packages` what these break; `import_order` orders packages behind those that they
 //! import, `cyclic_imports` tells which imports lie on a cycle. `broken_by` gives the rule of a text that is
-//! no file, `broken_forms` all that a file breaks by its form. `ordered` makes the list that a report gives of
-//! broken rules that were found in any order, `reached` tells where paths of a graph lead.
+//! no file, `broken_forms` all that a file breaks by its form. `ordered`, of go_model, makes the list that a
+//! report gives of broken rules that were found in any order, `reached` tells where paths of a graph lead.
 #![tactic(auto)]
 
 mod rules;
@@ -40,7 +40,6 @@ mod texts;
 // What the files break by themselves, and their heads.
 mod import_strings;
 mod parse_texts;
-mod parts;
 mod tree_heads;
 
 // Packages and what their imports name.
@@ -66,7 +65,6 @@ mod table;
 // Modules.
 mod assemble;
 mod loading;
-mod names;
 mod order_places;
 mod slots;
 mod source_files;
@@ -84,9 +82,8 @@ mod reach;
 pub use broken::broken_at;
 pub use broken_list::breaks_none;
 pub use fault::broken_by;
-pub use form::order::ordered;
 pub use form::whole::broken_forms;
-pub use go_model::{Module, Package, SourceFile};
+pub use go_model::{Module, Package, SourceFile, ordered};
 pub use graph::is_graph;
 pub use heads::{Head, Import};
 pub use import_cycles::cyclic_imports;

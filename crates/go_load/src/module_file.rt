@@ -11,12 +11,12 @@ ghost use Rattle.go_model.specs.ModuleRules.{broken_lines, declared_by, placed_a
 ghost use Rattle.go_load.specs.ModuleFile.{IsModuleFile};
 
 use crate::broken::broken_at;
-use crate::form::order::ordered;
 use crate::language_version::{go_version, is_1_21};
 use crate::module_lines::{Line, outside_blocks};
 use crate::module_path::module_path;
 use crate::rules::{GO_LINE, MODULE_LINE, OTHER_VERSION};
 use go_base::{Broken, Bytes, NoMemory, Rule};
+use go_model::ordered;
 use std::alloc::Global;
 
 /// What go.mod says.

@@ -8,13 +8,13 @@ ghost use Rattle.go_load.specs.ModuleTexts.{IsFaultOf, IsModuleFault, IsModulePa
 
 use crate::broken::broken_at;
 use crate::calls::read_file;
-use crate::form::order::ordered;
 use crate::load_fault::LoadFault;
 use crate::module_file::{ModuleFile, read_module_file};
 use crate::places::placed_list;
 use crate::rules::MISSING_MODULE_FILE;
 use crate::texts::Text;
 use go_base::{Broken, Bytes, Name, NoMemory, Tree, Word};
+use go_model::ordered;
 use std::alloc::Global;
 
 /// The path that go.mod names, where these are the paths of all files below the root: it is read where

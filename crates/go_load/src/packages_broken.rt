@@ -4,7 +4,6 @@ ghost use Rattle.go_model.specs.BrokenImports.{AreBrokenPackages};
 ghost use Rattle.go_model.specs.Packages.{IsTableOf};
 
 use crate::cycles_broken::add_cyclic_imports;
-use crate::form::order::ordered;
 use crate::heads::Head;
 use crate::import_cycles::cyclic_imports;
 use crate::import_rows::import_rows;
@@ -12,6 +11,7 @@ use crate::imports_broken::add_broken_imports;
 use crate::path_set::PathSet;
 use crate::table::Packages;
 use go_base::{Broken, NoMemory};
+use go_model::ordered;
 use std::alloc::Global;
 
 /// What the imports and the package names of reached packages break: P1 at imports that name no package, P2

@@ -5,12 +5,11 @@ ghost use Rattle.go_model.specs.Heads.{IsHeadOf, IsImportOf, AreImports, specs_i
 ghost use Rattle.go_model.specs.Module.{AreHeads};
 ghost use Rattle.go_load.specs.Trees.{AddsImports, trees_in};
 
-use crate::form::part_list::part_list;
 use crate::heads::{Head, Import};
 use crate::import_strings::import_path_of;
-use crate::parts::{first_part, last_part};
 use crate::texts::Text;
 use go_base::{Bytes, NoMemory};
+use go_model::{first_part, last_part, part_list};
 use go_tree::{File, Node, NodeKind};
 use std::alloc::Global;
 

@@ -2,8 +2,10 @@ pub mod AscendingLemmas
 pub mod BrokenListLemmas
 pub mod HeaderLemmas
 pub mod LawLemmas
+pub mod NameLemmas
 pub mod OneReportLemmas
 pub mod OrderLemmas
+pub mod PartLemmas
 pub mod QuestLemmas
 pub mod WholeLemmas
 pub mod MemberLemmas

@@ -1,5 +1,5 @@
 -- The parts of a node, by the list of its parts.
-use Rattle.std.proofs.Common.{◌≡◌, ◌≢◌, ℕ, zero, suc, ◌+◌, ◌-◌, ◌≤◌, List, [], ◌∷◌, ◌++◌, length, map, take, get_or, reverse, refl, sym, ap, ◌∙◌, arith}
+use Rattle.std.proofs.Common.{◌≡◌, ◌≢◌, ℕ, ◌-◌, List, [], ◌∷◌, ◌++◌, length, map, take, reverse, refl, sym, ap, ◌∙◌}
 use Rattle.std.specs.List.{flat_map}
 use Rattle.std.proofs.lemmas.List.{append-nil, append_assoc, flat_map_more, map-append, reverse-append}
 use Rattle.indexmap.proofs.ReorderLemmas.{map-reverse}
@@ -8,33 +8,7 @@ use Rattle.go_tree.specs.declared.node.Node.TheViews.{out-Node}
 use Rattle.go_tree.specs.declared.node_kind.NodeKind.TheVariants.{ConstDecl}
 use Rattle.go_tree.specs.Tree.{Tree, branch, no_trees, more_trees, trees_of, list_of, tree_of, kind_of, parts_of}
 use Rattle.go_tree.proofs.TreeLemmas.{tree_of-out, list_of-trees_of}
-use Rattle.go_model.specs.Resolution.{first_part, last_of, last_part, constant_in, constants_of}
-
-pub first_part-none : (t : Tree) → trees_of [] ≡ parts_of t → first_part t ≡ t
-first_part-none (branch id from to kind text no_trees) e = refl
-first_part-none (branch id from to kind text (more_trees x xs)) e = cc
-
-pub first_part-some : (t a : Tree) (ts : List Tree) → trees_of (a ∷ ts) ≡ parts_of t → first_part t ≡ a
-first_part-some (branch id from to kind text no_trees) a ts e = cc
-first_part-some (branch id from to kind text (more_trees x xs)) a ts e = cc
-
-pub last_part-none : (t : Tree) → trees_of [] ≡ parts_of t → last_part t ≡ t
-last_part-none (branch id from to kind text no_trees) e = refl
-last_part-none (branch id from to kind text (more_trees x xs)) e = cc
-
-last_of-at : (ns : List Node) (t : Tree) (n : Node) (i : ℕ) → i + 1 ≡ length ns → n ≡ get_or ns i n → last_of t (trees_of (map tree_of ns)) ≡ tree_of n
-last_of-at [] t n i at e = absurd (omega arith)
-last_of-at (m ∷ []) t n zero at e = ap tree_of (sym e)
-last_of-at (m ∷ []) t n (suc i) at e = absurd (omega arith)
-last_of-at (m ∷ (k ∷ ns)) t n zero at e = absurd (omega arith)
-last_of-at (m ∷ (k ∷ ns)) t n (suc i) at e = last_of-at (k ∷ ns) (tree_of m) n i (omega arith) e
-
-pub last_part-some : (ns : List Node) (t : Tree) (n : Node) → 1 ≤ length ns → n ≡ get_or ns (length ns - 1) n → trees_of (map tree_of ns) ≡ parts_of t → last_part t ≡ tree_of n
-last_part-some ns (branch id from to kind text parts) n some e is =
-    let at : (length ns - 1) + 1 ≡ length ns = omega arith in
-    ap (last_of (branch id from to kind text parts)) (sym is) ∙ last_of-at ns (branch id from to kind text parts) n (length ns - 1) at e
-
-pub ruleset part_lemmas = (first_part-none, first_part-some, last_part-none, last_part-some)
+use Rattle.go_model.specs.Resolution.{constant_in, constants_of}
 
 pub own_parts-are : (n : Node) → trees_of (map tree_of (out-Node n).parts.items) ≡ parts_of (tree_of n)
 own_parts-are n = sym (ap parts_of (tree_of-out n))

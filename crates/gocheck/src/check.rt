@@ -10,11 +10,11 @@ ghost use Rattle.go_model.specs.Resolution as resolution;
 ghost use Rattle.gocheck.specs.View.{report_view};
 
 use crate::constants::check_constants;
-use crate::parts::{constants_of, first_part};
+use crate::parts::constants_of;
 use crate::report::Report;
 use go_base::{Broken, Bytes, NoMemory, UNBUILT_FORM};
 use go_load::{breaks_none, broken_at, broken_by, broken_forms};
-use go_model::Built;
+use go_model::{Built, first_part};
 use go_parse_s::parse_file;
 use go_tree::{Node, NodeId};
 use std::alloc::Global;

@@ -17,7 +17,8 @@ use crate::undeclared::push_undeclared;
 use crate::values::broken_values;
 use crate::waits::cyclic_constants;
 use go_base::{Broken, Bytes, NoMemory};
-use go_load::{breaks_none, ordered};
+use go_load::breaks_none;
+use go_model::ordered;
 use go_tree::Node;
 use std::alloc::Global;
 

@@ -4,30 +4,9 @@ ghost use Rattle.go_tree.specs.Tree.{tree_of, trees_of, parts_of};
 ghost use Rattle.go_model.specs.Resolution as resolution;
 
 use go_base::NoMemory;
+use go_model::{first_part, last_part};
 use go_tree::{Node, NodeKind};
 use std::alloc::Global;
-
-/// The first part of a node, or the node itself where it has none.
-#[tactic(auto, using(crate::proofs::PartLemmas::part_lemmas))]
-pub fn first_part(node: &Node) -> &Node
-    ensures { tree_of result.now ≡ resolution.first_part (tree_of node.now) }
-{
-    match node.parts() {
-        [first, ..] => first,
-        [] => node,
-    }
-}
-
-// The last part of a node, or the node itself where it has none.
-#[tactic(auto, using(crate::proofs::PartLemmas::part_lemmas))]
-fn last_part(node: &Node) -> &Node
-    ensures { tree_of result.now ≡ resolution.last_part (tree_of node.now) }
-{
-    match node.parts() {
-        [.., last] => last,
-        [] => node,
-    }
-}
 
 /// The name of a constant, by its spec.
 pub fn name_of(spec: &Node) -> &Node

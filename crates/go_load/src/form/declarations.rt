@@ -7,8 +7,8 @@ ghost use Rattle.std.specs.List.{flat_map};
 ghost use Rattle.go_tree.specs.Tree.{tree_of};
 ghost use Rattle.go_model.specs.FormRules.Declarations as rules;
 
-use crate::form::part_list::{all_but_first, part_list};
 use go_base::NoMemory;
+use go_model::{all_but_first, part_list};
 use go_tree::{Node, NodeKind};
 
 /// The spec of a constant declaration, the first of a group, that has its names alone.
@@ -58,7 +58,7 @@ pub fn open_array_types(node: &Node, found: &mut Vec<usize>) -> Result<(), NoMem
     push_open_arrays(parts_but_literal_type(node), found)
 }
 
-#[tactic(auto, using(crate::proofs::FormLemmas::form_lemmas))]
+#[tactic(auto, using(go_model::proofs::PartLemmas::list_lemmas))]
 fn parts_but_literal_type(node: &Node) -> &[Node]
     ensures { map tree_of result.now ≡ rules.parts_but_literal_type (tree_of node.now) }
 {
@@ -100,7 +100,7 @@ pub fn local_generic_types(node: &Node, found: &mut Vec<usize>) -> Result<(), No
     Ok(())
 }
 
-#[tactic(auto, using(crate::proofs::FormLemmas::form_lemmas))]
+#[tactic(auto, using(go_model::proofs::PartLemmas::list_lemmas))]
 fn local_parts(node: &Node) -> &[Node]
     ensures { map tree_of result.now ≡ rules.local_parts (tree_of node.now) }
 {
@@ -122,7 +122,7 @@ fn push_generic_specs(declaration: &Node, found: &mut Vec<usize>) -> Result<(), 
     Ok(())
 }
 
-#[tactic(auto, using(crate::proofs::FormLemmas::form_lemmas))]
+#[tactic(auto, using(go_model::proofs::PartLemmas::list_lemmas))]
 fn type_specs(declaration: &Node) -> &[Node]
     ensures { map tree_of result.now ≡ rules.type_specs (tree_of declaration.now) }
 {

@@ -7,8 +7,8 @@ ghost use Rattle.go_tree.specs.Tree.{tree_of, start_of, list_of, parts_of};
 ghost use Rattle.go_model.specs.FormRules.Parts as parts;
 ghost use Rattle.go_model.specs.FormRules.Parameters as rules;
 
-use crate::form::part_list::{all_but_first, part_list};
 use go_base::NoMemory;
+use go_model::{all_but_first, part_list};
 use go_tree::{Node, NodeKind};
 
 // Whether it is `x T` or `x ...T`.
@@ -62,7 +62,7 @@ fn is_type_alone(param: &Node) -> bool
 }
 
 // Whether some parameter has a name.
-#[tactic(auto, using(crate::proofs::FormLemmas::form_lemmas))]
+#[tactic(auto, using(go_model::proofs::PartLemmas::list_lemmas))]
 fn are_named(params: &[Node]) -> bool
     ensures { result ≡ rules.are_named (map tree_of params.now) }
 {
@@ -74,7 +74,7 @@ fn are_named(params: &[Node]) -> bool
 }
 
 // Whether some parameter is a type that cannot be read as a name.
-#[tactic(auto, using(crate::proofs::FormLemmas::form_lemmas))]
+#[tactic(auto, using(go_model::proofs::PartLemmas::list_lemmas))]
 fn some_is_type_alone(params: &[Node]) -> bool
     ensures { result ≡ list_any rules.is_type_alone (map tree_of params.now) }
 {
@@ -102,7 +102,7 @@ fn are_mixed(params: &[Node]) -> bool
 }
 
 /// A list in which some parameters have names and some have not.
-#[tactic(auto, using(crate::proofs::FormLemmas::form_lemmas))]
+#[tactic(auto, using(go_model::proofs::PartLemmas::list_lemmas))]
 pub fn mixed_parameters(node: &Node) -> Option<usize>
     ensures { option_to_list result ≡ rules.mixed_parameters_at (tree_of node.now) }
 {

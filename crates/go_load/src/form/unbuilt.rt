@@ -6,9 +6,8 @@ ghost use Rattle.go_model.specs.FormRules.BuiltForms as rules;
 ghost use Rattle.go_model.specs.FormRules.Unbuilt.{unbuilt_in, unbuilt_in_spec, unbuilt_among};
 
 use crate::form::built_forms::{is_built, is_built_spec, is_built_whole, is_unbuilt_name};
-use crate::form::part_list::three_parts;
 use go_base::NoMemory;
-use go_model::Built;
+use go_model::{Built, three_parts};
 use go_tree::{Node, NodeKind};
 
 /// Pushes each form of the tree that is not built, in source order.

@@ -11,11 +11,10 @@ ghost use Rattle.go_model.specs.FormRules.Whole.{told, written, written_among, b
 
 use crate::form::at_node::broken_at_node;
 use crate::form::build_constraints::build_constraints;
-use crate::form::order::ordered;
 use crate::form::tell::tell_all;
 use crate::form::unbuilt::unbuilt;
 use go_base::{BUILD_CONSTRAINT, Broken, NoMemory, UNBUILT_FORM};
-use go_model::Built;
+use go_model::{Built, ordered};
 use go_tree::{Node, NodeKind};
 use std::alloc::Global;
 

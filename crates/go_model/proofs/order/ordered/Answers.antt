@@ -5,7 +5,7 @@ use Rattle.std.specs.List.Sorted.{IsSorted}
 use Rattle.go_base.specs.declared.rule.Broken.{Broken}
 use Rattle.go_model.specs.FormRules.Order.{rank}
 use Rattle.go_model.proofs.OrderLemmas.{compared, sorted_list}
-use Rattle.go_load.proofs.form.order.ordered.Goals as goal
+use Rattle.go_model.proofs.order.ordered.Goals as goal
 
 abbrev key : Broken → ℕ × ℕ × ℕ × ℕ
 key b = (b.pos.file, b.pos.offset, rank b.rule, b.rule.number)

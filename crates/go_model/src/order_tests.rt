@@ -1,5 +1,5 @@
 // The order of broken rules.
-use super::order::ordered;
+use crate::order::ordered;
 use go_base::{
     Broken, FLOAT_LITERAL, MISSING_CALL, MIXED_PARAMETERS, Pos, Rule, UNBUILT_FORM, UNDECLARED_NAME,
 };

@@ -1,6 +1,6 @@
 use Rattle.std.proofs.Common.{sym, ◌∙◌}
-use Rattle.go_load.proofs.NameLemmas.{no_text, text_stays}
-use Rattle.go_load.proofs.names.text_name.Goals as goal
+use Rattle.go_model.proofs.NameLemmas.{no_text, text_stays}
+use Rattle.go_model.proofs.text_names.text_name.Goals as goal
 
 pub returns-in_ok-from_str-in-Ok : goal.returns-in_ok-from_str-in-Ok
 returns-in_ok-from_str-in-Ok c =

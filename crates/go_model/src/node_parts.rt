@@ -6,7 +6,7 @@ ghost use Rattle.go_model.specs.FormRules.Parts as parts;
 use go_tree::Node;
 
 /// The parts of a node, in source order.
-#[tactic(auto, using(crate::proofs::FormLemmas::form_lemmas))]
+#[tactic(auto, using(crate::proofs::PartLemmas::list_lemmas))]
 pub fn part_list(node: &Node) -> &[Node]
     ensures { map tree_of result.now ≡ list_of (parts_of (tree_of node.now)) }
 {
@@ -14,7 +14,7 @@ pub fn part_list(node: &Node) -> &[Node]
 }
 
 /// The parts of a node behind the first.
-#[tactic(auto, using(crate::proofs::FormLemmas::form_lemmas))]
+#[tactic(auto, using(crate::proofs::PartLemmas::list_lemmas))]
 pub fn all_but_first(node: &Node) -> &[Node]
     ensures { map tree_of result.now ≡ parts.all_but_first (parts_of (tree_of node.now)) }
 {
@@ -25,7 +25,7 @@ pub fn all_but_first(node: &Node) -> &[Node]
 }
 
 /// The three parts of a node, where it has three.
-#[tactic(auto, using(crate::proofs::FormLemmas::form_lemmas))]
+#[tactic(auto, using(crate::proofs::PartLemmas::list_lemmas))]
 pub fn three_parts(node: &Node) -> Option<(&Node, &Node, &Node)>
     ensures some { IfSome result (λ p. parts_of (tree_of node.now) ≡ more_trees (tree_of p.0.now)
         (more_trees (tree_of p.1.now) (more_trees (tree_of p.2.now) no_trees))) }
