@@ -4,6 +4,7 @@ ghost use Rattle.std.specs.Option.{option_map_or};
 ghost use Rattle.indexmap.specs.IndexMap.{ContainsKey, IsEmpty, get, insert_all};
 ghost use Rattle.go_model.specs.declared.object.ObjId.{ObjId};
 ghost use Rattle.go_model.specs.Module.{ModuleData, PackageData};
+ghost use Rattle.go_model.specs.Names.Imports.{known_in};
 ghost use Rattle.go_model.specs.Names.Tables.{HasTables, objects_of, region_entries, uses_of};
 ghost use Rattle.go_model.specs.Names.Universe.{universe};
 ghost use Rattle.go_model.specs.Scopes.{same_node, same_object};
@@ -51,9 +52,9 @@ impl Scopes {
     pub fn resolve(&self, id: NodeId) -> Option<ObjId>
         ensures table { result ≡ get same_node self.now.uses id }
         ensures denotes { (m : ModuleData) (k : ℕ) (p : PackageData) → HasTables m k p self.now
-            → IfSome result (λ d. Contains (uses_of m k p) (id, d)) }
+            → IfSome result (λ d. Contains (uses_of (known_in m) k p) (id, d)) }
         ensures found { (m : ModuleData) (k : ℕ) (p : PackageData) (d : ObjId) → HasTables m k p self.now
-            → Contains (uses_of m k p) (id, d) → IsSome result }
+            → Contains (uses_of (known_in m) k p) (id, d) → IsSome result }
     {
         self.uses.get(&id).copied()
     }
@@ -63,7 +64,7 @@ impl Scopes {
         requires { ContainsKey same_object self.now.objects d }
         ensures table { get same_object self.now.objects d ≡ Some result.now }
         ensures declared { (m : ModuleData) (k : ℕ) (p : PackageData) → HasTables m k p self.now
-            → Contains (objects_of m k p) (d, result.now) }
+            → Contains (objects_of (known_in m) k p) (d, result.now) }
     {
         &self.objects[&d]
     }

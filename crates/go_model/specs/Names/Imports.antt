@@ -19,21 +19,22 @@ use Rattle.go_model.specs.Paths.{same_text}
 use Rattle.go_model.specs.Names.Constants.{name_text, constant_object, package_names}
 use Rattle.go_model.specs.Names.Exported.{is_blank, is_exported}
 
--- the name in the package clauses of the package at a place of the module
-abbrev pub clause_name : ModuleData → ℕ → List ℕ
-clause_name m k = option_map_or (λ p. p.name) (slice_get m.packages k) []
+-- what a package is known by: the name in its package clauses, and the names of its package block
+pub record PackageNames : Type 0 where
+  pub clause : List ℕ
+  pub names : List (List ℕ × ObjId)
 
--- the names of its package block
-abbrev pub names_at : ModuleData → ℕ → List (List ℕ × ObjId)
-names_at m k = option_map_or (package_names k) (slice_get m.packages k) []
+-- that of the package at each place of a module
+abbrev pub known_in : ModuleData → ℕ → PackageNames
+known_in m k = record { clause = option_map_or (λ p. p.name) (slice_get m.packages k) []; names = option_map_or (package_names k) (slice_get m.packages k) [] }
 
--- those of them that are exported
-abbrev pub exports_of : ModuleData → ℕ → List (List ℕ × ObjId)
-exports_of m k = filter (λ entry. is_exported entry.0) (names_at m k)
+-- those of its names that are exported
+abbrev pub exports_of : PackageNames → List (List ℕ × ObjId)
+exports_of known = filter (λ entry. is_exported entry.0) known.names
 
--- the object that an exported name of the package denotes
-abbrev pub exported : ModuleData → ℕ → List ℕ → Option ObjId
-exported m k name = if is_exported name then lookup (same_text name) (names_at m k) else None
+-- the object that an exported name of a package denotes
+abbrev pub exported : PackageNames → List ℕ → Option ObjId
+exported known name = if is_exported name then lookup (same_text name) known.names else None
 
 -- an import: its spec, the place of its file among the files of its package, and the packages that import
 -- and are imported, by their places in the module
@@ -73,24 +74,24 @@ is_dot t = false
 -- imported package. If an explicit period (.) appears instead of a name, all the package's exported
 -- identifiers declared in that package's package block will be declared in the importing source file's file
 -- block". The blank identifier declares none.
-abbrev pub named_regions : ModuleData → Importing → Tree → Tree → List Region
-named_regions m i name string =
-    if is_dot name then map (dot_region i string) (exports_of m i.imported)
+abbrev pub named_regions : PackageNames → Importing → Tree → Tree → List Region
+named_regions known i name string =
+    if is_dot name then map (dot_region i string) (exports_of known)
     else if is_blank (name_text name) then []
     else import_region i (name_text name) name ∷ []
 
 -- ImportSpec = [ "." | PackageName ] ImportPath .
-abbrev pub import_parts : ModuleData → Importing → Trees → List Region
-import_parts m i (more_trees string no_trees) = import_region i (clause_name m i.imported) string ∷ []
-import_parts m i (more_trees name (more_trees string no_trees)) = named_regions m i name string
-import_parts m i parts = []
+abbrev pub import_parts : PackageNames → Importing → Trees → List Region
+import_parts known i (more_trees string no_trees) = import_region i known.clause string ∷ []
+import_parts known i (more_trees name (more_trees string no_trees)) = named_regions known i name string
+import_parts known i parts = []
 
-abbrev pub import_regions : ModuleData → Importing → List Region
-import_regions m i = import_parts m i (parts_of i.spec)
+abbrev pub import_regions : (ℕ → PackageNames) → Importing → List Region
+import_regions known i = import_parts (known i.imported) i (parts_of i.spec)
 
 -- the block of a file, by its imports
-abbrev pub file_block : ModuleData → List Importing → List Region
-file_block m imports = flat_map (import_regions m) imports
+abbrev pub file_block : (ℕ → PackageNames) → List Importing → List Region
+file_block known imports = flat_map (import_regions known) imports
 
 -- `_ "q"`
 abbrev pub is_blank_import : Trees → Bool

@@ -12,11 +12,10 @@ use Rattle.go_model.specs.declared.block.Occurrence.{Occurrence}
 use Rattle.go_model.specs.declared.block.Region.{Region}
 use Rattle.go_model.specs.declared.block.Selected.{Selected}
 use Rattle.go_model.specs.BrokenImports.{broken_at, told_if}
-use Rattle.go_model.specs.Module.{ModuleData}
 use Rattle.go_model.specs.Paths.{same_text}
 use Rattle.go_model.specs.Rules as of_file
 use Rattle.go_model.specs.Names.Exported.{is_blank}
-use Rattle.go_model.specs.Names.Imports.{exported}
+use Rattle.go_model.specs.Names.Imports.{PackageNames, exported}
 use Rattle.go_model.specs.Names.Regions.{resolution, is_held}
 
 abbrev pub blank_value : Rule
@@ -49,13 +48,13 @@ abbrev pub misplaced_at : List Region → Occurrence → List Broken
 misplaced_at regions o = told_if (is_none o.selected && is_some (denoted_package regions o)) (broken_at o.file o.at misplaced_package)
 
 -- P14: "The identifier must be exported and declared in the package block of that package"
-abbrev pub missing_in : ModuleData → ℕ → Option ℕ → Option Selected → List Broken
-missing_in m file None selected = []
-missing_in m file (Some k) None = []
-missing_in m file (Some k) (Some s) = told_if (is_none (exported m k s.name)) (broken_at file s.at missing_member)
+abbrev pub missing_in : (ℕ → PackageNames) → ℕ → Option ℕ → Option Selected → List Broken
+missing_in known file None selected = []
+missing_in known file (Some k) None = []
+missing_in known file (Some k) (Some s) = told_if (is_none (exported (known k) s.name)) (broken_at file s.at missing_member)
 
-abbrev pub missing_at : ModuleData → List Region → Occurrence → List Broken
-missing_at m regions o = missing_in m o.file (denoted_package regions o) o.selected
+abbrev pub missing_at : (ℕ → PackageNames) → List Region → Occurrence → List Broken
+missing_at known regions o = missing_in known o.file (denoted_package regions o) o.selected
 
 -- U8, own: complex numbers are not checked
 abbrev pub is_universe_block : Block → Bool
@@ -75,9 +74,9 @@ abbrev pub complex_at : List Region → Occurrence → List Broken
 complex_at regions o = told_if (option_map_or is_complex (resolution regions o) false) (broken_at o.file o.at complex_name)
 
 -- what an occurrence breaks
-abbrev pub broken_occurrence : ModuleData → List Region → Occurrence → List Broken
-broken_occurrence m regions o =
-    undeclared_at regions o ++ (blank_at o ++ (misplaced_at regions o ++ (missing_at m regions o ++ complex_at regions o)))
+abbrev pub broken_occurrence : (ℕ → PackageNames) → List Region → Occurrence → List Broken
+broken_occurrence known regions o =
+    undeclared_at regions o ++ (blank_at o ++ (misplaced_at regions o ++ (missing_at known regions o ++ complex_at regions o)))
 
-abbrev pub broken_occurrences : ModuleData → List Region → List Occurrence → List Broken
-broken_occurrences m regions occurrences = flat_map (broken_occurrence m regions) occurrences
+abbrev pub broken_occurrences : (ℕ → PackageNames) → List Region → List Occurrence → List Broken
+broken_occurrences known regions occurrences = flat_map (broken_occurrence known regions) occurrences

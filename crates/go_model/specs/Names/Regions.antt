@@ -5,17 +5,17 @@ use Rattle.std.specs.Prelude.{ℕ, ◌==◌, Bool, not, ◌&&◌, List, [], ◌�
 use Rattle.std.specs.List.{flat_map, list_any}
 use Rattle.go_model.specs.declared.block.Region.{Region}
 use Rattle.go_model.specs.declared.block.Occurrence.{Occurrence}
-use Rattle.go_model.specs.Module.{PackageData, ModuleData}
+use Rattle.go_model.specs.Module.{PackageData}
 use Rattle.go_model.specs.Paths.{same_text}
 use Rattle.go_model.specs.Names.Blocks.{holds_file, lies_inside}
 use Rattle.go_model.specs.Names.Constants.{package_block}
-use Rattle.go_model.specs.Names.Imports.{Importing, file_block, imports_of}
+use Rattle.go_model.specs.Names.Imports.{PackageNames, file_block, imports_of}
 use Rattle.go_model.specs.Names.Universe.{universe}
 
 -- all regions of the package at a place: those of the universe block, of its own block, and of the blocks
 -- of its files
-abbrev pub regions_of : ModuleData → ℕ → PackageData → List Region
-regions_of m k p = universe ++ (package_block k 0 p.files ++ flat_map (file_block m) (imports_of k p))
+abbrev pub regions_of : (ℕ → PackageNames) → ℕ → PackageData → List Region
+regions_of known k p = universe ++ (package_block k 0 p.files ++ flat_map (file_block known) (imports_of k p))
 
 abbrev pub has_name : List ℕ → Region → Bool
 has_name name r = same_text name r.object.name
