@@ -35,6 +35,7 @@ mod outcome;
 mod rec;
 
 // Reports.
+mod broken_places;
 mod file_lines;
 mod order;
 mod records;
@@ -49,6 +50,7 @@ mod order_tests;
 mod scopes_tests;
 
 pub use block::{Block, Import, Occurrence, Region, Selected};
+pub use broken_places::{add_if, broken_at};
 pub use built::Built;
 pub use file_lines::FileLine;
 pub use form_laws::{one_list, one_list_of_forms};

@@ -1,13 +1,39 @@
-// A library with one function.
+//! What the names of a package denote.
+//!
+//! `collect` finds the regions in which names denote objects: those of the universe, of the constants of
+//! the package, and of the imports of its files; what each identifier denotes by them; and each rule on
+//! names that is broken. `Scopes` has the answers.
 #![tactic(auto)]
 
-ghost use Rattle.std.specs.Prelude.{◌≡◌};
-ghost use Rattle.go_scope.specs.Echo.{echo_of};
+mod rules;
+mod words;
 
-// The `ensures` clause is the contract: what `echo` returns is `echo_of` of its argument, a definition
-// in `specs/Echo.antt`, which a caller's clause can cite too.
-pub fn echo(x: usize) -> usize
-    ensures { result ≡ echo_of x }
-{
-    x
-}
+// What is declared.
+mod constants;
+mod file_block;
+mod imports;
+mod known;
+
+// What occurs, and what it denotes.
+mod held;
+mod occurrences;
+mod resolved;
+
+// The rules on names.
+mod block_rules;
+mod import_rules;
+mod occurrence_rules;
+
+// The scopes of a package.
+mod check;
+mod collecting;
+mod scope_fault;
+mod tables;
+
+pub use collecting::collect;
+pub use go_model::{ObjId, ObjKind, Object, Scopes};
+pub use rules::{
+    BLANK_VALUE, COMPLEX_NAME, CONFLICTING_IMPORT, MISPLACED_PACKAGE, MISSING_MAIN, MISSING_MEMBER,
+    RESERVED_NAME, UNUSED_IMPORT,
+};
+pub use scope_fault::ScopeFault;

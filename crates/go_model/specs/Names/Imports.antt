@@ -102,16 +102,16 @@ is_blank_import parts = false
 abbrev pub import_of : Importing → List Import
 import_of i = if is_blank_import (parts_of i.spec) then [] else record { id = record { 0 = id_of i.spec }; file = i.file; at = start_of i.spec } ∷ []
 
--- the imports of a file, where the packages that they name stand one after another
-abbrev pub imports_in : ℕ → ℕ → Tree → List ℕ → List Importing
-imports_in importer file tree packages = map (λ pair. record { spec = pair.0; file = file; importer = importer; imported = pair.1 }) (zip (import_specs tree) packages)
+-- the imports of a file with these specs, where the packages that they name stand one after another
+abbrev pub imports_in : ℕ → ℕ → List Tree → List ℕ → List Importing
+imports_in importer file specs packages = map (λ pair. record { spec = pair.0; file = file; importer = importer; imported = pair.1 }) (zip specs packages)
 
 -- the imports of each file; a package's imports stand file after file
 abbrev pub imports_from : ℕ → ℕ → List FileData → List ℕ → List (List Importing)
 imports_from importer file [] packages = []
 imports_from importer file (f ∷ files) packages =
-    let count = length (import_specs f.tree) in
-    imports_in importer file f.tree (take count packages) ∷ imports_from importer (file + 1) files (drop count packages)
+    imports_in importer file (import_specs f.tree) (take (length (import_specs f.tree)) packages)
+    ∷ imports_from importer (file + 1) files (drop (length (import_specs f.tree)) packages)
 
 abbrev pub imports_of : ℕ → PackageData → List (List Importing)
 imports_of k p = imports_from k 0 p.files p.imports

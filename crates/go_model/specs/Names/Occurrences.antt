@@ -16,8 +16,11 @@ abbrev pub occurrence : ℕ → Tree → Occurrence
 occurrence file name = record { id = record { 0 = id_of name }; file = file; at = start_of name; name = name_text name; selected = None }
 
 -- `x.f`: the name behind the `.` stands beside an identifier before it, and occurs by itself nowhere
+abbrev pub selected_name : Tree → Selected
+selected_name name = record { id = record { 0 = id_of name }; at = start_of name; name = name_text name }
+
 abbrev pub selecting : Tree → Occurrence → Occurrence
-selecting name o = record o { selected = Some (record { id = record { 0 = id_of name }; at = start_of name; name = name_text name }) }
+selecting name o = record o { selected = Some (selected_name name) }
 
 abbrev pub with_selected : Tree → Tree → List Occurrence → List Occurrence
 with_selected operand name occurrences = if is_identifier operand then map (selecting name) occurrences else occurrences

@@ -1,0 +1,161 @@
+// The scopes of a package (Go specification, "Declarations and scope").
+ghost use Rattle.std.specs.Prelude.{◌≡◌, ◌<◌, ◌++◌, [], IfOk, IfErr, OnOk, length, map};
+ghost use Rattle.std.specs.List.{flat_map};
+ghost use Rattle.indexmap.specs.IndexMap.{insert_all};
+ghost use Rattle.go_model.specs.Module.{file_view, module_view};
+ghost use Rattle.go_model.specs.Names.BlockRules as rule;
+ghost use Rattle.go_model.specs.Names.BrokenNames.{broken_block};
+ghost use Rattle.go_model.specs.Names.Constants as constants;
+ghost use Rattle.go_model.specs.Names.Tables.{IsScopesOf, region_entries};
+ghost use Rattle.go_model.specs.Scopes.{same_node, same_object};
+ghost use Rattle.go_scope.specs.Blocks.{block_of};
+ghost use Rattle.go_scope.specs.Checked.{all_of, broken_from, resolved_from};
+ghost use Rattle.go_scope.specs.Collecting.{HasImported, IsScopeFault};
+ghost use Rattle.go_scope.specs.Known.{known_by};
+ghost use Rattle.go_scope.specs.Resolved.{member_entry, members_by, pairs_by};
+
+use crate::block_rules::{add_repeated, add_reserved, is_main_name};
+use crate::check::check_files;
+use crate::constants::package_block;
+use crate::file_block::{FileBlock, file_blocks};
+use crate::held::Declared;
+use crate::known::Known;
+use crate::resolved::{Around, Resolved};
+use crate::scope_fault::ScopeFault;
+use crate::tables::{add_members, add_uses, names_of};
+use go_base::{Broken, NoMemory};
+use go_model::{Module, ObjId, Object, Package, Region, Scopes, add_objects, ordered, universe};
+use go_tree::NodeId;
+use indexmap::IndexMap;
+use std::alloc::Global;
+
+/// The scopes of the package at a place of the module: what its names denote. `before` has the scopes of
+/// each package that it imports at that package's place. Broken comes exactly where the names of the package
+/// break a rule, with all that they break.
+pub fn collect(
+    alloc: Global,
+    package: usize,
+    module: &Module,
+    before: &[Scopes],
+) -> Result<Scopes, ScopeFault>
+    requires place { «package» < length module.now.packages.items }
+    requires imported { HasImported (module_view module.now) «package» before.now }
+    ensures ok { IfOk result (IsScopesOf (module_view module.now) «package») }
+    ensures err { IfErr result (IsScopeFault (module_view module.now) «package») }
+{
+    let known = Known { module, before };
+    let own = &module.packages[package];
+    let outer = universe(alloc)?;
+    let block = package_block(alloc, package, &own.files)?;
+    let blocks = file_blocks(alloc, &known, package, &own.files, &own.imports)?;
+    let mut found = Vec::new(alloc);
+    let lists = check_names(alloc, &known, own, &outer, &block, &blocks, &mut found)?;
+    if !found.is_empty() {
+        return Err(ScopeFault::Broken(ordered(found)));
+    }
+    let scopes = scopes_of(alloc, &known, &outer, &block, &blocks, &lists)?;
+    Ok(scopes)
+}
+
+// Adds what the names of a package break, and gives what the occurrences in its files denote.
+fn check_names(
+    alloc: Global,
+    known: &Known,
+    own: &Package,
+    outer: &[Region],
+    block: &[Region],
+    blocks: &[FileBlock],
+    found: &mut Vec<Broken>,
+) -> Result<Vec<Vec<Resolved>>, NoMemory>
+    requires { length blocks.now ≡ length own.now.files.items }
+    ensures resolved { IfOk result (λ lists. map (λ list. list.items) lists.items
+        ≡ resolved_from outer.now block.now 0 (map block_of blocks.now) (map file_view own.now.files.items)) }
+    ensures found { IfOk result (λ lists. found.new.items ≡ found.old.items
+        ++ (broken_block (rule.is_main_name own.now.name) block.now
+        ++ broken_from (known_by known.now) (rule.is_main_name own.now.name) outer.now block.now 0
+        (map block_of blocks.now) (map file_view own.now.files.items))) }
+{
+    let around = Around {
+        universe: Declared::of(alloc, outer)?,
+        block: Declared::of(alloc, block)?,
+    };
+    let is_main = is_main_name(&own.name);
+    add_repeated(&around.block, found)?;
+    add_reserved(is_main, block, found)?;
+    check_files(alloc, known, is_main, &around, &own.files, blocks, found)
+}
+
+// The tables of these regions and of what the occurrences denote.
+fn scopes_of(
+    alloc: Global,
+    known: &Known,
+    outer: &[Region],
+    block: &[Region],
+    blocks: &[FileBlock],
+    lists: &[Vec<Resolved>],
+) -> Result<Scopes, NoMemory>
+    ensures objects { IfOk result (λ scopes. scopes.objects.entries ≡ insert_all same_object []
+        (region_entries (outer.now ++ (block.now ++ flat_map (λ b. b.regions.items) blocks.now))
+        ++ map member_entry (flat_map (members_by (known_by known.now)) (all_of (map (λ list. list.items) lists.now))))) }
+    ensures uses { IfOk result (λ scopes. scopes.uses.entries ≡ insert_all same_node []
+        (flat_map (pairs_by (known_by known.now)) (all_of (map (λ list. list.items) lists.now)))) }
+    ensures methods { IfOk result (λ scopes. scopes.methods.entries ≡ []) }
+    ensures names { IfOk result (λ scopes. scopes.names.entries ≡ constants.names_of block.now) }
+{
+    let mut objects = IndexMap::new(alloc);
+    add_objects(&mut objects, outer)?;
+    add_objects(&mut objects, block)?;
+    add_block_objects(blocks, &mut objects)?;
+    add_all_members(known, lists, &mut objects)?;
+    Ok(Scopes {
+        objects,
+        uses: uses_of(alloc, known, lists)?,
+        methods: IndexMap::new(alloc),
+        names: names_of(alloc, block)?,
+    })
+}
+
+// Adds the objects of the blocks of files.
+fn add_block_objects(
+    blocks: &[FileBlock],
+    objects: &mut IndexMap<ObjId, Object>,
+) -> Result<(), NoMemory>
+    ensures { OnOk result (objects.new.entries ≡ insert_all same_object objects.old.entries
+        (region_entries (flat_map (λ b. b.regions.items) blocks.now))) }
+{
+    for block in blocks {
+        add_objects(objects, &block.regions)?;
+    }
+    Ok(())
+}
+
+// Adds the objects of qualified identifiers.
+fn add_all_members(
+    known: &Known,
+    lists: &[Vec<Resolved>],
+    objects: &mut IndexMap<ObjId, Object>,
+) -> Result<(), NoMemory>
+    ensures { OnOk result (objects.new.entries ≡ insert_all same_object objects.old.entries
+        (map member_entry (flat_map (members_by (known_by known.now)) (all_of (map (λ list. list.items) lists.now))))) }
+{
+    for list in lists {
+        add_members(known, list, objects)?;
+    }
+    Ok(())
+}
+
+// What the occurrences denote, by their nodes.
+fn uses_of(
+    alloc: Global,
+    known: &Known,
+    lists: &[Vec<Resolved>],
+) -> Result<IndexMap<NodeId, ObjId>, NoMemory>
+    ensures { IfOk result (λ uses. uses.entries ≡ insert_all same_node []
+        (flat_map (pairs_by (known_by known.now)) (all_of (map (λ list. list.items) lists.now)))) }
+{
+    let mut uses = IndexMap::new(alloc);
+    for list in lists {
+        add_uses(known, list, &mut uses)?;
+    }
+    Ok(uses)
+}

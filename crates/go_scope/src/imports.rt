@@ -1,0 +1,177 @@
+// The names that imports declare in the block of their file (Go specification, "Import declarations").
+ghost use Rattle.std.specs.Prelude.{◌≡◌, ◌++◌, ◌∷◌, [], IfOk, OnOk, map, filter};
+ghost use Rattle.go_tree.specs.Tree.{tree_of, parts_of};
+ghost use Rattle.go_model.specs.Names.Constants.{name_text};
+ghost use Rattle.go_model.specs.Names.Exported as exported;
+ghost use Rattle.go_model.specs.Names.Imports as rule;
+ghost use Rattle.go_scope.specs.Known.{known_by, importing};
+
+use crate::constants::constant_object;
+use crate::known::{Known, clause_name};
+use crate::words::{is_blank, is_exported, name_of};
+use go_base::{Name, NoMemory};
+use go_model::{Block, Import, ObjId, ObjKind, Object, Region};
+use go_tree::{Node, NodeId, NodeKind};
+use std::alloc::Global;
+
+/// An import: its spec, the place of its file among the files of its package, and the places in the module
+/// of the packages that import and are imported.
+#[derive(Clone, Copy)]
+pub struct ImportAt<'a> {
+    pub spec: &'a Node,
+    pub file: usize,
+    pub importer: usize,
+    pub imported: usize,
+}
+
+/// Adds the regions of the names that an import declares.
+pub fn add_import_regions(
+    alloc: Global,
+    known: &Known,
+    import: &ImportAt,
+    regions: &mut Vec<Region>,
+) -> Result<(), NoMemory>
+    ensures { OnOk result (regions.new.items
+        ≡ regions.old.items ++ rule.import_regions (known_by known.now) (importing import.now)) }
+{
+    if let Some(string) = import.spec.only_part() {
+        let name = clause_name(alloc, known, import.imported)?;
+        regions.push(import_region(import, name, string))?;
+    } else if let Some((name, string)) = import.spec.both_parts() {
+        add_named(alloc, known, import, name, string, regions)?;
+    }
+    Ok(())
+}
+
+// Adds the regions of an import before whose string something stands.
+fn add_named(
+    alloc: Global,
+    known: &Known,
+    import: &ImportAt,
+    name: &Node,
+    string: &Node,
+    regions: &mut Vec<Region>,
+) -> Result<(), NoMemory>
+    ensures { OnOk result (regions.new.items ≡ regions.old.items
+        ++ rule.named_regions (known_by known.now import.now.imported) (importing import.now)
+        (tree_of name.now) (tree_of string.now)) }
+{
+    if is_dot(name) {
+        return add_exports(known, import, string, regions);
+    }
+    let text = name_of(alloc, name)?;
+    if !is_blank(&text) {
+        regions.push(import_region(import, text, name))?;
+    }
+    Ok(())
+}
+
+fn is_dot(name: &Node) -> bool
+    ensures { result ≡ rule.is_dot (tree_of name.now) }
+{
+    name.is(NodeKind::DotImport)
+}
+
+// Adds the exported names of the imported package.
+fn add_exports(
+    known: &Known,
+    import: &ImportAt,
+    string: &Node,
+    regions: &mut Vec<Region>,
+) -> Result<(), NoMemory>
+    ensures { OnOk result (regions.new.items ≡ regions.old.items
+        ++ map (rule.dot_region (importing import.now) (tree_of string.now))
+        (rule.exports_of (known_by known.now import.now.imported))) }
+{
+    if let Some(scopes) = known.before.get(import.imported) {
+        for (name, id) in scopes.names.iter() {
+            add_export(import, string, name, *id, regions)?;
+        }
+    }
+    Ok(())
+}
+
+// Adds a name of the imported package, if it is exported.
+fn add_export(
+    import: &ImportAt,
+    string: &Node,
+    name: &Name,
+    id: ObjId,
+    regions: &mut Vec<Region>,
+) -> Result<(), NoMemory>
+    ensures { OnOk result (regions.new.items ≡ regions.old.items
+        ++ map (rule.dot_region (importing import.now) (tree_of string.now))
+        (filter (λ entry. exported.is_exported entry.0) ((name.now, id) ∷ []))) }
+{
+    if is_exported(name) {
+        let copy = name.clone()?;
+        regions.push(dot_region(import, string, copy, id))?;
+    }
+    Ok(())
+}
+
+fn import_region(import: &ImportAt, name: Name, node: &Node) -> Region
+    ensures { result ≡ rule.import_region (importing import.now) name (tree_of node.now) }
+{
+    Region {
+        block: Block::File(import.file),
+        object: Object {
+            name,
+            kind: ObjKind::Package,
+            at: node.id(),
+            package: import.importer,
+            params: 0,
+        },
+        file: import.file,
+        at: node.start(),
+        import: Some(import.spec.id()),
+        denotes: Some(import.imported),
+    }
+}
+
+fn dot_region(import: &ImportAt, string: &Node, name: Name, id: ObjId) -> Region
+    ensures { result ≡ rule.dot_region (importing import.now) (tree_of string.now) (name, id) }
+{
+    Region {
+        block: Block::File(import.file),
+        object: constant_object(import.imported, name, NodeId(id.0)),
+        file: import.file,
+        at: string.start(),
+        import: Some(import.spec.id()),
+        denotes: None,
+    }
+}
+
+/// Adds the import, if it declares names.
+pub fn add_import(
+    alloc: Global,
+    import: &ImportAt,
+    imports: &mut Vec<Import>,
+) -> Result<(), NoMemory>
+    ensures { OnOk result (imports.new.items ≡ imports.old.items ++ rule.import_of (importing import.now)) }
+{
+    if !is_blank_import(alloc, import.spec)? {
+        imports.push(Import {
+            id: import.spec.id(),
+            file: import.file,
+            at: import.spec.start(),
+        })?;
+    }
+    Ok(())
+}
+
+// `_ "q"`
+fn is_blank_import(alloc: Global, spec: &Node) -> Result<bool, NoMemory>
+    ensures { IfOk result (λ blank. blank ≡ rule.is_blank_import (parts_of (tree_of spec.now))) }
+{
+    match spec.both_parts() {
+        Some((name, _)) => {
+            if is_dot(name) {
+                Ok(false)
+            } else {
+                Ok(is_blank(&name_of(alloc, name)?))
+            }
+        }
+        None => Ok(false),
+    }
+}

@@ -1,0 +1,53 @@
+// The rules on names that stand in no crate below, in the order of their table.
+use go_base::{Family, Rule};
+
+/// An import that declares a name which the package block declares too (Go specification, "Declarations
+/// and scope").
+pub const CONFLICTING_IMPORT: Rule = Rule {
+    family: Family::P,
+    number: 6,
+};
+
+/// `init`, or `main` of package main, declared other than as a function (Go specification, "Package
+/// initialization", "Program execution").
+pub const RESERVED_NAME: Rule = Rule {
+    family: Family::P,
+    number: 8,
+};
+
+/// A package main without a function main (Go specification, "Program execution").
+pub const MISSING_MAIN: Rule = Rule {
+    family: Family::P,
+    number: 9,
+};
+
+/// An import that nothing uses (Go specification, "Import declarations").
+pub const UNUSED_IMPORT: Rule = Rule {
+    family: Family::P,
+    number: 10,
+};
+
+/// The blank identifier where a value or a type stands (Go specification, "Blank identifier").
+pub const BLANK_VALUE: Rule = Rule {
+    family: Family::P,
+    number: 12,
+};
+
+/// A package name other than before a `.` (Go specification, "Qualified identifiers").
+pub const MISPLACED_PACKAGE: Rule = Rule {
+    family: Family::P,
+    number: 13,
+};
+
+/// A name behind the `.` of a package that declares no such exported name (Go specification, "Qualified
+/// identifiers", "Exported identifiers").
+pub const MISSING_MEMBER: Rule = Rule {
+    family: Family::P,
+    number: 14,
+};
+
+/// A predeclared identifier of complex numbers, which are not checked.
+pub const COMPLEX_NAME: Rule = Rule {
+    family: Family::U,
+    number: 8,
+};

@@ -1,0 +1,126 @@
+// The tables of a package's scopes (Go specification, "Declarations and scope", "Qualified identifiers").
+ghost use Rattle.std.specs.Prelude.{◌≡◌, IfOk, OnOk, Some, map};
+ghost use Rattle.std.specs.List.{flat_map};
+ghost use Rattle.indexmap.specs.IndexMap.{insert_all};
+ghost use Rattle.go_model.specs.Names.Constants as constants;
+ghost use Rattle.go_model.specs.Scopes.{same_node, same_object};
+ghost use Rattle.go_scope.specs.Known.{known_by};
+ghost use Rattle.go_scope.specs.Resolved.{member_entry, member_pair, members_by, pairs_by};
+ghost use Rattle.go_model.specs.Names.Tables.{member_of};
+
+use crate::constants::constant_object;
+use crate::known::{Known, exported};
+use crate::occurrence_rules::package_of;
+use crate::resolved::Resolved;
+use go_base::{Name, NoMemory};
+use go_model::{ObjId, Object, Region, object_id};
+use go_tree::NodeId;
+use indexmap::IndexMap;
+use std::alloc::Global;
+
+/// The names of a block, each with the object that it denotes. An error is want of memory.
+pub fn names_of(alloc: Global, block: &[Region]) -> Result<IndexMap<Name, ObjId>, NoMemory>
+    ensures { IfOk result (λ names. names.entries ≡ constants.names_of block.now) }
+{
+    let mut names = IndexMap::new(alloc);
+    for region in block {
+        names.insert(region.object.name.clone()?, object_id(&region.object))?;
+    }
+    Ok(names)
+}
+
+/// Adds what each of these occurrences denotes, and what the qualified identifiers do that they begin.
+pub fn add_uses(
+    known: &Known,
+    resolved: &[Resolved],
+    uses: &mut IndexMap<NodeId, ObjId>,
+) -> Result<(), NoMemory>
+    ensures { OnOk result (uses.new.entries ≡ insert_all same_node uses.old.entries
+        (flat_map (pairs_by (known_by known.now)) resolved.now)) }
+{
+    for r in resolved {
+        add_pairs(known, r, uses)?;
+    }
+    Ok(())
+}
+
+fn add_pairs(
+    known: &Known,
+    r: &Resolved,
+    uses: &mut IndexMap<NodeId, ObjId>,
+) -> Result<(), NoMemory>
+    ensures { OnOk result (uses.new.entries
+        ≡ insert_all same_node uses.old.entries (pairs_by (known_by known.now) r.now)) }
+{
+    if let Some(denoted) = r.denoted {
+        uses.insert(r.occurrence.id, denoted.object)?;
+    }
+    if let Some(place) = package_of(r) {
+        add_member_use(known, place, r, uses)?;
+    }
+    Ok(())
+}
+
+fn add_member_use(
+    known: &Known,
+    place: usize,
+    r: &Resolved,
+    uses: &mut IndexMap<NodeId, ObjId>,
+) -> Result<(), NoMemory>
+    ensures { OnOk result (uses.new.entries ≡ insert_all same_node uses.old.entries
+        (map member_pair (member_of (known_by known.now) (Some place) r.now.occurrence.selected))) }
+{
+    if let Some(selected) = &r.occurrence.selected {
+        if let Some(object) = exported(known, place, &selected.name) {
+            uses.insert(selected.id, object)?;
+        }
+    }
+    Ok(())
+}
+
+/// Adds the objects of the qualified identifiers that these occurrences begin.
+pub fn add_members(
+    known: &Known,
+    resolved: &[Resolved],
+    objects: &mut IndexMap<ObjId, Object>,
+) -> Result<(), NoMemory>
+    ensures { OnOk result (objects.new.entries ≡ insert_all same_object objects.old.entries
+        (map member_entry (flat_map (members_by (known_by known.now)) resolved.now))) }
+{
+    for r in resolved {
+        add_member_of(known, r, objects)?;
+    }
+    Ok(())
+}
+
+fn add_member_of(
+    known: &Known,
+    r: &Resolved,
+    objects: &mut IndexMap<ObjId, Object>,
+) -> Result<(), NoMemory>
+    ensures { OnOk result (objects.new.entries ≡ insert_all same_object objects.old.entries
+        (map member_entry (members_by (known_by known.now) r.now))) }
+{
+    match package_of(r) {
+        Some(place) => add_member(known, place, r, objects),
+        None => Ok(()),
+    }
+}
+
+fn add_member(
+    known: &Known,
+    place: usize,
+    r: &Resolved,
+    objects: &mut IndexMap<ObjId, Object>,
+) -> Result<(), NoMemory>
+    ensures { OnOk result (objects.new.entries ≡ insert_all same_object objects.old.entries
+        (map member_entry (member_of (known_by known.now) (Some place) r.now.occurrence.selected))) }
+{
+    if let Some(selected) = &r.occurrence.selected {
+        if let Some(object) = exported(known, place, &selected.name) {
+            let member = constant_object(place, selected.name.clone()?, NodeId(object.0));
+            objects.insert(object, member)?;
+        }
+    }
+    Ok(())
+}
