@@ -16,14 +16,21 @@ pub fn add_repeated(block: &Declared, found: &mut Vec<Broken>) -> Result<(), NoM
     ensures { OnOk result (found.new.items ≡ found.old.items ++ rule.repeated block.now) }
 {
     for region in block.regions() {
-        let repeated = block.is_repeated(&region.object.name);
-        add_if(
-            found,
-            repeated,
-            broken_at(region.file, region.at, REPEATED_NAME),
-        )?;
+        add_repeated_at(block, region, found)?;
     }
     Ok(())
+}
+
+fn add_repeated_at(
+    block: &Declared,
+    region: &Region,
+    found: &mut Vec<Broken>,
+) -> Result<(), NoMemory>
+    ensures { OnOk result (found.new.items ≡ found.old.items ++ rule.repeated_at block.now region.now) }
+{
+    let repeated = block.is_repeated(&region.object.name);
+    let at = broken_at(region.file, region.at, REPEATED_NAME);
+    add_if(found, repeated, at)
 }
 
 /// Adds the rule P8 at each declaration that is kept for a function.

@@ -4,7 +4,8 @@ ghost use Rattle.std.specs.List.{flat_map, list_any};
 ghost use Rattle.std.specs.Option.{option_map_or};
 ghost use Rattle.indexmap.specs.IndexSet.{contains};
 ghost use Rattle.go_tree.specs.declared.node.NodeId.{NodeId};
-ghost use Rattle.go_model.specs.Names.BlockRules as blocks;
+ghost use Rattle.go_model.specs.BrokenImports as places;
+ghost use Rattle.go_model.specs.BrokenImports.{told_if};
 ghost use Rattle.go_model.specs.Names.ImportRules as rule;
 ghost use Rattle.go_model.specs.Names.Regions.{has_name};
 ghost use Rattle.go_model.specs.Scopes.{same_node};
@@ -33,10 +34,23 @@ pub fn add_conflicting(
 {
     let conflicts = conflicting_imports(alloc, block, file)?;
     for import in imports {
-        let at = broken_at(import.file, import.at, CONFLICTING_IMPORT);
-        add_if(found, conflicts.contains(&import.id), at)?;
+        add_conflict(&conflicts, import, found)?;
     }
     Ok(())
+}
+
+// Adds the rule P6 at an import that has the mark.
+fn add_conflict(
+    conflicts: &IndexSet<NodeId>,
+    import: &Import,
+    found: &mut Vec<Broken>,
+) -> Result<(), NoMemory>
+    ensures { OnOk result (found.new.items ≡ found.old.items
+        ++ told_if (contains same_node conflicts.now import.now.id)
+            (places.broken_at import.now.file import.now.at rule.conflicting_import)) }
+{
+    let at = broken_at(import.file, import.at, CONFLICTING_IMPORT);
+    add_if(found, conflicts.contains(&import.id), at)
 }
 
 /// Adds the rule P10 at each import of a file that none of these occurrences uses, and of whose names none
@@ -54,11 +68,26 @@ pub fn add_unused(
     let repeats = repeated_imports(alloc, file)?;
     let uses = used_imports(alloc, resolved)?;
     for import in imports {
-        let unused = !repeats.contains(&import.id) && !uses.contains(&import.id);
-        let at = broken_at(import.file, import.at, UNUSED_IMPORT);
-        add_if(found, unused, at)?;
+        add_unused_import(&repeats, &uses, import, found)?;
     }
     Ok(())
+}
+
+// Adds the rule P10 at an import that has neither mark.
+fn add_unused_import(
+    repeats: &IndexSet<NodeId>,
+    uses: &IndexSet<NodeId>,
+    import: &Import,
+    found: &mut Vec<Broken>,
+) -> Result<(), NoMemory>
+    ensures { OnOk result (found.new.items ≡ found.old.items
+        ++ told_if (not (contains same_node repeats.now import.now.id)
+                && not (contains same_node uses.now import.now.id))
+            (places.broken_at import.now.file import.now.at rule.unused_import)) }
+{
+    let unused = !repeats.contains(&import.id) && !uses.contains(&import.id);
+    let at = broken_at(import.file, import.at, UNUSED_IMPORT);
+    add_if(found, unused, at)
 }
 
 // The import specs that declare a name of the package block.
@@ -100,11 +129,21 @@ fn used_imports(alloc: Global, resolved: &[Resolved]) -> Result<IndexSet<NodeId>
 {
     let mut marks = IndexSet::new(alloc);
     for r in resolved {
-        if let Some(denoted) = r.denoted {
-            add_mark(&mut marks, denoted.import, true)?;
-        }
+        add_use(&mut marks, r)?;
     }
     Ok(marks)
+}
+
+// Adds the import spec that an occurrence uses.
+#[tactic(auto, using(crate::proofs::MarkLemmas::mark_lemmas))]
+fn add_use(marks: &mut IndexSet<NodeId>, r: &Resolved) -> Result<(), NoMemory>
+    ensures { OnOk result ((id : NodeId) → contains same_node marks.new id
+        ≡ (contains same_node marks.old id || spec.uses_by id r.now)) }
+{
+    match r.denoted {
+        Some(denoted) => add_mark(marks, denoted.import, true),
+        None => Ok(()),
+    }
 }
 
 // Adds an import spec, if there is one and it has the mark.

@@ -1,7 +1,7 @@
 // The tables of a package's scopes (Go specification, "Declarations and scope", "Qualified identifiers").
 ghost use Rattle.std.specs.Prelude.{◌≡◌, IfOk, OnOk, Some, map};
 ghost use Rattle.std.specs.List.{flat_map};
-ghost use Rattle.indexmap.specs.IndexMap.{insert_all};
+ghost use Rattle.indexmap.specs.IndexMap.{insert_all, insert_entry};
 ghost use Rattle.go_model.specs.Names.Constants as constants;
 ghost use Rattle.go_model.specs.Scopes.{same_node, same_object};
 ghost use Rattle.go_scope.specs.Known.{known_by};
@@ -13,7 +13,7 @@ use crate::known::{Known, exported};
 use crate::occurrence_rules::package_of;
 use crate::resolved::Resolved;
 use go_base::{Name, NoMemory};
-use go_model::{ObjId, Object, Region, object_id};
+use go_model::{ObjId, Object, Region, Selected, object_id};
 use go_tree::NodeId;
 use indexmap::IndexMap;
 use std::alloc::Global;
@@ -116,11 +116,38 @@ fn add_member(
     ensures { OnOk result (objects.new.entries ≡ insert_all same_object objects.old.entries
         (map member_entry (member_of (known_by known.now) (Some place) r.now.occurrence.selected))) }
 {
-    if let Some(selected) = &r.occurrence.selected {
-        if let Some(object) = exported(known, place, &selected.name) {
-            let member = constant_object(place, selected.name.clone()?, NodeId(object.0));
-            objects.insert(object, member)?;
-        }
+    match &r.occurrence.selected {
+        Some(selected) => add_selected(known, place, selected, objects),
+        None => Ok(()),
     }
+}
+
+fn add_selected(
+    known: &Known,
+    place: usize,
+    selected: &Selected,
+    objects: &mut IndexMap<ObjId, Object>,
+) -> Result<(), NoMemory>
+    ensures { OnOk result (objects.new.entries ≡ insert_all same_object objects.old.entries
+        (map member_entry (member_of (known_by known.now) (Some place) (Some selected.now)))) }
+{
+    match exported(known, place, &selected.name) {
+        Some(object) => add_object(place, &selected.name, object, objects),
+        None => Ok(()),
+    }
+}
+
+// Adds a constant of the package at a place.
+fn add_object(
+    place: usize,
+    name: &Name,
+    id: ObjId,
+    objects: &mut IndexMap<ObjId, Object>,
+) -> Result<(), NoMemory>
+    ensures { OnOk result (objects.new.entries ≡ insert_entry same_object objects.old.entries id
+        (constants.constant_object place name.now id.0)) }
+{
+    let copy = name.clone()?;
+    objects.insert(id, constant_object(place, copy, NodeId(id.0)))?;
     Ok(())
 }

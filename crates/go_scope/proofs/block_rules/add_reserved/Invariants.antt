@@ -1,0 +1,7 @@
+use Rattle.std.proofs.Common.{◌≡◌, ◌++◌, take}
+use Rattle.std.specs.List.{flat_map}
+use Rattle.go_model.specs.Names.BlockRules.{reserved_at}
+use Rattle.go_scope.proofs.block_rules.add_reserved.Given as goal
+
+abbrev pub invariant-loop-region : goal.invariant-loop-region
+invariant-loop-region l = l.found.items ≡ l.fn.found.items ++ flat_map (reserved_at l.is_main) (take l.region-index l.block)

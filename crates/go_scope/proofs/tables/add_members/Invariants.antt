@@ -1,0 +1,10 @@
+use Rattle.std.proofs.Common.{◌≡◌, map, take}
+use Rattle.std.specs.List.{flat_map}
+use Rattle.indexmap.specs.IndexMap.{insert_all}
+use Rattle.go_model.specs.Scopes.{same_object}
+use Rattle.go_scope.specs.Known.{known_by}
+use Rattle.go_scope.specs.Resolved.{member_entry, members_by}
+use Rattle.go_scope.proofs.tables.add_members.Given as goal
+
+abbrev pub invariant-loop-r : goal.invariant-loop-r
+invariant-loop-r l = l.objects.entries ≡ insert_all same_object l.fn.objects.entries (map member_entry (flat_map (members_by (known_by l.known)) (take l.r-index l.resolved)))
