@@ -1,2 +1,3 @@
 pub mod ListLemmas
 pub mod MarkLemmas
+pub mod KnownLemmas
