@@ -3,7 +3,7 @@ use Rattle.std.proofs.Common.{◌≡◌, ℕ, Bool, true, false, ◌||◌, ◌+�
 use Rattle.std.specs.List.{flat_map, list_any}
 use Rattle.std.proofs.lemmas.List.Folds.{list_any-append}
 use Rattle.std.proofs.lemmas.Grind.{flat_map-append}
-use Rattle.std.proofs.lemmas.List.{append_assoc, append-nil, take_more}
+use Rattle.std.proofs.lemmas.List.{append_assoc, append-nil, take_more, get_or_default}
 
 -- what one more element adds
 pub flat_step : {X Y : Type 0} (f : X → List Y) (xs : List X) (i : ℕ) (x : X) (start old new : List Y) → i < length xs → x ≡ get_or xs i x → old ≡ start ++ flat_map f (take i xs) → new ≡ old ++ f x → new ≡ start ++ flat_map f (take (i + 1) xs)
@@ -14,6 +14,10 @@ flat_step f xs i x start old new lt at before now =
     ∙ ap (λ l. l ++ f x) before
     ∙ append_assoc start (flat_map f (take i xs)) (f x)
     ∙ ap (λ l. start ++ l) (sym one)
+
+-- the same, where the element is read off the list
+pub flat_step_at : {X Y : Type 0} (f : X → List Y) (xs : List X) (i : ℕ) (d : X) (start old new : List Y) → i < length xs → old ≡ start ++ flat_map f (take i xs) → new ≡ old ++ f (get_or xs i d) → new ≡ start ++ flat_map f (take (i + 1) xs)
+flat_step_at f xs i d start old new lt before now = flat_step f xs i (get_or xs i d) start old new lt (get_or_default xs i d (get_or xs i d) lt) before now
 
 or_false : (b : Bool) → (b || false) ≡ b
 or_false true = refl

@@ -88,30 +88,30 @@ fn add_occurrences(
 {
     match node.kind() {
         NodeKind::Name => add_name(alloc, file, node, found),
-        NodeKind::SelectorExpr => add_selector(alloc, file, node, found),
+        NodeKind::SelectorExpr => match node.both_parts() {
+            Some((operand, name)) => add_operand(alloc, file, operand, name, found),
+            None => add_among(alloc, file, node.parts(), found),
+        },
         _ => add_among(alloc, file, node.parts(), found),
     }
 }
 
-// Adds those of `x.f`.
+// Adds those of an operand before a `.`, with the name behind it.
 #[cycle(occurrences)]
-fn add_selector(
+fn add_operand(
     alloc: Global,
     file: usize,
-    node: &Node,
+    operand: &Node,
+    name: &Node,
     found: &mut Vec<Occurrence>,
 ) -> Result<(), NoMemory>
-    ensures { OnOk result (found.new.items ≡ found.old.items ++ spec.occurrences_in file (tree_of node.now)) }
+    ensures { OnOk result (found.new.items ≡ found.old.items ++ spec.with_selected
+        (tree_of operand.now) (tree_of name.now) (spec.occurrences_in file (tree_of operand.now))) }
 {
-    match node.both_parts() {
-        Some((operand, name)) => {
-            if operand.is(NodeKind::Name) {
-                add_qualified(alloc, file, operand, name, found)
-            } else {
-                add_occurrences(alloc, file, operand, found)
-            }
-        }
-        None => add_among(alloc, file, node.parts(), found),
+    if operand.is(NodeKind::Name) {
+        add_qualified(alloc, file, operand, name, found)
+    } else {
+        add_occurrences(alloc, file, operand, found)
     }
 }
 

@@ -1,0 +1,196 @@
+-- What files denote and break, file after file, is what the definitions say of the package.
+use Rattle.std.proofs.Common.{◌≡◌, ℕ, zero, suc, ◌+◌, Bool, true, false, not, ◌&&◌, ◌||◌, Option, Some, None, List, [], ◌∷◌, ◌++◌, length, drop, map, refl, sym, ap, ◌∙◌, subst, arith}
+use Rattle.std.specs.Prelude.{if◌then◌else◌, option_and_then, slice_get}
+use Rattle.std.specs.List.{flat_map, list_any}
+use Rattle.std.specs.Option.{option_map, option_map_or, is_none, is_some}
+use Rattle.std.proofs.lemmas.List.{map-append, append_assoc}
+use Rattle.std.proofs.lemmas.Grind.{flat_map-append}
+use Rattle.go_base.specs.declared.rule.Broken.{Broken}
+use Rattle.go_tree.specs.declared.node.NodeId.{NodeId}
+use Rattle.go_tree.specs.declared.node_kind.NodeKind.TheVariants.{Name, SelectorExpr}
+use Rattle.go_tree.specs.Tree.{Tree, branch, Trees, no_trees, more_trees, parts_of}
+use Rattle.go_model.specs.BrokenImports.{broken_at, told_if}
+use Rattle.go_model.specs.declared.block.Import.{Import}
+use Rattle.go_model.specs.declared.block.Occurrence.{Occurrence}
+use Rattle.go_model.specs.declared.block.Region.{Region}
+use Rattle.go_model.specs.declared.object.ObjId.{ObjId}
+use Rattle.go_model.specs.FormRules.Parameters.{is_identifier}
+use Rattle.go_model.specs.FormRules.Parts.{all_but_first}
+use Rattle.go_model.specs.Heads.{import_specs}
+use Rattle.go_model.specs.Module.{FileData, PackageData}
+use Rattle.go_model.specs.Rules as of_file
+use Rattle.go_model.specs.Scopes.{same_node}
+use Rattle.go_model.specs.Names.BlockRules.{missing_main_at, reserved, repeated, is_main_name}
+use Rattle.go_model.specs.Names.BrokenNames.{broken_imports, broken_file, broken_files, broken_names, broken_block}
+use Rattle.go_model.specs.Names.Constants.{const_specs, object_id, package_block}
+use Rattle.go_model.specs.Names.ImportRules.{conflicting, declares, is_repeated_by, uses_import, unused, unused_at, unused_import}
+use Rattle.go_model.specs.Names.Imports.{PackageNames, Importing, file_block, import_of, imports_from, imports_of}
+use Rattle.go_model.specs.Names.OccurrenceRules.{denoted_package, broken_occurrence, broken_occurrences, blank_at, missing_in, misplaced_package, undeclared_at, complex_name, is_complex}
+use Rattle.go_model.specs.Names.Occurrences.{occurrence, selecting, with_selected, occurrences_in, occurrences_among, occurrences_in_spec, occurrences_in_file}
+use Rattle.go_model.specs.Names.Regions.{regions_of, resolution, is_held}
+use Rattle.go_model.specs.Names.Tables.{member_of, members_at, uses_at, uses_of, objects_of, occurrences_from, region_entries}
+use Rattle.go_model.specs.Names.Universe.{universe}
+use Rattle.go_scope.specs.declared.resolved.Denoted.{Denoted}
+use Rattle.go_scope.specs.declared.resolved.Resolved.{Resolved}
+use Rattle.go_scope.specs.Blocks.{BlockData, block_data}
+use Rattle.go_scope.specs.Checked.{all_of, broken_from, resolved_from}
+use Rattle.go_scope.specs.Held.{innermost, is_declared}
+use Rattle.go_scope.specs.Resolved.{denoted_of, resolved_in, broken_by, broken_file_by, undeclared_by, misplaced_by, missing_by, complex_by, package_by, uses_by, unused_by, members_by, member_entry, member_pair, pairs_by}
+use Rattle.go_scope.proofs.ResolutionLemmas.{innermost_is, declared_is}
+
+-- an occurrence among all regions of its package
+abbrev pub resolved_of : List Region → Occurrence → Resolved
+resolved_of regions o = record { occurrence = o; held = is_held regions o; denoted = option_map denoted_of (resolution regions o) }
+
+-- what is asked of a region is what is asked of what it tells
+package_is : (x : Option Region) → option_and_then (λ (d : Denoted). d.denotes) (option_map denoted_of x) ≡ option_and_then (λ (r : Region). r.denotes) x
+package_is None = refl
+package_is (Some r) = refl
+
+complex_is : (x : Option Region) → option_map_or (λ (d : Denoted). d.complex) (option_map denoted_of x) false ≡ option_map_or is_complex x false
+complex_is None = refl
+complex_is (Some r) = refl
+
+use_is : (i : Import) (x : Option Region) → option_map_or (λ (d : Denoted). option_map_or (λ spec. same_node i.id spec) d.import false) (option_map denoted_of x) false ≡ option_map_or (declares i) x false
+use_is i None = refl
+use_is i (Some r) = refl
+
+pair_is : (id : NodeId) (x : Option Region) → option_map_or {U = List (NodeId × ObjId)} (λ (d : Denoted). (id, d.object) ∷ []) (option_map denoted_of x) [] ≡ option_map_or {U = List (NodeId × ObjId)} (λ (r : Region). (id, object_id r.object) ∷ []) x []
+pair_is id None = refl
+pair_is id (Some r) = refl
+
+module _ (known : ℕ → PackageNames) (regions : List Region) where
+  broken_is : (o : Occurrence) → broken_by known (resolved_of regions o) ≡ broken_occurrence known regions o
+  broken_is o =
+    let place = package_is (resolution regions o) in
+    (λ at. undeclared_at regions o ++ (blank_at o ++ (told_if (is_none o.selected && is_some (place at)) (broken_at o.file o.at misplaced_package) ++ (missing_in known o.file (place at) o.selected ++ told_if (complex_is (resolution regions o) at) (broken_at o.file o.at complex_name)))))
+
+  all_broken : (occurrences : List Occurrence) → flat_map (broken_by known) (map (resolved_of regions) occurrences) ≡ broken_occurrences known regions occurrences
+  all_broken [] = refl
+  all_broken (o ∷ occurrences) = (λ at. broken_is o at ++ all_broken occurrences at)
+
+  any_use : (i : Import) (occurrences : List Occurrence) → list_any (uses_by i.id) (map (resolved_of regions) occurrences) ≡ list_any (uses_import regions i) occurrences
+  any_use i [] = refl
+  any_use i (o ∷ occurrences) = (λ at. use_is i (resolution regions o) at || any_use i occurrences at)
+
+  all_unused : (file : List Region) (occurrences : List Occurrence) (imports : List Import) → flat_map (unused_by file (map (resolved_of regions) occurrences)) imports ≡ unused regions file occurrences imports
+  all_unused file occurrences [] = refl
+  all_unused file occurrences (i ∷ imports) = (λ at. told_if (not (is_repeated_by file i) && not (any_use i occurrences at)) (broken_at i.file i.at unused_import) ++ all_unused file occurrences imports at)
+
+  pairs_are : (o : Occurrence) → pairs_by known (resolved_of regions o) ≡ uses_at known regions o
+  pairs_are o = (λ at. pair_is o.id (resolution regions o) at ++ map member_pair (member_of known (package_is (resolution regions o) at) o.selected))
+
+  pub all_pairs : (occurrences : List Occurrence) → flat_map (pairs_by known) (map (resolved_of regions) occurrences) ≡ flat_map (uses_at known regions) occurrences
+  all_pairs [] = refl
+  all_pairs (o ∷ occurrences) = (λ at. pairs_are o at ++ all_pairs occurrences at)
+
+  members_are : (o : Occurrence) → members_by known (resolved_of regions o) ≡ members_at known regions o
+  members_are o = ap (λ place. member_of known place o.selected) (package_is (resolution regions o))
+
+  pub all_members : (occurrences : List Occurrence) → flat_map (members_by known) (map (resolved_of regions) occurrences) ≡ flat_map (members_at known regions) occurrences
+  all_members [] = refl
+  all_members (o ∷ occurrences) = (λ at. members_are o at ++ all_members occurrences at)
+
+-- the occurrences of a file stand in that file
+abbrev AllAt : ℕ → List Occurrence → Type 0
+AllAt file [] = Unit {0}
+AllAt file (o ∷ occurrences) = (o.file ≡ file) × AllAt file occurrences
+
+at_append : (file : ℕ) (xs ys : List Occurrence) → AllAt file xs → AllAt file ys → AllAt file (xs ++ ys)
+at_append file [] ys xs_are ys_are = ys_are
+at_append file (x ∷ xs) ys xs_are ys_are = (xs_are.0, at_append file xs ys xs_are.1 ys_are)
+
+at_selected : (file : ℕ) (name : Tree) (xs : List Occurrence) → AllAt file xs → AllAt file (map (selecting name) xs)
+at_selected file name [] all = tt
+at_selected file name (x ∷ xs) all = (all.0, at_selected file name xs all.1)
+
+at_with : (file : ℕ) (name : Tree) (b : Bool) (xs : List Occurrence) → AllAt file xs → AllAt file (if b then map (selecting name) xs else xs)
+at_with file name true xs all = at_selected file name xs all
+at_with file name false xs all = all
+
+mutual
+  at_tree : (file : ℕ) (t : Tree) → AllAt file (occurrences_in file t)
+  at_tree file (branch id from to Name text parts) = (refl, tt)
+  at_tree file (branch id from to SelectorExpr text (more_trees operand (more_trees name no_trees))) = at_with file name (is_identifier operand) (occurrences_in file operand) (at_tree file operand)
+  at_tree file (branch id from to kind text parts) = at_trees file parts
+
+  at_trees : (file : ℕ) (ts : Trees) → AllAt file (occurrences_among file ts)
+  at_trees file no_trees = tt
+  at_trees file (more_trees t ts) = at_append file (occurrences_in file t) (occurrences_among file ts) (at_tree file t) (at_trees file ts)
+
+at_list : (file : ℕ) (ts : List Tree) → AllAt file (flat_map (occurrences_in file) ts)
+at_list file [] = tt
+at_list file (t ∷ ts) = at_append file (occurrences_in file t) (flat_map (occurrences_in file) ts) (at_tree file t) (at_list file ts)
+
+at_specs : (file : ℕ) (specs : List Tree) → AllAt file (flat_map (occurrences_in_spec file) specs)
+at_specs file [] = tt
+at_specs file (spec ∷ specs) = at_append file (occurrences_in_spec file spec) (flat_map (occurrences_in_spec file) specs) (at_list file (all_but_first (parts_of spec))) (at_specs file specs)
+
+-- the file at a place among those of the package, with its imports
+module _ (known : ℕ → PackageNames) (k : ℕ) (p : PackageData) where
+  one_resolved : (o : Occurrence) (i : ℕ) (imports : List Importing) → o.file ≡ i → slice_get (imports_of k p) i ≡ Some imports → resolved_in universe (package_block k 0 p.files) (file_block known imports) o ≡ resolved_of (regions_of known k p) o
+  one_resolved o i imports at found =
+    let here : slice_get (imports_of k p) o.file ≡ Some imports = ap (slice_get (imports_of k p)) at ∙ found in
+    let innermost_at = innermost_is known k p o imports here in
+    let declared_at = declared_is known k p o imports here in
+    (λ j. record { occurrence = o; held = declared_at j; denoted = option_map denoted_of (innermost_at j) })
+
+  all_resolved : (i : ℕ) (imports : List Importing) (occurrences : List Occurrence) → AllAt i occurrences → slice_get (imports_of k p) i ≡ Some imports → map (resolved_in universe (package_block k 0 p.files) (file_block known imports)) occurrences ≡ map (resolved_of (regions_of known k p)) occurrences
+  all_resolved i imports [] all found = refl
+  all_resolved i imports (o ∷ occurrences) all found = (λ j. one_resolved o i imports all.0 found j ∷ all_resolved i imports occurrences all.1 found j)
+
+  file_resolved : (i : ℕ) (imports : List Importing) (f : FileData) → slice_get (imports_of k p) i ≡ Some imports → map (resolved_in universe (package_block k 0 p.files) (file_block known imports)) (occurrences_in_file i f.tree) ≡ map (resolved_of (regions_of known k p)) (occurrences_in_file i f.tree)
+  file_resolved i imports f found = all_resolved i imports (occurrences_in_file i f.tree) (at_specs i (const_specs f.tree)) found
+
+  file_is : (is_main : Bool) (i : ℕ) (imports : List Importing) (f : FileData) → slice_get (imports_of k p) i ≡ Some imports → broken_file_by known is_main (package_block k 0 p.files) (block_data known imports) i f (map (resolved_in universe (package_block k 0 p.files) (file_block known imports)) (occurrences_in_file i f.tree)) ≡ broken_file known is_main (regions_of known k p) (package_block k 0 p.files) i f imports
+  file_is is_main i imports f found =
+    let block = package_block k 0 p.files in
+    let own = file_block known imports in
+    let regions = regions_of known k p in
+    let occurrences = occurrences_in_file i f.tree in
+    ap (broken_file_by known is_main block (block_data known imports) i f) (file_resolved i imports f found)
+    ∙ (λ j. missing_main_at is_main i f ++ (reserved is_main own ++ ((repeated own ++ (conflicting block own (flat_map import_of imports) ++ all_unused known regions own occurrences (flat_map import_of imports) j)) ++ all_broken known regions occurrences j)))
+
+  -- the imports of the files that are left are those of the package behind a place
+  abbrev StandsAt : ℕ → List (List Importing) → Type 0
+  StandsAt i lists = (j : ℕ) (imports : List Importing) → slice_get lists j ≡ Some imports → slice_get (imports_of k p) (i + j) ≡ Some imports
+
+  first_stands : (i : ℕ) (imports : List Importing) (lists : List (List Importing)) → StandsAt i (imports ∷ lists) → slice_get (imports_of k p) i ≡ Some imports
+  first_stands i imports lists stands =
+    let same : i + 0 ≡ i = omega arith in
+    subst (λ (n : ℕ). slice_get (imports_of k p) n ≡ Some imports) same (stands 0 imports refl)
+
+  rest_stands : (i : ℕ) (imports : List Importing) (lists : List (List Importing)) → StandsAt i (imports ∷ lists) → StandsAt (i + 1) lists
+  rest_stands i imports lists stands j others found =
+    let same : i + suc j ≡ (i + 1) + j = omega arith in
+    subst (λ (n : ℕ). slice_get (imports_of k p) n ≡ Some others) same (stands (suc j) others found)
+
+  files_are : (is_main : Bool) (i : ℕ) (lists : List (List Importing)) (files : List FileData) → StandsAt i lists → broken_from known is_main universe (package_block k 0 p.files) i (map (block_data known) lists) files ≡ broken_files known is_main (regions_of known k p) (package_block k 0 p.files) i files lists
+  files_are is_main i [] [] stands = refl
+  files_are is_main i [] (f ∷ files) stands = refl
+  files_are is_main i (imports ∷ lists) [] stands = refl
+  files_are is_main i (imports ∷ lists) (f ∷ files) stands = (λ j. file_is is_main i imports f (first_stands i imports lists stands) j ++ files_are is_main (i + 1) lists files (rest_stands i imports lists stands) j)
+
+  all_are : (i : ℕ) (lists : List (List Importing)) (files : List FileData) → length lists ≡ length files → StandsAt i lists → all_of (resolved_from universe (package_block k 0 p.files) i (map (block_data known) lists) files) ≡ map (resolved_of (regions_of known k p)) (occurrences_from i files)
+  all_are i [] [] long stands = refl
+  all_are i [] (f ∷ files) long stands = cc
+  all_are i (imports ∷ lists) [] long stands = cc
+  all_are i (imports ∷ lists) (f ∷ files) long stands =
+    (λ j. file_resolved i imports f (first_stands i imports lists stands) j ++ all_are (i + 1) lists files (omega arith) (rest_stands i imports lists stands) j)
+    ∙ sym (map-append (resolved_of (regions_of known k p)) (occurrences_in_file i f.tree) (occurrences_from (i + 1) files))
+
+  whole_stands : StandsAt 0 (imports_of k p)
+  whole_stands j imports found =
+    let same : j ≡ 0 + j = omega arith in
+    subst (λ (n : ℕ). slice_get (imports_of k p) n ≡ Some imports) same found
+
+imports_long : (k i : ℕ) (files : List FileData) (packages : List ℕ) → length (imports_from k i files packages) ≡ length files
+imports_long k i [] packages = refl
+imports_long k i (f ∷ files) packages = ap suc (imports_long k (i + 1) files (drop (length (import_specs f.tree)) packages))
+
+-- the whole package
+pub package_breaks : (known : ℕ → PackageNames) (k : ℕ) (p : PackageData) (is_main : Bool) → broken_from known is_main universe (package_block k 0 p.files) 0 (map (block_data known) (imports_of k p)) p.files ≡ broken_files known is_main (regions_of known k p) (package_block k 0 p.files) 0 p.files (imports_of k p)
+package_breaks known k p is_main = files_are known k p is_main 0 (imports_of k p) p.files (whole_stands known k p)
+
+pub package_resolves : (known : ℕ → PackageNames) (k : ℕ) (p : PackageData) → all_of (resolved_from universe (package_block k 0 p.files) 0 (map (block_data known) (imports_of k p)) p.files) ≡ map (resolved_of (regions_of known k p)) (occurrences_from 0 p.files)
+package_resolves known k p = all_are known k p 0 (imports_of k p) p.files (imports_long k 0 p.files p.imports) (whole_stands known k p)

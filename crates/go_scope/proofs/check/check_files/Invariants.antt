@@ -1,0 +1,15 @@
+use Rattle.std.proofs.Common.{◌≡◌, ◌++◌, ◌+◌, map, take, drop}
+use Rattle.go_model.specs.Module.{file_view}
+use Rattle.go_scope.specs.Blocks.{block_of}
+use Rattle.go_scope.specs.Checked.{broken_from, resolved_from}
+use Rattle.go_scope.specs.Known.{known_by}
+use Rattle.go_scope.proofs.check.check_files.Given as goal
+
+-- what is found of the files so far, and what those that are left add, is the whole
+abbrev pub invariant-loop-i : goal.invariant-loop-i
+invariant-loop-i l = record {
+  resolved : map (λ list. list.items) l.lists.items ++ resolved_from l.around.universe l.around.block l.i (map block_of (drop l.i l.blocks)) (map file_view (drop l.i l.files))
+      ≡ resolved_from l.around.universe l.around.block 0 (map block_of l.blocks) (map file_view l.files);
+  found : l.found.items ++ broken_from (known_by l.known) l.is_main l.around.universe l.around.block l.i (map block_of (drop l.i l.blocks)) (map file_view (drop l.i l.files))
+      ≡ l.fn.found.items ++ broken_from (known_by l.known) l.is_main l.around.universe l.around.block 0 (map block_of l.blocks) (map file_view l.files);
+}
