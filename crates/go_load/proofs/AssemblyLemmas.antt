@@ -17,7 +17,7 @@ use Rattle.go_model.specs.Module.{FileData, IsModuleOf, PackageData, first_name,
 use Rattle.go_model.specs.Packages.{IsTableOf, Leads, PackageTable, files_of, imports_of, is_home, is_marked}
 use Rattle.go_model.specs.Paths.{has_path, homes, own_paths, same_text}
 use Rattle.go_load.specs.Assembly.{IsModuleOrder, cleared, package_with, packages_with, slot_at, taken}
-use Rattle.go_load.proofs.MemberLemmas.{contains_head, contains_none, contains_tail}
+use Rattle.go_model.proofs.MemberLemmas.{contains_head, contains_none, contains_tail}
 use Rattle.go_load.proofs.OrderPlaceLemmas.{once_from}
 use Rattle.go_load.proofs.PathSetLemmas.{at-any, less_differs, same, same_text-refl}
 use Rattle.go_load.proofs.RunLemmas.{respects}

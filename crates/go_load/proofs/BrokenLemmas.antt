@@ -8,7 +8,7 @@ use Rattle.go_model.specs.Heads.{FileHead}
 use Rattle.go_model.specs.Paths.{same_text}
 use Rattle.go_model.specs.Packages.{PackageTable, is_marked}
 use Rattle.go_model.specs.BrokenImports.{name_at, is_mixed, broken_names, broken_imports_at, broken_package, broken_if_reached}
-use Rattle.go_load.proofs.MemberLemmas.{range_more}
+use Rattle.go_model.proofs.MemberLemmas.{range_more}
 use Rattle.go_load.proofs.PathSetLemmas.{same, same_text-sym, list_any-map}
 
 -- one more package

@@ -15,7 +15,7 @@ use Rattle.go_model.specs.ImportCycles.{MarksCycles, MarksEach, OnCycle}
 use Rattle.go_model.specs.Packages.{PackageTable, IsTableOf, is_marked, named, all_named, imports_at, imports_in, imports_of}
 use Rattle.go_load.specs.CyclicImports.{named_import, named_imports_at, named_imports_in, with_marks, marks_at, cyclic_if_reached, cyclic_in}
 use Rattle.go_load.specs.PathSets.{row_at}
-use Rattle.go_load.proofs.MemberLemmas.{cons_cases, contains_head, contains_none, contains_tail}
+use Rattle.go_model.proofs.MemberLemmas.{cons_cases, contains_head, contains_none, contains_tail}
 use Rattle.go_load.proofs.NamedLemmas.{all_named-append}
 use Rattle.go_load.proofs.TableGraphLemmas.{table_row, imports_length}
 

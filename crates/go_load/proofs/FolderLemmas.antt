@@ -17,7 +17,7 @@ use Rattle.go_model.specs.Listing.{counts, is_go_name, is_left_out, is_skipped_n
 use Rattle.go_model.specs.ModuleRules.{broken_module_file, broken_rules, has_module_file, missing_module_file, module_file_path, module_lines}
 use Rattle.go_model.specs.PathParts.{folders, last_element}
 use Rattle.go_load.proofs.ListingLemmas.{list_any-agree}
-use Rattle.go_load.proofs.MemberLemmas.{contains_head, contains_tail}
+use Rattle.go_model.proofs.MemberLemmas.{contains_head, contains_tail}
 use Rattle.go_load.specs.Calls.{IsListed, IsReadAt}
 use Rattle.go_load.specs.ModuleTexts.{IsModuleRead, IsPathIn, is_listed, rules_of}
 use Rattle.go_load.specs.ReadTexts.{AreGoFilesOf, AreTextsRead, IsTextRead}

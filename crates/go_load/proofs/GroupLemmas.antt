@@ -12,7 +12,7 @@ use Rattle.std.proofs.lemmas.List.Elements.{filter-append}
 use Rattle.go_model.specs.Paths.{same_text}
 use Rattle.go_model.specs.Packages.{is_home}
 use Rattle.go_load.specs.PathSets.{place_of, home_place, put_in}
-use Rattle.go_load.proofs.MemberLemmas.{range_more}
+use Rattle.go_model.proofs.MemberLemmas.{range_more}
 use Rattle.go_load.proofs.PathSetLemmas.{same, same_text-sym, less_differs}
 
 -- the first place behind a path

@@ -20,7 +20,6 @@ pub mod RowLemmas
 pub mod BrokenLemmas
 pub mod GroupLemmas
 pub mod ReachMarkLemmas
-pub mod MemberLemmas
 pub mod NamedLemmas
 pub mod PathListLemmas
 pub mod PathSetLemmas

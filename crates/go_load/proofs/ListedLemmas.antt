@@ -9,7 +9,7 @@ use Rattle.std.proofs.lemmas.List.Elements.{All-contains, filter_passes}
 use Rattle.std.proofs.lemmas.List.Kept.{Contains-dedup, Contains-from_dedup, IsStrictlySortedBy-dedup}
 use Rattle.std.proofs.lemmas.List.Sorted.{Contains-permutation, IsPermutation-sym}
 use Rattle.std.proofs.lemmas.Slice.Eq.{bytes_eq-Decides}
-use Rattle.go_load.proofs.MemberLemmas.{cons_cases, contains_head, contains_tail}
+use Rattle.go_model.proofs.MemberLemmas.{cons_cases, contains_head, contains_tail}
 use Rattle.go_model.specs.Folders.{AreGoFiles}
 use Rattle.go_model.specs.Listing.{counts}
 

@@ -16,7 +16,7 @@ use Rattle.go_model.specs.Paths.{own_paths}
 use Rattle.go_load.proofs.AsciiLemmas.{Ascii}
 use Rattle.go_load.proofs.AssemblyLemmas.{one_place, order_once, table_rows}
 use Rattle.go_load.proofs.FrontLemmas.{front_is, one_place_of, result_at, result_from, stands_before}
-use Rattle.go_load.proofs.MemberLemmas.{contains_head}
+use Rattle.go_model.proofs.MemberLemmas.{contains_head}
 use Rattle.go_load.proofs.PlainPathLemmas.{all_plain, ascii_text, homes_ascii, lines_ascii}
 use Rattle.go_load.proofs.RunLemmas.{respects}
 

@@ -10,7 +10,7 @@ use Rattle.std.proofs.lemmas.List.Elements.{filter_map-append}
 use Rattle.std.proofs.lemmas.List.Kept.{Contains-dedup, Contains-from_dedup, IsStrictlySortedBy-dedup}
 use Rattle.std.proofs.lemmas.List.Sorted.{Contains-permutation, IsPermutation-sym}
 use Rattle.std.proofs.lemmas.Slice.Eq.{bytes_eq-Decides}
-use Rattle.go_load.proofs.MemberLemmas.{cons_cases, contains_head, contains_tail, contains_none}
+use Rattle.go_model.proofs.MemberLemmas.{cons_cases, contains_head, contains_tail, contains_none}
 use Rattle.go_model.specs.Packages.{IsPathList}
 
 -- one more of the homes that there are

@@ -20,7 +20,7 @@ use Rattle.go_model.specs.PathParts.{folder_of_path, import_path_of, is_plain}
 use Rattle.go_model.specs.Paths.{belongs, home, homes, import_path}
 use Rattle.go_model.specs.Sources.{SourceBreaks, by_form, no_tree, special_file_path, too_long}
 use Rattle.go_load.proofs.AsciiLemmas.{Ascii, ascii_is, folder_ascii, import_ascii, module_ascii, plain_ascii}
-use Rattle.go_load.proofs.MemberLemmas.{cons_cases, contains_head, contains_none}
+use Rattle.go_model.proofs.MemberLemmas.{cons_cases, contains_head, contains_none}
 use Rattle.go_model.proofs.NameLemmas.{text_stays}
 
 pub ascii_text : (bytes : List ℕ) → Ascii bytes → as_text bytes ≡ bytes

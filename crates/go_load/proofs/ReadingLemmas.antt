@@ -17,7 +17,7 @@ use Rattle.go_model.specs.FormRules.Order.{IsListOf}
 use Rattle.go_model.specs.Loading.{AreBelow, ModuleFileBreaks, module_text, placed_in}
 use Rattle.go_model.specs.ModuleRules.{missing_module_file, module_file_path}
 use Rattle.go_load.proofs.FolderLemmas.{broken_is, files_are, folder_is, folder_read, module_bytes, path_read, texts_are}
-use Rattle.go_load.proofs.MemberLemmas.{cons_cases, contains_head, contains_none, contains_tail}
+use Rattle.go_model.proofs.MemberLemmas.{cons_cases, contains_head, contains_none, contains_tail}
 use Rattle.go_load.specs.Calls.{IsListed, IsNoRule}
 use Rattle.go_load.specs.ModuleFile.{IsModuleFile}
 use Rattle.go_load.specs.declared.module_file.ModuleFile.{ModuleFile}

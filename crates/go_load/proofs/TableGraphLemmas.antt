@@ -11,7 +11,7 @@ use Rattle.go_model.specs.Packages.{PackageTable, IsTableOf, files_of, imports_o
 use Rattle.go_model.specs.Paths.{has_path, homes, own_paths}
 use Rattle.go_load.specs.PathSets.{row_at}
 use Rattle.go_load.specs.ReachMarks.{IsGraph}
-use Rattle.go_load.proofs.MemberLemmas.{contains_none}
+use Rattle.go_model.proofs.MemberLemmas.{contains_none}
 use Rattle.go_load.proofs.TableLemmas.{imports_graph}
 
 -- rows that lead to rows, in the words of paths and of the import order

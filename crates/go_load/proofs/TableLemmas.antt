@@ -10,7 +10,7 @@ use Rattle.go_model.specs.Paths.{same_text, own_paths, has_path, import_path, ho
 use Rattle.go_model.specs.Packages.{is_marked, visible, named, all_named, imports_in, imports_of, files_of, IsPathList, IsTableOf, Reached}
 use Rattle.go_load.specs.PathSets.{imports_by}
 use Rattle.go_load.specs.ReachMarks.{IsGraph}
-use Rattle.go_load.proofs.MemberLemmas.{cons_cases, contains_none}
+use Rattle.go_model.proofs.MemberLemmas.{cons_cases, contains_none}
 
 -- the imports by flags and files that are given for each path
 pub imports_given : (paths : List (List ℕ)) (stubs : List Bool) (heads : List FileHead) (f : List ℕ → Bool) (g : List ℕ → List ℕ) (xs : List (List ℕ)) → imports_by paths stubs heads (map f xs) (map g xs) ≡ map (λ path. imports_of paths stubs heads (f path) (g path)) xs

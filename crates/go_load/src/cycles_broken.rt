@@ -6,13 +6,13 @@ ghost use Rattle.go_load.specs.CyclicImports.{named_import, named_imports_at, na
 ghost use Rattle.go_load.specs.CyclicImports.{with_marks, marks_at, cyclic_if_reached, cyclic_in};
 
 use crate::heads::{Head, Import};
-use crate::imports_broken::{add_if, row_at};
+use crate::imports_broken::row_at;
 use crate::named::{is_marked, named};
-use crate::names_broken::broken_at;
 use crate::path_set::PathSet;
 use crate::rules::CYCLIC_IMPORT;
 use crate::table::Packages;
 use go_base::{Broken, NoMemory};
+use go_model::{add_if, broken_at};
 use std::alloc::Global;
 
 /// Adds what the imports of reached packages break that lie on a cycle. For each package there is a row of

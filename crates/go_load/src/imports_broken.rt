@@ -1,19 +1,20 @@
 // What imports and package names break.
 ghost use Rattle.std.specs.Prelude.{◌≡◌, ◌++◌, OnOk};
 ghost use Rattle.std.specs.List.{flat_map};
-ghost use Rattle.go_model.specs.BrokenImports.{told_if, begins_with, is_unnamed, is_unbuilt, broken_import};
+ghost use Rattle.go_model.specs.BrokenImports.{begins_with, is_unnamed, is_unbuilt, broken_import};
 ghost use Rattle.go_model.specs.BrokenImports.{broken_imports_at, broken_package, broken_if_reached};
 ghost use Rattle.go_model.specs.BrokenImports.{broken_imports_in};
 ghost use Rattle.go_load.specs.PathSets.{row_at};
 
 use crate::heads::{Head, Import};
 use crate::named::{is_marked, named};
-use crate::names_broken::{add_names, broken_at};
+use crate::names_broken::add_names;
 use crate::numbers::Numbers;
 use crate::path_set::PathSet;
 use crate::rules::{MISSING_PACKAGE, SPECIAL_IMPORT};
 use crate::table::Packages;
 use go_base::{Broken, NoMemory};
+use go_model::{add_if, broken_at};
 
 /// Adds what the package names of reached packages break, and their imports but for those on cycles.
 pub fn add_broken_imports(
@@ -138,16 +139,6 @@ fn add_import(
     )?;
     let unbuilt = is_unbuilt(import.path());
     add_if(found, unbuilt, broken_at(file, import.at(), SPECIAL_IMPORT))
-}
-
-/// Adds what is broken, if it is.
-pub fn add_if(found: &mut Vec<Broken>, holds: bool, broken: Broken) -> Result<(), NoMemory>
-    ensures { OnOk result (found.new.items ≡ found.old.items ++ told_if holds broken) }
-{
-    if holds {
-        found.push(broken)?;
-    }
-    Ok(())
 }
 
 // Whether the path of an import names no package.

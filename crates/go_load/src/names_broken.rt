@@ -6,17 +6,8 @@ ghost use Rattle.go_model.specs.BrokenImports.{broken_at, mixed_package, name_at
 
 use crate::heads::Head;
 use crate::rules::PACKAGE_NAME;
-use go_base::{Broken, NoMemory, Pos, Rule};
-
-/// A rule that is broken at an offset of a file.
-pub fn broken_at(file: usize, offset: usize, rule: Rule) -> Broken
-    ensures { result ≡ broken_at file offset rule }
-{
-    Broken {
-        pos: Pos { file, offset },
-        rule,
-    }
-}
+use go_base::{Broken, NoMemory};
+use go_model::broken_at;
 
 /// Adds what the package names of these files break.
 pub fn add_names(found: &mut Vec<Broken>, heads: &[Head], files: &[usize]) -> Result<(), NoMemory>
