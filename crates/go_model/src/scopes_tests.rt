@@ -1,4 +1,4 @@
-// Tables of scopes with one entry.
+// Tables of scopes: those of the universe, and tables with one entry.
 use crate::header::Method;
 use crate::object::{ObjId, ObjKind, Object};
 use crate::scopes::Scopes;
@@ -73,5 +73,32 @@ fn a_type_has_its_methods(rt: HostRuntime) -> Result<(), Fail> {
     let scopes = with_method(rt.alloc())?;
     assert_eq!(rt; scopes.methods(OBJECT).len(), 1);
     assert!(rt; scopes.methods(ObjId(60)).is_empty());
+    Ok(())
+}
+
+// Predeclared identifiers by their numbers (Go specification, "Predeclared identifiers"): the first and the
+// last of each list, and the aliases.
+const PREDECLARED: [(usize, &str, ObjKind); 10] = [
+    (0, "any", ObjKind::Alias),
+    (1, "bool", ObjKind::Defined),
+    (2, "byte", ObjKind::Alias),
+    (14, "rune", ObjKind::Alias),
+    (21, "uintptr", ObjKind::Defined),
+    (22, "true", ObjKind::Const),
+    (24, "iota", ObjKind::Const),
+    (25, "nil", ObjKind::Nil),
+    (26, "append", ObjKind::Builtin),
+    (43, "recover", ObjKind::Builtin),
+];
+
+#[test]
+fn the_universe_is_there(rt: HostRuntime) -> Result<(), Fail> {
+    let scopes = Scopes::empty(rt.alloc())?;
+    assert_eq!(rt; scopes.objects.len(), 44);
+    for (number, name, kind) in &PREDECLARED {
+        let found = scopes.objects.get(&ObjId(*number)).ok_or("no object")?;
+        assert_eq!(rt; found.name.as_str(), *name);
+        assert_eq!(rt; found.kind, *kind);
+    }
     Ok(())
 }

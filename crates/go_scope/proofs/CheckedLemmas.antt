@@ -1,11 +1,9 @@
 -- What files denote and break, file after file, is what the definitions say of the package.
-use Rattle.std.proofs.Common.{◌≡◌, ℕ, zero, suc, ◌+◌, Bool, true, false, not, ◌&&◌, ◌||◌, Option, Some, None, List, [], ◌∷◌, ◌++◌, length, drop, map, refl, sym, ap, ◌∙◌, subst, arith}
+use Rattle.std.proofs.Common.{◌≡◌, ℕ, suc, ◌+◌, Bool, true, false, not, ◌&&◌, ◌||◌, Option, Some, None, List, [], ◌∷◌, ◌++◌, length, drop, map, refl, sym, ap, ◌∙◌, subst, arith}
 use Rattle.std.specs.Prelude.{if◌then◌else◌, option_and_then, slice_get}
 use Rattle.std.specs.List.{flat_map, list_any}
 use Rattle.std.specs.Option.{option_map, option_map_or, is_none, is_some}
-use Rattle.std.proofs.lemmas.List.{map-append, append_assoc}
-use Rattle.std.proofs.lemmas.Grind.{flat_map-append}
-use Rattle.go_base.specs.declared.rule.Broken.{Broken}
+use Rattle.std.proofs.lemmas.List.{map-append}
 use Rattle.go_tree.specs.declared.node.NodeId.{NodeId}
 use Rattle.go_tree.specs.declared.node_kind.NodeKind.TheVariants.{Name, SelectorExpr}
 use Rattle.go_tree.specs.Tree.{Tree, branch, Trees, no_trees, more_trees, parts_of}
@@ -18,24 +16,22 @@ use Rattle.go_model.specs.FormRules.Parameters.{is_identifier}
 use Rattle.go_model.specs.FormRules.Parts.{all_but_first}
 use Rattle.go_model.specs.Heads.{import_specs}
 use Rattle.go_model.specs.Module.{FileData, PackageData}
-use Rattle.go_model.specs.Rules as of_file
 use Rattle.go_model.specs.Scopes.{same_node}
-use Rattle.go_model.specs.Names.BlockRules.{missing_main_at, reserved, repeated, is_main_name}
-use Rattle.go_model.specs.Names.BrokenNames.{broken_imports, broken_file, broken_files, broken_names, broken_block}
+use Rattle.go_model.specs.Names.BlockRules.{missing_main_at, reserved, repeated}
+use Rattle.go_model.specs.Names.BrokenNames.{broken_file, broken_files}
 use Rattle.go_model.specs.Names.Constants.{const_specs, object_id, package_block}
-use Rattle.go_model.specs.Names.ImportRules.{conflicting, declares, is_repeated_by, uses_import, unused, unused_at, unused_import}
+use Rattle.go_model.specs.Names.ImportRules.{conflicting, declares, is_repeated_by, uses_import, unused, unused_import}
 use Rattle.go_model.specs.Names.Imports.{PackageNames, Importing, file_block, import_of, imports_from, imports_of}
-use Rattle.go_model.specs.Names.OccurrenceRules.{denoted_package, broken_occurrence, broken_occurrences, blank_at, missing_in, misplaced_package, undeclared_at, complex_name, is_complex}
-use Rattle.go_model.specs.Names.Occurrences.{occurrence, selecting, with_selected, occurrences_in, occurrences_among, occurrences_in_spec, occurrences_in_file}
+use Rattle.go_model.specs.Names.OccurrenceRules.{broken_occurrence, broken_occurrences, blank_at, missing_in, misplaced_package, undeclared_at, complex_name, is_complex}
+use Rattle.go_model.specs.Names.Occurrences.{selecting, occurrences_in, occurrences_among, occurrences_in_spec, occurrences_in_file}
 use Rattle.go_model.specs.Names.Regions.{regions_of, resolution, is_held}
-use Rattle.go_model.specs.Names.Tables.{member_of, members_at, uses_at, uses_of, objects_of, occurrences_from, region_entries}
+use Rattle.go_model.specs.Names.Tables.{member_of, members_at, uses_at, occurrences_from}
 use Rattle.go_model.specs.Names.Universe.{universe}
 use Rattle.go_scope.specs.declared.resolved.Denoted.{Denoted}
 use Rattle.go_scope.specs.declared.resolved.Resolved.{Resolved}
-use Rattle.go_scope.specs.Blocks.{BlockData, block_data}
+use Rattle.go_scope.specs.Blocks.{block_data}
 use Rattle.go_scope.specs.Checked.{all_of, broken_from, resolved_from}
-use Rattle.go_scope.specs.Held.{innermost, is_declared}
-use Rattle.go_scope.specs.Resolved.{denoted_of, resolved_in, broken_by, broken_file_by, undeclared_by, misplaced_by, missing_by, complex_by, package_by, uses_by, unused_by, members_by, member_entry, member_pair, pairs_by}
+use Rattle.go_scope.specs.Resolved.{denoted_of, resolved_in, broken_by, broken_file_by, uses_by, unused_by, members_by, member_pair, pairs_by}
 use Rattle.go_scope.proofs.ResolutionLemmas.{innermost_is, declared_is}
 
 -- an occurrence among all regions of its package
@@ -62,8 +58,8 @@ pair_is id (Some r) = refl
 module _ (known : ℕ → PackageNames) (regions : List Region) where
   broken_is : (o : Occurrence) → broken_by known (resolved_of regions o) ≡ broken_occurrence known regions o
   broken_is o =
-    let place = package_is (resolution regions o) in
-    (λ at. undeclared_at regions o ++ (blank_at o ++ (told_if (is_none o.selected && is_some (place at)) (broken_at o.file o.at misplaced_package) ++ (missing_in known o.file (place at) o.selected ++ told_if (complex_is (resolution regions o) at) (broken_at o.file o.at complex_name)))))
+      let place = package_is (resolution regions o) in
+      (λ at. undeclared_at regions o ++ (blank_at o ++ (told_if (is_none o.selected && is_some (place at)) (broken_at o.file o.at misplaced_package) ++ (missing_in known o.file (place at) o.selected ++ told_if (complex_is (resolution regions o) at) (broken_at o.file o.at complex_name)))))
 
   all_broken : (occurrences : List Occurrence) → flat_map (broken_by known) (map (resolved_of regions) occurrences) ≡ broken_occurrences known regions occurrences
   all_broken [] = refl
@@ -130,10 +126,10 @@ at_specs file (spec ∷ specs) = at_append file (occurrences_in_spec file spec) 
 module _ (known : ℕ → PackageNames) (k : ℕ) (p : PackageData) where
   one_resolved : (o : Occurrence) (i : ℕ) (imports : List Importing) → o.file ≡ i → slice_get (imports_of k p) i ≡ Some imports → resolved_in universe (package_block k 0 p.files) (file_block known imports) o ≡ resolved_of (regions_of known k p) o
   one_resolved o i imports at found =
-    let here : slice_get (imports_of k p) o.file ≡ Some imports = ap (slice_get (imports_of k p)) at ∙ found in
-    let innermost_at = innermost_is known k p o imports here in
-    let declared_at = declared_is known k p o imports here in
-    (λ j. record { occurrence = o; held = declared_at j; denoted = option_map denoted_of (innermost_at j) })
+      let here : slice_get (imports_of k p) o.file ≡ Some imports = ap (slice_get (imports_of k p)) at ∙ found in
+      let innermost_at = innermost_is known k p o imports here in
+      let declared_at = declared_is known k p o imports here in
+      (λ j. record { occurrence = o; held = declared_at j; denoted = option_map denoted_of (innermost_at j) })
 
   all_resolved : (i : ℕ) (imports : List Importing) (occurrences : List Occurrence) → AllAt i occurrences → slice_get (imports_of k p) i ≡ Some imports → map (resolved_in universe (package_block k 0 p.files) (file_block known imports)) occurrences ≡ map (resolved_of (regions_of known k p)) occurrences
   all_resolved i imports [] all found = refl
@@ -144,12 +140,12 @@ module _ (known : ℕ → PackageNames) (k : ℕ) (p : PackageData) where
 
   file_is : (is_main : Bool) (i : ℕ) (imports : List Importing) (f : FileData) → slice_get (imports_of k p) i ≡ Some imports → broken_file_by known is_main (package_block k 0 p.files) (block_data known imports) i f (map (resolved_in universe (package_block k 0 p.files) (file_block known imports)) (occurrences_in_file i f.tree)) ≡ broken_file known is_main (regions_of known k p) (package_block k 0 p.files) i f imports
   file_is is_main i imports f found =
-    let block = package_block k 0 p.files in
-    let own = file_block known imports in
-    let regions = regions_of known k p in
-    let occurrences = occurrences_in_file i f.tree in
-    ap (broken_file_by known is_main block (block_data known imports) i f) (file_resolved i imports f found)
-    ∙ (λ j. missing_main_at is_main i f ++ (reserved is_main own ++ ((repeated own ++ (conflicting block own (flat_map import_of imports) ++ all_unused known regions own occurrences (flat_map import_of imports) j)) ++ all_broken known regions occurrences j)))
+      let block = package_block k 0 p.files in
+      let own = file_block known imports in
+      let regions = regions_of known k p in
+      let occurrences = occurrences_in_file i f.tree in
+      ap (broken_file_by known is_main block (block_data known imports) i f) (file_resolved i imports f found)
+      ∙ (λ j. missing_main_at is_main i f ++ (reserved is_main own ++ ((repeated own ++ (conflicting block own (flat_map import_of imports) ++ all_unused known regions own occurrences (flat_map import_of imports) j)) ++ all_broken known regions occurrences j)))
 
   -- the imports of the files that are left are those of the package behind a place
   abbrev StandsAt : ℕ → List (List Importing) → Type 0
@@ -157,13 +153,13 @@ module _ (known : ℕ → PackageNames) (k : ℕ) (p : PackageData) where
 
   first_stands : (i : ℕ) (imports : List Importing) (lists : List (List Importing)) → StandsAt i (imports ∷ lists) → slice_get (imports_of k p) i ≡ Some imports
   first_stands i imports lists stands =
-    let same : i + 0 ≡ i = omega arith in
-    subst (λ (n : ℕ). slice_get (imports_of k p) n ≡ Some imports) same (stands 0 imports refl)
+      let same : i + 0 ≡ i = omega arith in
+      subst (λ (n : ℕ). slice_get (imports_of k p) n ≡ Some imports) same (stands 0 imports refl)
 
   rest_stands : (i : ℕ) (imports : List Importing) (lists : List (List Importing)) → StandsAt i (imports ∷ lists) → StandsAt (i + 1) lists
   rest_stands i imports lists stands j others found =
-    let same : i + suc j ≡ (i + 1) + j = omega arith in
-    subst (λ (n : ℕ). slice_get (imports_of k p) n ≡ Some others) same (stands (suc j) others found)
+      let same : i + suc j ≡ (i + 1) + j = omega arith in
+      subst (λ (n : ℕ). slice_get (imports_of k p) n ≡ Some others) same (stands (suc j) others found)
 
   files_are : (is_main : Bool) (i : ℕ) (lists : List (List Importing)) (files : List FileData) → StandsAt i lists → broken_from known is_main universe (package_block k 0 p.files) i (map (block_data known) lists) files ≡ broken_files known is_main (regions_of known k p) (package_block k 0 p.files) i files lists
   files_are is_main i [] [] stands = refl
@@ -176,15 +172,15 @@ module _ (known : ℕ → PackageNames) (k : ℕ) (p : PackageData) where
   all_are i [] (f ∷ files) long stands = cc
   all_are i (imports ∷ lists) [] long stands = cc
   all_are i (imports ∷ lists) (f ∷ files) long stands =
-    (λ j. file_resolved i imports f (first_stands i imports lists stands) j ++ all_are (i + 1) lists files (omega arith) (rest_stands i imports lists stands) j)
-    ∙ sym (map-append (resolved_of (regions_of known k p)) (occurrences_in_file i f.tree) (occurrences_from (i + 1) files))
+      (λ j. file_resolved i imports f (first_stands i imports lists stands) j ++ all_are (i + 1) lists files (omega arith) (rest_stands i imports lists stands) j)
+      ∙ sym (map-append (resolved_of (regions_of known k p)) (occurrences_in_file i f.tree) (occurrences_from (i + 1) files))
 
   whole_stands : StandsAt 0 (imports_of k p)
   whole_stands j imports found =
-    let same : j ≡ 0 + j = omega arith in
-    subst (λ (n : ℕ). slice_get (imports_of k p) n ≡ Some imports) same found
+      let same : j ≡ 0 + j = omega arith in
+      subst (λ (n : ℕ). slice_get (imports_of k p) n ≡ Some imports) same found
 
-imports_long : (k i : ℕ) (files : List FileData) (packages : List ℕ) → length (imports_from k i files packages) ≡ length files
+pub imports_long : (k i : ℕ) (files : List FileData) (packages : List ℕ) → length (imports_from k i files packages) ≡ length files
 imports_long k i [] packages = refl
 imports_long k i (f ∷ files) packages = ap suc (imports_long k (i + 1) files (drop (length (import_specs f.tree)) packages))
 

@@ -1,11 +1,10 @@
 -- What packages are known by: two ways of knowing that agree on all imported packages tell the same.
-use Rattle.std.proofs.Common.{◌≡◌, ℕ, zero, suc, ◌+◌, Bool, true, false, cond, Option, Some, None, List, [], ◌∷◌, ◌++◌, ◌⊎◌, inl, inr, map, filter, find, take, drop, length, not, refl, sym, subst, ap, ◌∙◌, arith}
+use Rattle.std.proofs.Common.{◌≡◌, ℕ, zero, suc, ◌+◌, Bool, true, false, cond, Option, Some, None, List, [], ◌∷◌, ◌++◌, ◌⊎◌, inl, inr, map, filter, find, take, drop, length, not, refl, subst, ap, ◌∙◌}
 use Rattle.std.specs.Prelude.{if◌then◌else◌, option_and_then}
 use Rattle.go_model.specs.declared.object.ObjId.{ObjId}
 use Rattle.std.specs.Option.{is_none, option_map_or}
-use Rattle.std.specs.List.{Contains, flat_map, zip}
-use Rattle.go_base.specs.declared.rule.Broken.{Broken}
-use Rattle.go_tree.specs.Tree.{Tree, branch, Trees, no_trees, more_trees, parts_of, id_of, start_of}
+use Rattle.std.specs.List.{Contains, flat_map}
+use Rattle.go_tree.specs.Tree.{Tree, Trees, no_trees, more_trees, parts_of}
 use Rattle.go_model.specs.declared.block.Region.{Region}
 use Rattle.go_model.specs.declared.block.Occurrence.{Occurrence}
 use Rattle.go_model.specs.declared.block.Selected.{Selected}
@@ -14,15 +13,15 @@ use Rattle.go_model.specs.FormRules.TakenNames.{predeclared}
 use Rattle.go_model.specs.Heads.{import_specs}
 use Rattle.go_model.specs.Module.{FileData, PackageData}
 use Rattle.go_model.specs.Names.BlockRules.{missing_main_at, reserved, repeated, is_main_name}
-use Rattle.go_model.specs.Names.BrokenNames.{broken_block, broken_imports, broken_file, broken_files, broken_names}
+use Rattle.go_model.specs.Names.BrokenNames.{broken_block, broken_file, broken_files, broken_names}
 use Rattle.go_model.specs.Names.Constants.{constant_object, name_text, object_id, package_block, constants_in_file, constants_in_spec, const_specs, constant_region, names_in_spec}
 use Rattle.go_model.specs.Names.Exported.{is_blank}
 use Rattle.go_model.specs.Names.ImportRules.{conflicting, unused}
-use Rattle.go_model.specs.Names.Imports.{PackageNames, Importing, import_region, dot_region, is_dot, named_regions, import_parts, import_regions, file_block, import_of, imports_in, imports_from, imports_of, exports_of, exported}
-use Rattle.go_model.specs.Names.OccurrenceRules.{missing_member, denoted_package, missing_in, missing_at, broken_occurrence, broken_occurrences, undeclared_at, blank_at, misplaced_at, complex_at}
+use Rattle.go_model.specs.Names.Imports.{PackageNames, Importing, import_region, dot_region, is_dot, import_parts, import_regions, file_block, import_of, imports_in, imports_from, imports_of, exports_of, exported}
+use Rattle.go_model.specs.Names.OccurrenceRules.{missing_member, denoted_package, missing_in, broken_occurrence, broken_occurrences, undeclared_at, blank_at, misplaced_at, complex_at}
 use Rattle.go_model.specs.Names.Occurrences.{occurrences_in_file}
 use Rattle.go_model.specs.Names.Regions.{regions_of, resolution, holds, lies_inside_others}
-use Rattle.go_model.specs.Names.Tables.{region_entries, Member, members_at, member_of, uses_at, uses_of, objects_of, occurrences_from}
+use Rattle.go_model.specs.Names.Tables.{region_entries, members_at, member_of, uses_at, uses_of, objects_of, occurrences_from}
 use Rattle.go_model.specs.Names.Universe.{universe, universe_from}
 use Rattle.go_model.proofs.MemberLemmas.{cons_cases, contains_head, contains_tail, contains_none}
 
@@ -58,9 +57,10 @@ module _ (f g : ℕ → PackageNames) where
 
   alike_from : (importer file : ℕ) (files : List FileData) (packages : List ℕ) → ((q : ℕ) → Contains packages q → f q ≡ g q) → AllAlike (imports_from importer file files packages)
   alike_from importer file [] packages same = tt
-  alike_from importer file (x ∷ files) packages same =
-    (alike_in importer file (import_specs x.tree) (take (length (import_specs x.tree)) packages) (λ q here. same q (in_front (length (import_specs x.tree)) packages q here)),
-     alike_from importer (file + 1) files (drop (length (import_specs x.tree)) packages) (λ q here. same q (in_rest (length (import_specs x.tree)) packages q here)))
+  alike_from importer file (x ∷ files) packages same = (
+    alike_in importer file (import_specs x.tree) (take (length (import_specs x.tree)) packages) (λ q here. same q (in_front (length (import_specs x.tree)) packages q here)),
+    alike_from importer (file + 1) files (drop (length (import_specs x.tree)) packages) (λ q here. same q (in_rest (length (import_specs x.tree)) packages q here)),
+  )
 
   -- they declare the same names
   pub block_alike : (imports : List Importing) → Alike imports → file_block f imports ≡ file_block g imports
@@ -105,8 +105,8 @@ module _ (f g : ℕ → PackageNames) where
   -- the names of an import
   import_denotes : (i : Importing) (name : List ℕ) (node : Tree) → f i.imported ≡ g i.imported → KnowsDenoted (import_region i name node)
   import_denotes i name node same q e =
-    let at : i.imported ≡ q = cc in
-    subst (λ (n : ℕ). f n ≡ g n) at same
+      let at : i.imported ≡ q = cc in
+      subst (λ (n : ℕ). f n ≡ g n) at same
 
   exports_denote : (i : Importing) (string : Tree) (entries : List (List ℕ × ObjId)) → AllDenoted (map (dot_region i string) entries)
   exports_denote i string [] = tt
@@ -202,20 +202,20 @@ module _ (f g : ℕ → PackageNames) where
   -- so the package breaks the same, and has the same tables
   pub names_alike : (k : ℕ) (p : PackageData) → ((q : ℕ) → Contains p.imports q → f q ≡ g q) → broken_names f k p ≡ broken_names g k p
   names_alike k p same =
-    let all : AllAlike (imports_of k p) = alike_from k 0 p.files p.imports same in
-    let block = package_block k 0 p.files in
-    ap (λ rest. broken_block (is_main_name p.name) block ++ rest)
+      let all : AllAlike (imports_of k p) = alike_from k 0 p.files p.imports same in
+      let block = package_block k 0 p.files in
+      ap (λ rest. broken_block (is_main_name p.name) block ++ rest)
       (ap (λ regions. broken_files f (is_main_name p.name) regions block 0 p.files (imports_of k p)) (regions_alike k p all)
       ∙ files_alike (regions_of g k p) (regions_denote k p all) (is_main_name p.name) block 0 p.files (imports_of k p) all)
 
   pub uses_alike : (k : ℕ) (p : PackageData) → ((q : ℕ) → Contains p.imports q → f q ≡ g q) → uses_of f k p ≡ uses_of g k p
   uses_alike k p same =
-    let all : AllAlike (imports_of k p) = alike_from k 0 p.files p.imports same in
-    ap (λ regions. flat_map (uses_at f regions) (occurrences_from 0 p.files)) (regions_alike k p all)
-    ∙ all_uses_alike (regions_of g k p) (regions_denote k p all) (occurrences_from 0 p.files)
+      let all : AllAlike (imports_of k p) = alike_from k 0 p.files p.imports same in
+      ap (λ regions. flat_map (uses_at f regions) (occurrences_from 0 p.files)) (regions_alike k p all)
+      ∙ all_uses_alike (regions_of g k p) (regions_denote k p all) (occurrences_from 0 p.files)
 
   pub objects_alike : (k : ℕ) (p : PackageData) → ((q : ℕ) → Contains p.imports q → f q ≡ g q) → objects_of f k p ≡ objects_of g k p
   objects_alike k p same =
-    let all : AllAlike (imports_of k p) = alike_from k 0 p.files p.imports same in
-    ap (λ regions. region_entries regions ++ map (λ member. (member.object, constant_object member.home member.name member.object.0)) (flat_map (members_at f regions) (occurrences_from 0 p.files))) (regions_alike k p all)
-    ∙ ap (λ members. region_entries (regions_of g k p) ++ map (λ member. (member.object, constant_object member.home member.name member.object.0)) members) (all_members_alike (regions_of g k p) (regions_denote k p all) (occurrences_from 0 p.files))
+      let all : AllAlike (imports_of k p) = alike_from k 0 p.files p.imports same in
+      ap (λ regions. region_entries regions ++ map (λ member. (member.object, constant_object member.home member.name member.object.0)) (flat_map (members_at f regions) (occurrences_from 0 p.files))) (regions_alike k p all)
+      ∙ ap (λ members. region_entries (regions_of g k p) ++ map (λ member. (member.object, constant_object member.home member.name member.object.0)) members) (all_members_alike (regions_of g k p) (regions_denote k p all) (occurrences_from 0 p.files))

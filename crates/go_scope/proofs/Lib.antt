@@ -6,3 +6,4 @@ pub mod ListLemmas
 pub mod MarkLemmas
 pub mod OccurrenceLemmas
 pub mod ResolutionLemmas
+pub mod CollectLemmas

@@ -1,5 +1,5 @@
 -- Marks of import specs.
-use Rattle.std.proofs.Common.{◌≡◌, ℕ, Bool, true, false, ◌||◌, ◌&&◌, refl}
+use Rattle.std.proofs.Common.{◌≡◌, Bool, true, false, ◌||◌, ◌&&◌, refl}
 
 pub and_true : (b : Bool) → (b && true) ≡ b
 and_true true = refl

@@ -1,5 +1,5 @@
 -- What packages are known by, read off the scopes of those that stand before; imports as the code has them.
-use Rattle.std.specs.Prelude.{ℕ, List, [], slice_get}
+use Rattle.std.specs.Prelude.{ℕ, [], slice_get}
 use Rattle.std.specs.Option.{option_map_or}
 use Rattle.go_tree.specs.Tree.{tree_of}
 use Rattle.go_model.specs.Names.Imports.{PackageNames, Importing}

@@ -1,5 +1,5 @@
 -- Which import specs have a mark.
-use Rattle.std.specs.Prelude.{ℕ, Bool, false, ◌&&◌, List, Option}
+use Rattle.std.specs.Prelude.{Bool, false, ◌&&◌, List, Option}
 use Rattle.std.specs.List.{list_any}
 use Rattle.std.specs.Option.{option_map_or}
 use Rattle.go_tree.specs.declared.node.NodeId.{NodeId}

@@ -1,5 +1,5 @@
 -- What an occurrence denotes, as rules and tables ask for it.
-use Rattle.std.specs.Prelude.{ℕ, Bool, false, not, ◌&&◌, is_none, is_some, List, [], ◌∷◌, ◌++◌, Option, Some, None, map, option_and_then}
+use Rattle.std.specs.Prelude.{ℕ, Bool, false, not, ◌&&◌, is_none, is_some, List, [], ◌∷◌, ◌++◌, Option, map, option_and_then}
 use Rattle.std.specs.List.{flat_map, list_any}
 use Rattle.std.specs.Option.{option_map, option_map_or}
 use Rattle.go_base.specs.declared.rule.Broken.{Broken}
@@ -19,7 +19,6 @@ use Rattle.go_model.specs.Names.Exported.{is_blank}
 use Rattle.go_model.specs.Names.Imports.{PackageNames}
 use Rattle.go_model.specs.Names.ImportRules.{unused_import, is_repeated_by, conflicting}
 use Rattle.go_model.specs.Names.OccurrenceRules.{blank_at, missing_in, misplaced_package, complex_name, is_complex}
-use Rattle.go_model.specs.Names.Occurrences.{occurrences_in_file}
 use Rattle.go_model.specs.Names.Tables.{Member, member_of}
 use Rattle.go_scope.specs.declared.resolved.Denoted.{Denoted}
 use Rattle.go_scope.specs.declared.resolved.Resolved.{Resolved}

@@ -45,15 +45,18 @@ pub fn collect(
 {
     let known = Known { module, before };
     let own = &module.packages[package];
-    let outer = universe(alloc)?;
-    let block = package_block(alloc, package, &own.files)?;
-    let blocks = file_blocks(alloc, &known, package, &own.files, &own.imports)?;
+    let predeclared = universe(alloc)?;
+    let declared = package_block(alloc, package, &own.files)?;
+    let imported = file_blocks(alloc, &known, package, &own.files, &own.imports)?;
+    let outer = predeclared.as_slice();
+    let block = declared.as_slice();
+    let blocks = imported.as_slice();
     let mut found = Vec::new(alloc);
-    let lists = check_names(alloc, &known, own, &outer, &block, &blocks, &mut found)?;
+    let lists = check_names(alloc, &known, own, outer, block, blocks, &mut found)?;
     if !found.is_empty() {
         return Err(ScopeFault::Broken(ordered(found)));
     }
-    let scopes = scopes_of(alloc, &known, &outer, &block, &blocks, &lists)?;
+    let scopes = scopes_of(alloc, &known, outer, block, blocks, &lists)?;
     Ok(scopes)
 }
 
@@ -82,7 +85,8 @@ fn check_names(
     let is_main = is_main_name(&own.name);
     add_repeated(&around.block, found)?;
     add_reserved(is_main, block, found)?;
-    check_files(alloc, known, is_main, &around, &own.files, blocks, found)
+    let lists = check_files(alloc, known, is_main, &around, &own.files, blocks, found)?;
+    Ok(lists)
 }
 
 // The tables of these regions and of what the occurrences denote.

@@ -47,7 +47,7 @@ fn add_conflict(
 ) -> Result<(), NoMemory>
     ensures { OnOk result (found.new.items ≡ found.old.items
         ++ told_if (contains same_node conflicts.now import.now.id)
-            (places.broken_at import.now.file import.now.at rule.conflicting_import)) }
+        (places.broken_at import.now.file import.now.at rule.conflicting_import)) }
 {
     let at = broken_at(import.file, import.at, CONFLICTING_IMPORT);
     add_if(found, conflicts.contains(&import.id), at)
@@ -82,8 +82,8 @@ fn add_unused_import(
 ) -> Result<(), NoMemory>
     ensures { OnOk result (found.new.items ≡ found.old.items
         ++ told_if (not (contains same_node repeats.now import.now.id)
-                && not (contains same_node uses.now import.now.id))
-            (places.broken_at import.now.file import.now.at rule.unused_import)) }
+        && not (contains same_node uses.now import.now.id))
+        (places.broken_at import.now.file import.now.at rule.unused_import)) }
 {
     let unused = !repeats.contains(&import.id) && !uses.contains(&import.id);
     let at = broken_at(import.file, import.at, UNUSED_IMPORT);

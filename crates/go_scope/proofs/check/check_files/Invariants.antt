@@ -1,4 +1,4 @@
-use Rattle.std.proofs.Common.{◌≡◌, ◌++◌, ◌+◌, map, take, drop}
+use Rattle.std.proofs.Common.{◌≡◌, ◌++◌, map, drop}
 use Rattle.go_model.specs.Module.{file_view}
 use Rattle.go_scope.specs.Blocks.{block_of}
 use Rattle.go_scope.specs.Checked.{broken_from, resolved_from}

@@ -13,4 +13,4 @@ loop-import-preserved c =
     let repeats = c.in_ok-repeats.ensures i.id in
     let uses = c.in_ok-uses.ensures i.id in
     flat_step_at (spec.unused_by c.args.file.now c.args.resolved.now) c.args.imports.now c.loop-import.import-index none c.args.found.now.items c.loop-import.found.items c.add_unused_import.new.found.items (omega arith) c.loop-import.invariant
-        (c.in_ok-add_unused_import.ensures ∙ (λ at. c.loop-import.found.items ++ told_if (not (repeats at) && not (uses at)) (broken_at i.file i.at rule.unused_import)))
+    (c.in_ok-add_unused_import.ensures ∙ (λ at. c.loop-import.found.items ++ told_if (not (repeats at) && not (uses at)) (broken_at i.file i.at rule.unused_import)))
