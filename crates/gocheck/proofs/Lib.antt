@@ -6,6 +6,7 @@ pub mod PartLemmas
 pub mod ReportLemmas
 pub mod RoundLemmas
 pub mod RunLemmas
+pub mod ScopeLemmas
 pub mod TextLemmas
 pub mod WaitLemmas
 pub mod WideLemmas

@@ -2,7 +2,7 @@
 use super::{collected, loaded};
 use go_base::Name;
 use go_model::{Module, ObjId, ObjKind, Scopes};
-use go_tree::{Node, NodeId, NodeKind};
+use go_tree::{NodeId, NodeKind, find};
 use std::alloc::{AllocError, Global};
 use std::test::Fail;
 
@@ -15,23 +15,18 @@ fn name(alloc: Global, text: &str) -> Result<Name, AllocError> {
     Ok(Name::new(String::from_str(alloc, text)?))
 }
 
-// The identifier that begins at a byte of the module's first file.
+// The identifier that begins at a byte of the module's first file, whose root has its last number.
 fn identifier_at(module: &Module, offset: usize) -> Result<NodeId, Fail> {
     let package = module.packages.first().ok_or("no package")?;
     let file = package.files.first().ok_or("no file")?;
-    Ok(identifier_in(&file.tree.root, offset).ok_or("no identifier")?)
-}
-
-fn identifier_in(node: &Node, offset: usize) -> Option<NodeId> {
-    if node.is(NodeKind::Name) && node.start() == offset {
-        return Some(node.id());
-    }
-    for part in node.parts() {
-        if let Some(id) = identifier_in(part, offset) {
-            return Some(id);
+    for number in 0..=file.tree.root.id().0 {
+        if let Some(node) = find(&file.tree, NodeId(number)) {
+            if node.is(NodeKind::Name) && node.start() == offset {
+                return Ok(node.id());
+            }
         }
     }
-    None
+    Err(Fail::from("no identifier"))
 }
 
 #[test]
