@@ -13,6 +13,7 @@ mod folders;
 mod order;
 mod orders;
 mod parameters;
+mod scopes;
 mod size;
 mod statements;
 mod streams;
@@ -28,10 +29,14 @@ use std::marker::Brand;
 use std::sync::ledger::{Blank, Ledger};
 use std::test::Fail;
 
+pub fn word(alloc: Global, text: &str) -> Result<Word, AllocError> {
+    Ok(Word::new(String::from_str(alloc, text)?))
+}
+
 pub fn words(alloc: Global, texts: &[&str]) -> Result<Vec<Word>, AllocError> {
     let mut words = Vec::new(alloc);
     for text in texts {
-        words.push(Word::new(String::from_str(alloc, text)?))?;
+        words.push(word(alloc, text)?)?;
     }
     Ok(words)
 }
@@ -41,7 +46,7 @@ pub fn source_file(alloc: Global, source: &[u8]) -> Result<Vec<MemFile>, AllocEr
     ensures { IfOk result (λ files. HasDistinctPaths files.items) }
 {
     let file = MemFile {
-        root: Word::new(String::from_str(alloc, "r")?),
+        root: word(alloc, "r")?,
         path: Name::new(String::from_str(alloc, "a.go")?),
         bytes: Bytes::new(source.to_vec(alloc)?),
     };

@@ -1,14 +1,11 @@
 // Real folders, on one that the test writes.
+use super::word;
 use crate::folder::FolderTree;
-use go_base::{Name, Tree, TreeFault, Word};
+use go_base::{Name, Tree, TreeFault};
 use std::alloc::{AllocError, Global};
 use std::fs;
 use std::os::unix::fs::symlink;
 use std::test::Fail;
-
-fn word(alloc: Global, text: &str) -> Result<Word, AllocError> {
-    Ok(Word::new(String::from_str(alloc, text)?))
-}
 
 #[test]
 fn a_real_folder_is_a_tree(rt: HostRuntime) -> Result<(), Fail> {

@@ -1,0 +1,164 @@
+// Scopes of modules in memory: the helpers of the tables of names.
+ghost use Rattle.std.specs.Prelude.{ℕ, ◌<◌, Contains, IfOk, IsTrue};
+ghost use Rattle.go_base.specs.Tree.{HasDistinctPaths};
+
+mod calls;
+mod conflicts;
+mod denoted;
+mod members;
+mod order;
+mod repeated;
+mod reserved;
+mod undeclared;
+mod universe;
+mod unused;
+
+use super::word;
+use go_base::{Broken, Bytes, LineCol, MemFile, Name, SureTree, has_distinct_paths, place};
+use go_load::load;
+use go_model::{Module, Package, Scopes, SourceFile};
+use go_scope::{ScopeFault, collect};
+use go_tree::{NodeId, find};
+use std::alloc::Global;
+use std::test::Fail;
+
+/// A file: its path, which begins with `+` below the root of stubs, and its text.
+type File<'a> = (&'a str, &'a str);
+
+const GO_MOD: File = ("go.mod", "module m\n\ngo 1.21\n");
+
+/// Packages that modules import.
+const LEFT: File = ("l/l.go", "package l\n\nconst X, Y, low = 1, 2, 3\n");
+
+const RIGHT: File = ("r/r.go", "package r\n\nconst X, Z = 1, 2\n");
+
+fn mem_file(alloc: Global, file: &File) -> Result<MemFile, Fail> {
+    let (path, text) = *file;
+    let root = if path.starts_with('+') { "s" } else { "r" };
+    let path = path.trim_start_matches('+');
+    Ok(MemFile {
+        root: word(alloc, root)?,
+        path: Name::new(String::from_str(alloc, path)?),
+        bytes: Bytes::new(text.as_bytes().to_vec(alloc)?),
+    })
+}
+
+fn mem_files(alloc: Global, files: &[File]) -> Result<Vec<MemFile>, Fail>
+    ensures { IfOk result (λ list. HasDistinctPaths list.items) }
+{
+    let mut list = vec![in alloc; mem_file(alloc, &GO_MOD)?]?;
+    for file in files {
+        list.push(mem_file(alloc, file)?)?;
+    }
+    if has_distinct_paths(&list) {
+        Ok(list)
+    } else {
+        Err(Fail::from("two files of one path"))
+    }
+}
+
+/// The module `m` of these files, with the stub packages that it reaches.
+fn loaded(alloc: Global, files: &[File]) -> Result<Module, Fail> {
+    let mut tree = SureTree::new(mem_files(alloc, files)?);
+    let root = word(alloc, "r")?;
+    let stubs = word(alloc, "s")?;
+    Ok(load(alloc, &mut tree, &root, Some(&stubs))?)
+}
+
+// Whether each of these places is below that one.
+fn are_below(places: &[usize], end: usize) -> bool
+    ensures { IsTrue result → (q : ℕ) → Contains places.now q → q < end }
+{
+    places.iter().all(|place| *place < end)
+}
+
+/// The scopes of the packages of a module, in import order, up to the first whose names break a rule, and
+/// all that its names break.
+fn collected(alloc: Global, module: &Module) -> Result<(Vec<Scopes>, Vec<Broken>), Fail> {
+    let mut before = Vec::new(alloc);
+    for k in 0..module.packages.len() {
+        if !are_below(&module.packages[k].imports, k) {
+            return Err(Fail::from("an import stands behind its package"));
+        }
+        match collect(alloc, k, module, &before) {
+            Ok(scopes) => before.push(scopes)?,
+            Err(ScopeFault::Broken(list)) => return Ok((before, list)),
+            Err(ScopeFault::NoMemory) => return Err(Fail::from("no memory")),
+        }
+    }
+    Ok((before, Vec::new(alloc)))
+}
+
+/// What the names of the module of these files denote, package by package, or all that they break.
+fn told(alloc: Global, files: &[File]) -> Result<String, Fail> {
+    let module = loaded(alloc, files)?;
+    let (all, broken) = collected(alloc, &module)?;
+    if let Some(package) = module.packages.get(all.len()) {
+        return broken_text(alloc, package, &broken);
+    }
+    let mut text = String::new(alloc);
+    for (package, scopes) in module.packages.iter().zip(all.iter()) {
+        text.push_str(scopes_text(alloc, &module, package, scopes)?.as_str())?;
+    }
+    Ok(text)
+}
+
+// `FILE:LINE:COL RULE ` for each broken rule.
+fn broken_text(alloc: Global, package: &Package, list: &[Broken]) -> Result<String, Fail> {
+    let mut text = String::new(alloc);
+    for broken in list {
+        let file = package.files.get(broken.pos.file).ok_or("no file")?;
+        let spot = spot_in(alloc, file, broken.pos.offset)?;
+        let rule = broken.rule;
+        text.push_str(format!(in alloc; "{spot} {rule} ")?.as_str())?;
+    }
+    Ok(text)
+}
+
+// `PATH: FILE:LINE:COL NAME>FILE:LINE:COL names NAME NAME; `: the occurrences, each with what declares its
+// object, and the names of the package block.
+fn scopes_text(
+    alloc: Global,
+    module: &Module,
+    package: &Package,
+    scopes: &Scopes,
+) -> Result<String, Fail> {
+    let path = package.path.as_str();
+    let mut text = format!(in alloc; "{path}:")?;
+    for (id, object) in scopes.uses.iter() {
+        let object = scopes.objects.get(object).ok_or("no object")?;
+        let from = spot(alloc, module, *id)?;
+        let name = object.name.as_str();
+        let to = spot(alloc, module, object.at)?;
+        text.push_str(format!(in alloc; " {from} {name}>{to}")?.as_str())?;
+    }
+    text.push_str(" names")?;
+    for (name, _) in scopes.names.iter() {
+        let name = name.as_str();
+        text.push_str(format!(in alloc; " {name}")?.as_str())?;
+    }
+    text.push_str("; ")?;
+    Ok(text)
+}
+
+// `FILE:LINE:COL` of a node, and `universe` where no file has it.
+fn spot(alloc: Global, module: &Module, id: NodeId) -> Result<String, Fail> {
+    for package in &module.packages {
+        for file in &package.files {
+            if let Some(node) = find(&file.tree, id) {
+                return spot_in(alloc, file, node.start());
+            }
+        }
+    }
+    Ok(String::from_str(alloc, "universe")?)
+}
+
+fn spot_in(alloc: Global, file: &SourceFile, offset: usize) -> Result<String, Fail> {
+    let bytes = file.bytes.as_slice();
+    if offset > bytes.len() {
+        return Err(Fail::from("no such byte"));
+    }
+    let name = file.name.as_str();
+    let LineCol { line, col } = place(bytes, offset);
+    Ok(format!(in alloc; "{name}:{line}:{col}")?)
+}
