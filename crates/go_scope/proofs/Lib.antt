@@ -7,3 +7,4 @@ pub mod MarkLemmas
 pub mod OccurrenceLemmas
 pub mod ResolutionLemmas
 pub mod CollectLemmas
+pub mod LawLemmas
