@@ -8,3 +8,5 @@ pub mod OccurrenceLemmas
 pub mod ResolutionLemmas
 pub mod CollectLemmas
 pub mod LawLemmas
+pub mod RisingLemmas
+pub mod ExactLemmas
