@@ -7,3 +7,6 @@ pub mod MarkLemmas
 pub mod OccurrenceLemmas
 pub mod ResolutionLemmas
 pub mod CollectLemmas
+pub mod LawLemmas
+pub mod RisingLemmas
+pub mod ExactLemmas

@@ -38,10 +38,10 @@ pub fn collect(
     module: &Module,
     before: &[Scopes],
 ) -> Result<Scopes, ScopeFault>
-    requires place { «package» < length module.now.packages.items }
-    requires imported { HasImported (module_view module.now) «package» before.now }
-    ensures ok { IfOk result (IsScopesOf (module_view module.now) «package») }
-    ensures err { IfErr result (IsScopeFault (module_view module.now) «package») }
+    requires place { «package» < length «module».now.packages.items }
+    requires imported { HasImported (module_view «module».now) «package» before.now }
+    ensures ok { IfOk result (IsScopesOf (module_view «module».now) «package») }
+    ensures err { IfErr result (IsScopeFault (module_view «module».now) «package») }
 {
     let known = Known { module, before };
     let own = &module.packages[package];

@@ -27,11 +27,13 @@ mod occurrence_rules;
 // The scopes of a package.
 mod check;
 mod collecting;
+mod laws;
 mod scope_fault;
 mod tables;
 
 pub use collecting::collect;
 pub use go_model::{ObjId, ObjKind, Object, Scopes};
+pub use laws::{denotes_innermost, resolves_exactly};
 pub use rules::{
     BLANK_VALUE, COMPLEX_NAME, CONFLICTING_IMPORT, MISPLACED_PACKAGE, MISSING_MAIN, MISSING_MEMBER,
     RESERVED_NAME, UNUSED_IMPORT,

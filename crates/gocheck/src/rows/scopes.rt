@@ -5,6 +5,7 @@ ghost use Rattle.go_base.specs.Tree.{HasDistinctPaths};
 mod calls;
 mod conflicts;
 mod denoted;
+mod many;
 mod members;
 mod order;
 mod repeated;

@@ -1,0 +1,40 @@
+-- Declarations and scope (Go specification).
+-- Says once more, as a relation, which region an occurrence denotes, and that it is the one of `resolution`;
+-- and that the scopes of a package answer exactly so for each identifier of a module that is loaded.
+use Rattle.std.specs.Prelude.{◌≡◌, ◌↔◌, ℕ, true, Some, List, [], ◌∷◌, ◌++◌, filter, slice_get, Contains}
+use Rattle.indexmap.specs.IndexMap.{get}
+use Rattle.go_tree.specs.declared.node.NodeId.{NodeId}
+use Rattle.go_model.specs.declared.object.ObjId.{ObjId}
+use Rattle.go_model.specs.declared.scopes.Scopes.{Scopes}
+use Rattle.go_model.specs.Folders.{Folder}
+use Rattle.go_model.specs.Loading.{IsModule}
+use Rattle.go_model.specs.Module.{PackageData, ModuleData}
+use Rattle.go_model.specs.Scopes.{same_node}
+use Rattle.go_model.specs.Names.Imports.{known_in}
+use Rattle.go_model.specs.Names.Tables.{HasTables, uses_of}
+use Rattle.go_model.specs.declared.block.Occurrence.{Occurrence}
+use Rattle.go_model.specs.declared.block.Region.{Region}
+use Rattle.go_model.specs.Names.Blocks.{lies_inside}
+use Rattle.go_model.specs.Names.Regions.{holds, resolution}
+
+-- a region lies inside each of these
+abbrev pub LiesInsideAll : Region → List Region → Type 0
+LiesInsideAll r [] = Unit {0}
+LiesInsideAll r (other ∷ others) = (lies_inside r.block other.block ≡ true) × LiesInsideAll r others
+
+-- of the regions that hold the occurrence it is one, and it lies inside all others
+pub record IsInnermost (regions : List Region) (o : Occurrence) (r : Region) : Type 0 where
+  pub before : List Region
+  pub after : List Region
+  pub held : filter (holds o) regions ≡ before ++ r ∷ after
+  pub inside : LiesInsideAll r (before ++ after)
+
+abbrev pub DenotesInnermost : Type 0
+DenotesInnermost = (regions : List Region) (o : Occurrence) (r : Region) → (resolution regions o ≡ Some r) ↔ IsInnermost regions o r
+
+-- each identifier of a package of a module has one use, and the table of uses has it
+abbrev pub ResolvesExactly : Type 0
+ResolvesExactly =
+    (own stubs : Folder) (m : ModuleData) (k : ℕ) (p : PackageData) (scopes : Scopes)
+    → IsModule own stubs m → slice_get m.packages k ≡ Some p → HasTables m k p scopes
+    → (id : NodeId) (d : ObjId) → Contains (uses_of (known_in m) k p) (id, d) → get same_node scopes.uses id ≡ Some d

@@ -1,0 +1,14 @@
+// Laws of what names denote.
+ghost use Rattle.go_scope.specs.Laws.{DenotesInnermost, ResolvesExactly};
+
+/// An occurrence denotes the region that holds it and lies inside all others of its name that hold it, and
+/// nothing where there is none such (Go specification, "Declarations and scope").
+pub fn denotes_innermost()
+    ensures { DenotesInnermost }
+{}
+
+/// In the scopes of a package of a module that is loaded, `Scopes::resolve` answers for each identifier
+/// exactly the object that it denotes: no two nodes of such a module have one number.
+pub fn resolves_exactly()
+    ensures { ResolvesExactly }
+{}
