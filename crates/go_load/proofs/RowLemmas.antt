@@ -13,7 +13,7 @@ use Rattle.go_model.specs.ImportCycles.{MarksEach, EachMarksCycles, OnCycle, mar
 
 -- the elements of a list with one more
 
-pub get_cases : {X : Type 0} (xs : List X) (y x : X) (k : ℕ) → slice_get (xs ++ y ∷ []) k ≡ Some x → (slice_get xs k ≡ Some x) ⊎ ((k ≡ length xs) × (y ≡ x))
+get_cases : {X : Type 0} (xs : List X) (y x : X) (k : ℕ) → slice_get (xs ++ y ∷ []) k ≡ Some x → (slice_get xs k ≡ Some x) ⊎ ((k ≡ length xs) × (y ≡ x))
 get_cases [] y x zero e = inr (refl, cc)
 get_cases [] y x (suc k) e = cc
 get_cases (z ∷ xs) y x zero e = inl e

@@ -1,5 +1,5 @@
 -- The scopes of the first packages of a module.
-use Rattle.std.proofs.Common.{◌≡◌, ℕ, ◌<◌, ◌≤◌, Some, None, List, [], ◌∷◌, ◌++◌, ◌⊎◌, inl, inr, length, get_or, sym, ap, ◌∙◌, subst, ⊎_elim, arith}
+use Rattle.std.proofs.Common.{◌≡◌, ℕ, zero, suc, ◌<◌, ◌≤◌, Some, None, List, [], ◌∷◌, ◌++◌, ◌⊎◌, inl, inr, length, get_or, refl, sym, ap, ◌∙◌, subst, ⊎_elim, arith}
 use Rattle.std.specs.Prelude.{slice_get}
 use Rattle.std.specs.List.{Contains}
 use Rattle.std.specs.Option.{option_map}
@@ -9,7 +9,6 @@ use Rattle.go_model.specs.declared.module.Package.{Package}
 use Rattle.go_model.specs.declared.scopes.Scopes.{Scopes}
 use Rattle.go_model.specs.Module.{ModuleData, PackageData, module_view, package_view}
 use Rattle.go_model.specs.Names.Tables.{IsScopesOf}
-use Rattle.go_load.proofs.RowLemmas.{get_cases}
 use Rattle.go_scope.specs.Collecting.{HasImported}
 
 -- each is that of the package at its place
@@ -33,6 +32,16 @@ has_imported m k before own long are at below =
           let lt = below q (subst (λ (d : PackageData). Contains d.imports q) (sym same) here) in
           scopes_below (module_view m) before q are (omega (arith, long, lt));
     }
+
+-- the elements of a list with one more
+get_cases : {X : Type 0} (xs : List X) (y x : X) (k : ℕ) → slice_get (xs ++ y ∷ []) k ≡ Some x → (slice_get xs k ≡ Some x) ⊎ ((k ≡ length xs) × (y ≡ x))
+get_cases [] y x zero e = inr (refl, cc)
+get_cases [] y x (suc k) e = cc
+get_cases (z ∷ xs) y x zero e = inl e
+get_cases (z ∷ xs) y x (suc k) e = behind (get_cases xs y x k e) where
+  behind : (slice_get xs k ≡ Some x) ⊎ ((k ≡ length xs) × (y ≡ x)) → (slice_get xs k ≡ Some x) ⊎ ((suc k ≡ suc (length xs)) × (y ≡ x))
+  behind (inl front) = inl front
+  behind (inr here) = inr (ap suc here.0, here.1)
 
 pub more_scopes : (m : ModuleData) (before : List Scopes) (k : ℕ) (s : Scopes) → length before ≡ k → AreScopes m before → IsScopesOf m k s → AreScopes m (before ++ s ∷ [])
 more_scopes m before k s long are is j t at = by_place (get_cases before s t j at) where
