@@ -23,7 +23,7 @@ within_step : (b : Bool) (m n : ℕ) (rest : Bool) → nat_lt m n ≡ rest → n
 within_step true m n rest e = lt-ltb 0 (suc n) (omega arith)
 within_step false m n rest e = sym (sym e ∙ grind (arith, nat_tests))
 
-within_any : (p : Region → Bool) (xs : List Region) → nat_lt (position_or_len p xs) (length xs) ≡ list_any p xs
+pub within_any : {X : Type 0} (p : X → Bool) (xs : List X) → nat_lt (position_or_len p xs) (length xs) ≡ list_any p xs
 within_any p [] = refl
 within_any p (x ∷ xs) = within_step (p x) (position_or_len p xs) (length xs) (list_any p xs) (within_any p xs)
 

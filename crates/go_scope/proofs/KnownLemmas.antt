@@ -26,7 +26,7 @@ use Rattle.go_model.specs.Names.Universe.{universe, universe_from}
 use Rattle.go_model.proofs.MemberLemmas.{cons_cases, contains_head, contains_tail, contains_none}
 
 -- parts of a list have its elements
-in_front : {X : Type 0} (n : ℕ) (xs : List X) (x : X) → Contains (take n xs) x → Contains xs x
+pub in_front : {X : Type 0} (n : ℕ) (xs : List X) (x : X) → Contains (take n xs) x → Contains xs x
 in_front zero xs x h = absurd (contains_none x h)
 in_front (suc n) [] x h = h
 in_front (suc n) (y ∷ xs) x h = by_place (cons_cases y (take n xs) x h) (in_front n xs x) where

@@ -10,3 +10,4 @@ pub mod CollectLemmas
 pub mod LawLemmas
 pub mod RisingLemmas
 pub mod ExactLemmas
+pub mod WholeImportLemmas

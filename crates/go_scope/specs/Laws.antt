@@ -1,14 +1,17 @@
 -- Declarations and scope (Go specification).
 -- Says once more, as a relation, which region an occurrence denotes, and that it is the one of `resolution`;
--- and that the scopes of a package answer exactly so for each identifier of a module that is loaded.
-use Rattle.std.specs.Prelude.{◌≡◌, ◌↔◌, ℕ, true, Some, List, [], ◌∷◌, ◌++◌, filter, slice_get, Contains}
+-- and what stands in modules that are loaded: each identifier has a number of its own, so that the scopes of
+-- its package answer exactly so for it; each import spec has a package that it names.
+use Rattle.std.specs.Prelude.{◌≡◌, ◌↔◌, ℕ, true, Some, List, [], ◌∷◌, ◌++◌, filter, length, slice_get, Contains}
+use Rattle.std.specs.List.{flat_map}
 use Rattle.indexmap.specs.IndexMap.{get}
 use Rattle.go_tree.specs.declared.node.NodeId.{NodeId}
 use Rattle.go_model.specs.declared.object.ObjId.{ObjId}
 use Rattle.go_model.specs.declared.scopes.Scopes.{Scopes}
 use Rattle.go_model.specs.Folders.{Folder}
+use Rattle.go_model.specs.Heads.{import_specs}
 use Rattle.go_model.specs.Loading.{IsModule}
-use Rattle.go_model.specs.Module.{PackageData, ModuleData}
+use Rattle.go_model.specs.Module.{FileData, PackageData, ModuleData}
 use Rattle.go_model.specs.Scopes.{same_node}
 use Rattle.go_model.specs.Names.Imports.{known_in}
 use Rattle.go_model.specs.Names.Tables.{HasTables, uses_of}
@@ -38,3 +41,9 @@ ResolvesExactly =
     (own stubs : Folder) (m : ModuleData) (k : ℕ) (p : PackageData) (scopes : Scopes)
     → IsModule own stubs m → slice_get m.packages k ≡ Some p → HasTables m k p scopes
     → (id : NodeId) (d : ObjId) → Contains (uses_of (known_in m) k p) (id, d) → get same_node scopes.uses id ≡ Some d
+
+-- a package of a module has as many imports as its files have import specs, which are taken side by side
+abbrev pub EachSpecIsNamed : Type 0
+EachSpecIsNamed =
+    (own stubs : Folder) (m : ModuleData) (k : ℕ) (p : PackageData) → IsModule own stubs m → slice_get m.packages k ≡ Some p
+    → length p.imports ≡ length (flat_map (λ (f : FileData). import_specs f.tree) p.files)

@@ -1,5 +1,5 @@
 // Laws of what names denote.
-ghost use Rattle.go_scope.specs.Laws.{DenotesInnermost, ResolvesExactly};
+ghost use Rattle.go_scope.specs.Laws.{DenotesInnermost, EachSpecIsNamed, ResolvesExactly};
 
 /// An occurrence denotes the region that holds it and lies inside all others of its name that hold it, and
 /// nothing where there is none such (Go specification, "Declarations and scope").
@@ -11,4 +11,10 @@ pub fn denotes_innermost()
 /// exactly the object that it denotes: no two nodes of such a module have one number.
 pub fn resolves_exactly()
     ensures { ResolvesExactly }
+{}
+
+/// In a module that is loaded a package imports as many packages as its files have import specs, so that each
+/// spec stands beside the package that it names (Go specification, "Import declarations").
+pub fn each_spec_is_named()
+    ensures { EachSpecIsNamed }
 {}

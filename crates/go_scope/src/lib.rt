@@ -33,7 +33,7 @@ mod tables;
 
 pub use collecting::collect;
 pub use go_model::{ObjId, ObjKind, Object, Scopes};
-pub use laws::{denotes_innermost, resolves_exactly};
+pub use laws::{denotes_innermost, each_spec_is_named, resolves_exactly};
 pub use rules::{
     BLANK_VALUE, COMPLEX_NAME, CONFLICTING_IMPORT, MISPLACED_PACKAGE, MISSING_MAIN, MISSING_MEMBER,
     RESERVED_NAME, UNUSED_IMPORT,
