@@ -2,14 +2,15 @@
 -- Says once more, as a relation, which region an occurrence denotes, and that it is the one of `resolution`;
 -- and what stands in modules that are loaded: each identifier has a number of its own, so that the scopes of
 -- its package answer exactly so for it; each import spec has a package that it names.
-use Rattle.std.specs.Prelude.{◌≡◌, ◌↔◌, ℕ, true, Some, List, [], ◌∷◌, ◌++◌, filter, length, slice_get, Contains}
+use Rattle.std.specs.Prelude.{◌≡◌, ◌↔◌, ℕ, true, Some, List, [], ◌∷◌, ◌++◌, filter, slice_get, Contains}
 use Rattle.std.specs.List.{flat_map}
 use Rattle.indexmap.specs.IndexMap.{get}
 use Rattle.go_tree.specs.declared.node.NodeId.{NodeId}
+use Rattle.go_tree.specs.Tree.{Tree, text_of}
 use Rattle.go_model.specs.declared.object.ObjId.{ObjId}
 use Rattle.go_model.specs.declared.scopes.Scopes.{Scopes}
-use Rattle.go_model.specs.Folders.{Folder}
-use Rattle.go_model.specs.Heads.{import_specs}
+use Rattle.go_model.specs.Folders.{Folder, as_text}
+use Rattle.go_model.specs.Heads.{IsImportPath, import_specs, import_string}
 use Rattle.go_model.specs.Loading.{IsModule}
 use Rattle.go_model.specs.Module.{FileData, PackageData, ModuleData}
 use Rattle.go_model.specs.Scopes.{same_node}
@@ -42,8 +43,23 @@ ResolvesExactly =
     → IsModule own stubs m → slice_get m.packages k ≡ Some p → HasTables m k p scopes
     → (id : NodeId) (d : ObjId) → Contains (uses_of (known_in m) k p) (id, d) → get same_node scopes.uses id ≡ Some d
 
--- a package of a module has as many imports as its files have import specs, which are taken side by side
+-- two lists stand side by side, each entry of the one so to that of the other
+abbrev pub SideBySide : {X Y : Type 0} → (X → Y → Type 0) → List X → List Y → Type 0
+SideBySide R [] [] = Unit {0}
+SideBySide R [] (y ∷ ys) = ⊥
+SideBySide R (x ∷ xs) [] = ⊥
+SideBySide R (x ∷ xs) (y ∷ ys) = R x y × SideBySide R xs ys
+
+-- the import spec names the package at a place of the module: its path is that of the package
+pub record NamesPackage (m : ModuleData) (spec : Tree) (q : ℕ) : Type 0 where
+  pub path : List ℕ
+  pub is_path : IsImportPath (text_of (import_string spec)) path
+  pub p : PackageData
+  pub at : slice_get m.packages q ≡ Some p
+  pub path_is : p.path ≡ as_text path
+
+-- the import specs of a package's files stand beside its imports, each beside the package that it names
 abbrev pub EachSpecIsNamed : Type 0
 EachSpecIsNamed =
     (own stubs : Folder) (m : ModuleData) (k : ℕ) (p : PackageData) → IsModule own stubs m → slice_get m.packages k ≡ Some p
-    → length p.imports ≡ length (flat_map (λ (f : FileData). import_specs f.tree) p.files)
+    → SideBySide (NamesPackage m) (flat_map (λ (f : FileData). import_specs f.tree) p.files) p.imports

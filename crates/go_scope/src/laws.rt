@@ -13,8 +13,8 @@ pub fn resolves_exactly()
     ensures { ResolvesExactly }
 {}
 
-/// In a module that is loaded a package imports as many packages as its files have import specs, so that each
-/// spec stands beside the package that it names (Go specification, "Import declarations").
+/// In a module that is loaded the import specs of a package's files stand beside the package's imports, each
+/// beside the package that its path names (Go specification, "Import declarations").
 pub fn each_spec_is_named()
     ensures { EachSpecIsNamed }
 {}
