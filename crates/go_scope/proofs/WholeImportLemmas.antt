@@ -269,58 +269,58 @@ module _ (own stubs : Folder) (m : ModuleData) (is : IsModule own stubs m) where
 
   row_whole : (place : ℕ) (o : Option (List ℕ)) → slice_get is.table.paths place ≡ o → is_marked is.table.reached place ≡ true → SideBySide Names (imports_in is.heads (row_at is.table.files place)) (row_at is.table.imports place)
   row_whole place None at reached =
-    let t = is.table in
-    let rows : row_at t.imports place ≡ [] = ap (λ rows. row_at rows place) is.parts.is_table.imports ∙ ap (λ r. unwrap_or r []) (slice_get-map _ t.paths place ∙ ap (option_map _) at) in
-    let files : row_at t.files place ≡ [] = ap (λ rows. row_at rows place) is.parts.is_table.files ∙ ap (λ r. unwrap_or r []) (slice_get-map _ t.paths place ∙ ap (option_map _) at) in
-    let none : SideBySide Names (imports_in is.heads []) [] = tt in
-    subst (λ (js : List ℕ). SideBySide Names (imports_in is.heads js) (row_at t.imports place)) (sym files) (subst (SideBySide Names []) (sym rows) none)
+      let t = is.table in
+      let rows : row_at t.imports place ≡ [] = ap (λ rows. row_at rows place) is.parts.is_table.imports ∙ ap (λ r. unwrap_or r []) (slice_get-map _ t.paths place ∙ ap (option_map _) at) in
+      let files : row_at t.files place ≡ [] = ap (λ rows. row_at rows place) is.parts.is_table.files ∙ ap (λ r. unwrap_or r []) (slice_get-map _ t.paths place ∙ ap (option_map _) at) in
+      let none : SideBySide Names (imports_in is.heads []) [] = tt in
+      subst (λ (js : List ℕ). SideBySide Names (imports_in is.heads js) (row_at t.imports place)) (sym files) (subst (SideBySide Names []) (sym rows) none)
   row_whole place (Some path) at reached =
-    let t = is.table in
-    let heads = is.heads in
-    let hs = homes is.path (own_paths is.path heads) heads in
-    let own_path = has_path (own_paths is.path heads) in
-    let rows : row_at t.imports place ≡ imports_of t.paths t.stubs heads (not (own_path path)) (files_of hs path) = ap (λ rows. row_at rows place) is.parts.is_table.imports ∙ ap (λ r. unwrap_or r []) (slice_get-map (λ x. imports_of t.paths t.stubs heads (not (own_path x)) (files_of hs x)) t.paths place ∙ ap (option_map (λ x. imports_of t.paths t.stubs heads (not (own_path x)) (files_of hs x))) at) in
-    let files : row_at t.files place ≡ files_of hs path = ap (λ rows. row_at rows place) is.parts.is_table.files ∙ ap (λ r. unwrap_or r []) (slice_get-map (files_of hs) t.paths place ∙ ap (option_map (files_of hs)) at) in
-    let stub : is_marked t.stubs place ≡ not (own_path path) = ap (λ marks. is_marked marks place) is.parts.is_table.stubs ∙ ap (λ r. unwrap_or r false) (slice_get-map (λ x. not (own_path x)) t.paths place ∙ ap (option_map (λ x. not (own_path x))) at) in
-    let within : place < length t.paths = slice_get_within t.paths place path at in
-    let here = each_nil (broken_if_reached heads t) (range_with_len 0 (length t.paths)) place nothing_broken (in_range 0 (length t.paths) place (omega arith) (omega arith)) in
-    let of_package : broken_package heads t.paths t.stubs (is_marked t.stubs place) (unwrap_or (slice_get t.files place) []) ≡ [] = sym (ap (λ b. if b then broken_package heads t.paths t.stubs (is_marked t.stubs place) (unwrap_or (slice_get t.files place) []) else []) reached) ∙ here in
-    let imports = (nil_parts (broken_names heads (row_at t.files place)) (flat_map (broken_imports_at t.paths t.stubs heads (is_marked t.stubs place)) (row_at t.files place)) of_package).1 in
-    let none : flat_map (broken_imports_at t.paths t.stubs heads (not (own_path path))) (files_of hs path) ≡ [] = (λ i. flat_map (broken_imports_at t.paths t.stubs heads (sym stub i)) (sym files i)) ∙ imports in
-    let all = all_named_whole t.paths t.stubs heads (not (own_path path)) (files_of hs path) none in
-    let told : SideBySide Names (imports_in heads (files_of hs path)) (imports_of t.paths t.stubs heads (not (own_path path)) (files_of hs path)) = side_weaker (λ (i : ImportSpec) (q : ℕ). named t.paths t.stubs (not (own_path path)) i.path ≡ Some q) Names (λ i q e. (not (own_path path), e)) (imports_in heads (files_of hs path)) (imports_of t.paths t.stubs heads (not (own_path path)) (files_of hs path)) all in
-    subst (λ (js : List ℕ). SideBySide Names (imports_in heads js) (row_at t.imports place)) (sym files) (subst (SideBySide Names (imports_in heads (files_of hs path))) (sym rows) told)
+      let t = is.table in
+      let heads = is.heads in
+      let hs = homes is.path (own_paths is.path heads) heads in
+      let own_path = has_path (own_paths is.path heads) in
+      let rows : row_at t.imports place ≡ imports_of t.paths t.stubs heads (not (own_path path)) (files_of hs path) = ap (λ rows. row_at rows place) is.parts.is_table.imports ∙ ap (λ r. unwrap_or r []) (slice_get-map (λ x. imports_of t.paths t.stubs heads (not (own_path x)) (files_of hs x)) t.paths place ∙ ap (option_map (λ x. imports_of t.paths t.stubs heads (not (own_path x)) (files_of hs x))) at) in
+      let files : row_at t.files place ≡ files_of hs path = ap (λ rows. row_at rows place) is.parts.is_table.files ∙ ap (λ r. unwrap_or r []) (slice_get-map (files_of hs) t.paths place ∙ ap (option_map (files_of hs)) at) in
+      let stub : is_marked t.stubs place ≡ not (own_path path) = ap (λ marks. is_marked marks place) is.parts.is_table.stubs ∙ ap (λ r. unwrap_or r false) (slice_get-map (λ x. not (own_path x)) t.paths place ∙ ap (option_map (λ x. not (own_path x))) at) in
+      let within : place < length t.paths = slice_get_within t.paths place path at in
+      let here = each_nil (broken_if_reached heads t) (range_with_len 0 (length t.paths)) place nothing_broken (in_range 0 (length t.paths) place (omega arith) (omega arith)) in
+      let of_package : broken_package heads t.paths t.stubs (is_marked t.stubs place) (unwrap_or (slice_get t.files place) []) ≡ [] = sym (ap (λ b. if b then broken_package heads t.paths t.stubs (is_marked t.stubs place) (unwrap_or (slice_get t.files place) []) else []) reached) ∙ here in
+      let imports = (nil_parts (broken_names heads (row_at t.files place)) (flat_map (broken_imports_at t.paths t.stubs heads (is_marked t.stubs place)) (row_at t.files place)) of_package).1 in
+      let none : flat_map (broken_imports_at t.paths t.stubs heads (not (own_path path))) (files_of hs path) ≡ [] = (λ i. flat_map (broken_imports_at t.paths t.stubs heads (sym stub i)) (sym files i)) ∙ imports in
+      let all = all_named_whole t.paths t.stubs heads (not (own_path path)) (files_of hs path) none in
+      let told : SideBySide Names (imports_in heads (files_of hs path)) (imports_of t.paths t.stubs heads (not (own_path path)) (files_of hs path)) = side_weaker (λ (i : ImportSpec) (q : ℕ). named t.paths t.stubs (not (own_path path)) i.path ≡ Some q) Names (λ i q e. (not (own_path path), e)) (imports_in heads (files_of hs path)) (imports_of t.paths t.stubs heads (not (own_path path)) (files_of hs path)) all in
+      subst (λ (js : List ℕ). SideBySide Names (imports_in heads js) (row_at t.imports place)) (sym files) (subst (SideBySide Names (imports_in heads (files_of hs path))) (sym rows) told)
 
   -- what an import names has its path
   path_named : (i : ImportSpec) (from_stub : Bool) (q : ℕ) → named is.table.paths is.table.stubs from_stub i.path ≡ Some q → row_at is.table.paths q ≡ i.path
   path_named i from_stub q e =
-    let at = passes_at (same_text i.path) is.table.paths q (visible_is is.table.stubs from_stub (position (same_text i.path) is.table.paths) q e) in
-    ap (λ o. unwrap_or o []) at.at ∙ sym (same_is i.path at.x at.passes)
+      let at = passes_at (same_text i.path) is.table.paths q (visible_is is.table.stubs from_stub (position (same_text i.path) is.table.paths) q e) in
+      ap (λ o. unwrap_or o []) at.at ∙ sym (same_is i.path at.x at.passes)
 
   join_names : (order : List ℕ) (files : List FileData) → m.packages ≡ map (package_at files is.heads is.table order) order → (i : ImportSpec) (q0 q : ℕ) → Names i q0 → position (λ x. x == q0) order ≡ Some q → (spec : Tree) → IsImportOf spec i → NamesPackage m spec q
   join_names order files packages i q0 q names at spec import =
-    let place = passes_at (λ x. x == q0) order q at in
-    let same : place.x ≡ q0 = (let e = place.passes in grind (arith, nat_tests)) in
-    let there : slice_get order q ≡ Some q0 = place.at ∙ ap Some same in
-    let stands = ap (λ ps. slice_get ps q) packages ∙ slice_get-map (package_at files is.heads is.table order) order q ∙ ap (option_map (package_at files is.heads is.table order)) there in
-    record { path = i.path; is_path = import.path; p = package_at files is.heads is.table order q0; at = stands; path_is = ap as_text (path_named i names.0 q0 names.1) }
+      let place = passes_at (λ x. x == q0) order q at in
+      let same : place.x ≡ q0 = (let e = place.passes in grind (arith, nat_tests)) in
+      let there : slice_get order q ≡ Some q0 = place.at ∙ ap Some same in
+      let stands = ap (λ ps. slice_get ps q) packages ∙ slice_get-map (package_at files is.heads is.table order) order q ∙ ap (option_map (package_at files is.heads is.table order)) there in
+      record { path = i.path; is_path = import.path; p = package_at files is.heads is.table order q0; at = stands; path_is = ap as_text (path_named i names.0 q0 names.1) }
 
   pub whole_imports : (k : ℕ) (p : PackageData) → slice_get m.packages k ≡ Some p → SideBySide (NamesPackage m) (flat_map (λ (f : FileData). import_specs f.tree) p.files) p.imports
   whole_imports k p at =
-    let t = is.table in
-    let files = files_from 0 is.texts is.trees in
-    let order = in_order t is.is_module.order in
-    let packages : m.packages ≡ map (package_at files is.heads t order) order = ap (λ (n : ModuleData). n.packages) is.is_module.module_is in
-    let made : IsPlaced (package_at files is.heads t order) order p = placed_at (package_at files is.heads t order) order k p (sym (ap (λ ps. slice_get ps k) packages) ∙ at) in
-    let kept = passes_kept (is_marked t.reached) is.is_module.order made.place made.stands in
-    let each : (q : ℕ) → Contains (row_at t.imports made.place) q → is_some (position (λ x. x == q) order) ≡ true = λ q here.
+      let t = is.table in
+      let files = files_from 0 is.texts is.trees in
+      let order = in_order t is.is_module.order in
+      let packages : m.packages ≡ map (package_at files is.heads t order) order = ap (λ (n : ModuleData). n.packages) is.is_module.module_is in
+      let made : IsPlaced (package_at files is.heads t order) order p = placed_at (package_at files is.heads t order) order k p (sym (ap (λ ps. slice_get ps k) packages) ∙ at) in
+      let kept = passes_kept (is_marked t.reached) is.is_module.order made.place made.stands in
+      let each : (q : ℕ) → Contains (row_at t.imports made.place) q → is_some (position (λ x. x == q) order) ≡ true = λ q here.
       let marked : is_marked t.reached q ≡ true = (is.parts.is_table.reached q).1 (imported made.place q ((is.parts.is_table.reached made.place).0 kept.1) (leads_to t.imports made.place q (slice_get t.imports made.place) refl here)) in
       has_place order q (kept_by (is_marked t.reached) is.is_module.order q (behind_it t.imports is.is_module.order made.place q is.is_module.is_order kept.0 here) marked) in
-    let specs = flat_map (λ (f : FileData). import_specs f.tree) (filter_map (slice_get files) (row_at t.files made.place)) in
-    let row = row_at t.imports made.place in
-    let of_specs = specs_beside is.texts is.trees is.heads is.parts.are_heads (row_at t.files made.place) in
-    let of_imports = row_whole made.place (slice_get t.paths made.place) refl kept.1 in
-    let of_places = all_kept (λ q. position (λ x. x == q) order) row each in
-    let both = side_through IsImportOf Names (λ (s : Tree) (q : ℕ). (i : ImportSpec) × IsImportOf s i × Names i q) (λ s i q import names. (i, import, names)) specs (imports_in is.heads (row_at t.files made.place)) row of_specs of_imports in
-    let all = side_through (λ (s : Tree) (q : ℕ). (i : ImportSpec) × IsImportOf s i × Names i q) (λ (q0 q : ℕ). position (λ x. x == q0) order ≡ Some q) (NamesPackage m) (λ s q0 q found here. join_names order files packages found.0 q0 q found.2 here s found.1) specs row (places_in order row) both of_places in
-    subst (λ (d : PackageData). SideBySide (NamesPackage m) (flat_map (λ (f : FileData). import_specs f.tree) d.files) d.imports) made.is all
+      let specs = flat_map (λ (f : FileData). import_specs f.tree) (filter_map (slice_get files) (row_at t.files made.place)) in
+      let row = row_at t.imports made.place in
+      let of_specs = specs_beside is.texts is.trees is.heads is.parts.are_heads (row_at t.files made.place) in
+      let of_imports = row_whole made.place (slice_get t.paths made.place) refl kept.1 in
+      let of_places = all_kept (λ q. position (λ x. x == q) order) row each in
+      let both = side_through IsImportOf Names (λ (s : Tree) (q : ℕ). (i : ImportSpec) × IsImportOf s i × Names i q) (λ s i q import names. (i, import, names)) specs (imports_in is.heads (row_at t.files made.place)) row of_specs of_imports in
+      let all = side_through (λ (s : Tree) (q : ℕ). (i : ImportSpec) × IsImportOf s i × Names i q) (λ (q0 q : ℕ). position (λ x. x == q0) order ≡ Some q) (NamesPackage m) (λ s q0 q found here. join_names order files packages found.0 q0 q found.2 here s found.1) specs row (places_in order row) both of_places in
+      subst (λ (d : PackageData). SideBySide (NamesPackage m) (flat_map (λ (f : FileData). import_specs f.tree) d.files) d.imports) made.is all
