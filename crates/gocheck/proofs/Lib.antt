@@ -1,12 +1,4 @@
 pub mod FieldLemmas
-pub mod LineLemmas
-pub mod CycleLemmas
-pub mod NameLemmas
-pub mod PartLemmas
-pub mod ReportLemmas
-pub mod RoundLemmas
 pub mod RunLemmas
 pub mod ScopeLemmas
 pub mod TextLemmas
-pub mod WaitLemmas
-pub mod WideLemmas

@@ -1,7 +1,3 @@
 -- what the top call promises
 pub mod Headline
 pub mod Words
--- what inner functions promise each other
-pub mod Names
-pub mod Table
-pub mod View

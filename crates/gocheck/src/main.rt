@@ -1,29 +1,16 @@
 //! `gocheck ROOT`: checks the Go file `a.go` below ROOT and prints its report.
 #![tactic(auto)]
 
-mod check;
-mod constants;
-mod cycles;
 mod fields;
 mod folder;
 mod folder_list;
-mod headers;
-mod names;
-mod parts;
 mod paths;
-mod record;
-mod repeated;
-mod report;
-mod report_lines;
 #[cfg(test)]
 mod rows;
 mod run;
 mod std_sink;
 mod text;
-mod undeclared;
-mod values;
-mod waits;
-mod wide;
+mod verdict;
 mod words;
 
 ghost use Rattle.std.specs.Prelude.{◌≡◌};

@@ -6,11 +6,11 @@ ghost use Rattle.go_base.specs.Sink.{Adds, AddsPrefix};
 ghost use Rattle.gocheck.specs.Headline.{source_of, IsReportText, WritesReport, WritesFront};
 ghost use Rattle.gocheck.specs.Words.{root_of};
 
-use crate::check::{MOST_BYTES, check_file};
-use crate::report::verdict;
 use crate::text::report_text;
+use crate::verdict::verdict;
 use crate::words::root_word;
 use go_base::{Bytes, Name, NoMemory, Sink, SinkFault, Status, Steps, Tree, TreeFault, Word};
+use go_check::{MOST_BYTES, check_file};
 use std::alloc::Global;
 use std::sync::ledger::Ledger;
 

@@ -4,11 +4,11 @@ ghost use Rattle.std.specs.List.{flat_map};
 ghost use Rattle.go_model.specs.Text.Places.{line_col, place_text};
 ghost use Rattle.go_model.specs.Text.Lines.{line_fields, broken_fields, line_text, module_fields, package_fields, report_text};
 ghost use Rattle.go_model.specs.Report.{accepted, refused, refused_package};
-ghost use Rattle.gocheck.specs.View.{report_view};
+ghost use Rattle.go_check.specs.View.{report_view};
 
 use crate::fields::put_line;
-use crate::report::Report;
 use go_base::{Broken, Lines, NoMemory};
+use go_check::Report;
 use go_model::FileLine;
 use std::alloc::{AllocError, Global};
 

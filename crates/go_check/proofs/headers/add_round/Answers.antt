@@ -1,0 +1,35 @@
+use Rattle.std.proofs.Common.{map, sym, ◌∙◌, subst, arith, below_more}
+use Rattle.std.proofs.lemmas.Option.{slice_get_within}
+use Rattle.std.proofs.lemmas.List.{length-map}
+use Rattle.go_tree.specs.Tree.{tree_of}
+use Rattle.go_check.specs.Table.{IsSettled}
+use Rattle.go_check.proofs.headers.add_round.Goals as goal
+use Rattle.go_check.proofs.headers.add_round.Goals.{then-add_one, else-add_one}
+
+pub loop-place-preserved : goal.loop-place-preserved
+loop-place-preserved c =
+    let inv = c.loop-place.invariant in
+    let did = c.add_one.ensures in
+    elim c.if-add_one.branch [
+      | then-add_one w ↦ record {
+        backed = did.backed;
+        fewer = λ _. omega (arith, inv.no_more, did.fewer w.if-add_one.true);
+        no_more = omega (arith, inv.no_more, did.fewer w.if-add_one.true);
+        settled = λ e. absurd (cc (w.added-is, e));
+      }
+      | else-add_one w ↦ let same = did.same w.if-add_one.false in
+          record {
+            backed = did.backed;
+            fewer = λ e. rw same (inv.fewer (sym w.added-is ∙ e));
+            no_more = rw same inv.no_more;
+            settled = λ e. below_more _ _
+                (λ n lt. subst (λ t. IsSettled (map tree_of c.args.constants.now) t n) (sym same) (inv.settled (sym w.added-is ∙ e) n lt))
+                (did.settled w.if-add_one.false);
+          }
+    ]
+
+pub returns-clause-settled : goal.returns-clause-settled
+returns-clause-settled c = λ e d h vacant follows.
+    let within = slice_get_within (map tree_of c.args.constants.now) d follows.spec follows.declared in
+    let same = length-map c.args.constants.now tree_of in
+    c.loop-place.invariant.settled e d (omega arith) h vacant follows

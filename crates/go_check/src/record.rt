@@ -1,0 +1,70 @@
+// The records of expressions (Go specification, "Constant expressions").
+ghost use Rattle.std.specs.Prelude.{◌≡◌, IfSome, IfNone};
+ghost use Rattle.go_tree.specs.Tree.{Tree, tree_of, kind_of, parts_of, more_trees, no_trees};
+ghost use Rattle.go_tree.specs.declared.node_kind.NodeKind.TheVariants as node_kind;
+ghost use Rattle.go_model.specs.Records.{record_of, sum_of};
+ghost use Rattle.go_check.specs.Table.{slot_of};
+
+use crate::names::Names;
+use go_num::{IntOp, int_binary};
+use go_scan::int_lit_value;
+use go_tree::{Node, NodeKind};
+
+/// The record of an expression, its value, over the headers that the table has; None where it has
+/// none: a name without a header, or a value outside -2^127 to 2^127-1.
+pub fn record(names: &Names, table: &[Option<i128>], node: &Node) -> Option<i128>
+    ensures { result ≡ record_of names.now (slot_of table.now) (tree_of node.now) }
+{
+    match node.kind() {
+        NodeKind::IntLit => int_lit_value(node.text()),
+        NodeKind::Name => slot(table, names.index_of(node.text())?),
+        NodeKind::ParenExpr => record(names, table, node.only_part()?),
+        NodeKind::AddExpr => {
+            let (left, right) = node.both_parts()?;
+            sum(record(names, table, left), record(names, table, right))
+        }
+        _ => None,
+    }
+}
+
+/// The header that the table has for the constant at that place.
+pub fn slot(table: &[Option<i128>], place: usize) -> Option<i128>
+    ensures { result ≡ slot_of table.now place }
+{
+    table.get(place).copied()?
+}
+
+/// The record of a sum, by those of its operands.
+pub fn sum(left: Option<i128>, right: Option<i128>) -> Option<i128>
+    ensures { result ≡ sum_of left right }
+{
+    int_binary(IntOp::Add, left?, right?).ok()
+}
+
+/// What stands in parentheses; None exactly for a node that is no parentheses round one part.
+pub fn parenthesized(node: &Node) -> Option<&Node>
+    ensures kind { IfSome result (λ _. kind_of (tree_of node.now) ≡ node_kind.ParenExpr) }
+    ensures part { IfSome result (λ a. parts_of (tree_of node.now)
+        ≡ more_trees (tree_of a.now) no_trees) }
+    ensures none { IfNone result ((a : Tree) → kind_of (tree_of node.now) ≡ node_kind.ParenExpr
+        → parts_of (tree_of node.now) ≡ more_trees a no_trees → ⊥) }
+{
+    match node.kind() {
+        NodeKind::ParenExpr => node.only_part(),
+        _ => None,
+    }
+}
+
+/// The operands of a sum; None exactly for a node that is no sum of two parts.
+pub fn operands(node: &Node) -> Option<(&Node, &Node)>
+    ensures kind { IfSome result (λ _. kind_of (tree_of node.now) ≡ node_kind.AddExpr) }
+    ensures parts { IfSome result (λ p. parts_of (tree_of node.now)
+        ≡ more_trees (tree_of p.0.now) (more_trees (tree_of p.1.now) no_trees)) }
+    ensures none { IfNone result ((a b : Tree) → kind_of (tree_of node.now) ≡ node_kind.AddExpr
+        → parts_of (tree_of node.now) ≡ more_trees a (more_trees b no_trees) → ⊥) }
+{
+    match node.kind() {
+        NodeKind::AddExpr => node.both_parts(),
+        _ => None,
+    }
+}
