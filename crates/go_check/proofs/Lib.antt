@@ -1,8 +1,12 @@
+pub mod BrokenLemmas
 pub mod CycleLemmas
+pub mod ExprLemmas
 pub mod LineLemmas
-pub mod NameLemmas
-pub mod PartLemmas
-pub mod ReportLemmas
+pub mod PlaceLemmas
+pub mod ResultLemmas
 pub mod RoundLemmas
+pub mod StateLemmas
+pub mod TextLemmas
+pub mod ValueLemmas
+pub mod VerdictLemmas
 pub mod WaitLemmas
-pub mod WideLemmas

@@ -1,39 +1,40 @@
 -- What the rounds keep, and why the table that they end with is exact.
-use Rattle.std.proofs.Common.{◌≡◌, ℕ, zero, suc, ◌<◌, ℤ, false, Option, Some, None, List, [], ◌∷◌, length, map, get_or, is_some, take, drop, ◌++◌, refl, sym, ap, ◌∙◌, subst, inl, inr, ⊎_elim, arith}
+use Rattle.std.proofs.Common.{◌≡◌, ℕ, zero, suc, ◌<◌, ℤ, false, Option, Some, None, List, [], ◌∷◌, length, get_or, is_some, take, drop, ◌++◌, refl, sym, ap, ◌∙◌, subst, inl, inr, ⊎_elim, arith}
 use Rattle.std.specs.Prelude.{◌↔◌, slice_get, slice_set}
 use Rattle.std.proofs.lemmas.Bool.{cases_eq}
 use Rattle.std.proofs.lemmas.List.{take_at}
 use Rattle.std.proofs.lemmas.Option.{unwrap_or-slice_get}
-use Rattle.go_tree.specs.declared.node.Node.{Node}
-use Rattle.go_tree.specs.Tree.{Tree, tree_of}
-use Rattle.go_model.specs.Resolution.{value_of, names_of}
-use Rattle.go_model.specs.Records.{Headers, record_of}
+use Rattle.go_model.specs.declared.meaning.Meaning.{Meaning}
+use Rattle.go_model.specs.Constants.{Constant}
+use Rattle.go_model.specs.Records.{value_over}
 use Rattle.go_model.specs.Headers.{headers_of, Follows, Justified, Holds, Known}
 use Rattle.go_model.specs.Quests.{IsPart}
-use Rattle.go_model.proofs.HeaderLemmas.{record_of-part, Follows-part, Follows-same, headers_of-here, headers_of-there, headers_of-holds, stays}
+use Rattle.go_model.proofs.HeaderLemmas.{value_over-part, Follows-part, Follows-same, headers_of-here, headers_of-there, headers_of-holds, stays}
+use Rattle.go_check.specs.declared.constants.Constant.{Constant as OwnConstant}
 use Rattle.go_check.specs.Table.{slot_of, IsBacked, IsSettled, open_count}
+use Rattle.go_check.specs.View.{constant_view, constants_view}
 
-module _ (constants : List Tree) where
+module _ (means : ℕ → Meaning) (constants : List Constant) where
   -- what a settled table has where a header follows from it
-  settled_slot : (table : List (Option ℤ)) → IsBacked constants table → ((d : ℕ) → IsSettled constants table d) → (d : ℕ) (h : ℤ) → Follows constants (slot_of table) d h → (o : Option ℤ) → slot_of table d ≡ o → o ≡ Some h
+  settled_slot : (table : List (Option ℤ)) → IsBacked means constants table → ((d : ℕ) → IsSettled means constants table d) → (d : ℕ) (h : ℤ) → Follows means constants (slot_of table) d h → (o : Option ℤ) → slot_of table d ≡ o → o ≡ Some h
   settled_slot table b s d h g None e = absurd (s d h e g)
   settled_slot table b s d h g (Some v) e =
-      let f = stays constants b.list b.justified d v (sym (b.same d) ∙ e) in
+      let f = stays means constants b.list b.justified d v (sym (b.same d) ∙ e) in
       let part : IsPart (headers_of b.list) (slot_of table) = λ d' h' q. b.same d' ∙ q in
-      ap Some (Follows-same constants (slot_of table) d v h (Follows-part constants (headers_of b.list) (slot_of table) part d v f) g)
+      ap Some (Follows-same means constants (slot_of table) d v h (Follows-part means constants (headers_of b.list) (slot_of table) part d v f) g)
 
   -- a settled table has each pair of each justified list
-  has_all : (table : List (Option ℤ)) → IsBacked constants table → ((d : ℕ) → IsSettled constants table d) → (list : List (ℕ × ℤ)) → Justified constants list → (d : ℕ) (h : ℤ) → Holds list d h → slot_of table d ≡ Some h
+  has_all : (table : List (Option ℤ)) → IsBacked means constants table → ((d : ℕ) → IsSettled means constants table d) → (list : List (ℕ × ℤ)) → Justified means constants list → (d : ℕ) (h : ℤ) → Holds list d h → slot_of table d ≡ Some h
   has_all table b s [] j d h x = absurd x
   has_all table b s (p ∷ before) j d h (inr x) = has_all table b s before j.0 d h x
   has_all table b s (p ∷ before) j d h (inl x) =
       let part : IsPart (headers_of before) (slot_of table) = λ d' h' e. has_all table b s before j.0 d' h' (headers_of-holds before d' h' e) in
-      let f = Follows-part constants (headers_of before) (slot_of table) part p.0 p.1 j.1 in
-      let g = subst (λ v. Follows constants (slot_of table) d v) x.1 (subst (λ n. Follows constants (slot_of table) n p.1) x.0 f) in
+      let f = Follows-part means constants (headers_of before) (slot_of table) part p.0 p.1 j.1 in
+      let g = subst (λ v. Follows means constants (slot_of table) d v) x.1 (subst (λ n. Follows means constants (slot_of table) n p.1) x.0 f) in
       settled_slot table b s d h g (slot_of table d) refl
 
   -- the rounds are exact
-  pub exact : (table : List (Option ℤ)) → IsBacked constants table → ((d : ℕ) → IsSettled constants table d) → (d : ℕ) (h : ℤ) → (slot_of table d ≡ Some h) ↔ Known constants d h
+  pub exact : (table : List (Option ℤ)) → IsBacked means constants table → ((d : ℕ) → IsSettled means constants table d) → (d : ℕ) (h : ℤ) → (slot_of table d ≡ Some h) ↔ Known means constants d h
   exact table b s d h = (
     λ e. record { list = b.list; justified = b.justified; holds = headers_of-holds b.list d h (sym (b.same d) ∙ e) },
     λ k. has_all table b s k.list k.justified d h k.holds,
@@ -53,12 +54,12 @@ slot_of-there (x ∷ table) (suc d) zero h ne = refl
 slot_of-there (x ∷ table) (suc d) (suc n) h ne = slot_of-there table d n h (λ e. ne (ap suc e))
 
 -- a header that follows from the table may be put into it
-pub IsBacked-set : (constants : List Tree) (table : List (Option ℤ)) (d : ℕ) (h : ℤ) (spec : Tree) → IsBacked constants table → d < length table → slice_get constants d ≡ Some spec → record_of (names_of constants) (slot_of table) (value_of spec) ≡ Some h → IsBacked constants (slice_set table d (Some h))
-IsBacked-set constants table d h spec b lt at v =
+pub IsBacked-set : (means : ℕ → Meaning) (constants : List Constant) (table : List (Option ℤ)) (d : ℕ) (h : ℤ) (constant : Constant) → IsBacked means constants table → d < length table → slice_get constants d ≡ Some constant → value_over means (slot_of table) constant ≡ Some h → IsBacked means constants (slice_set table d (Some h))
+IsBacked-set means constants table d h constant b lt at v =
     let part : IsPart (slot_of table) (headers_of b.list) = λ d' h' q. sym (b.same d') ∙ q in
     record {
       list = (d, h) ∷ b.list;
-      justified = (b.justified, record { spec = spec; declared = at; value = record_of-part (names_of constants) (slot_of table) (headers_of b.list) part (value_of spec) h v });
+      justified = (b.justified, record { constant = constant; declared = at; value = value_over-part means (slot_of table) (headers_of b.list) part constant h v });
       same = λ n. ⊎_elim
           (λ here. subst (λ m. slot_of (slice_set table d (Some h)) m ≡ headers_of ((d, h) ∷ b.list) m) here (slot_of-here table d h lt ∙ sym (headers_of-here (d, h) b.list d refl)))
           (λ ne. slot_of-there table d n h ne ∙ b.same n ∙ sym (headers_of-there (d, h) b.list n ne))
@@ -72,15 +73,11 @@ open_count-set (Some x ∷ table) zero h lt e = cc
 open_count-set (None ∷ table) (suc d) h lt e = let r = open_count-set table d h (omega arith) e in omega arith
 open_count-set (Some x ∷ table) (suc d) h lt e = open_count-set table d h (omega arith) e
 
--- the declaration at a place, as a tree
-pub declared_at : (ns : List Node) (d : ℕ) (n : Node) → d < length ns → n ≡ get_or ns d n → slice_get (map tree_of ns) d ≡ Some (tree_of n)
-declared_at [] d n lt e = absurd (omega arith)
-declared_at (m ∷ ns) zero n lt e = ap (λ (x : Node). Some (tree_of x)) (sym e)
-declared_at (m ∷ ns) (suc d) n lt e = declared_at ns d n (omega arith) e
-
--- a record by equal names and an equal tree
-pub record_by : (names names' : List (List ℕ)) (headers : Headers) (t t' : Tree) (r : Option ℤ) → names ≡ names' → t ≡ t' → r ≡ record_of names headers t → record_of names' headers t' ≡ r
-record_by names names' headers t t' r p q e = sym (e ∙ ap (λ n. record_of n headers t) p ∙ ap (record_of names' headers) q)
+-- the constant at a place
+pub declared_at : (list : List OwnConstant) (d : ℕ) (c : OwnConstant) → d < length list → c ≡ get_or list d c → slice_get (constants_view list) d ≡ Some (constant_view c)
+declared_at [] d c lt e = absurd (omega arith)
+declared_at (x ∷ list) zero c lt e = ap (λ (y : OwnConstant). Some (constant_view y)) (sym e)
+declared_at (x ∷ list) (suc d) c lt e = declared_at list d c (omega arith) e
 
 none_if : (o : Option ℤ) → false ≡ is_some o → o ≡ None
 none_if None e = refl

@@ -1,117 +1,161 @@
 -- What an expression lacks, node by node, and the graph of the waits.
-use Rattle.std.proofs.Common.{◌≡◌, ℕ, zero, suc, Bool, ℤ, ◌+◌, ◌<◌, Option, Some, None, List, [], ◌∷◌, length, map, get_or, refl, sym, ap, ◌∙◌, subst, Contains, arith}
-use Rattle.std.specs.Prelude.{◌↔◌, All, slice_get}
+use Rattle.std.proofs.Common.{◌≡◌, ℕ, zero, suc, ℤ, ◌<◌, Bool, Option, Some, None, List, [], ◌∷◌, ◌++◌, length, map, refl, sym, subst, Contains, arith}
+use Rattle.std.specs.Prelude.{◌↔◌, All, slice_get, if◌then◌else◌, true, false}
+use Rattle.std.specs.List.{flat_map}
 use Rattle.std.specs.Option.{option_map}
 use Rattle.std.proofs.lemmas.List.{length-map}
 use Rattle.std.proofs.lemmas.List.Elements.{All-nil, All-cons, All-append, All-contains}
-use Rattle.std.proofs.lemmas.List.Quantifiers.{position-Some}
-use Rattle.go_tree.specs.declared.node.Node.{Node}
-use Rattle.go_tree.specs.declared.node_kind.NodeKind.TheVariants.{AddExpr, Name, IntLit}
-use Rattle.go_tree.specs.Tree.{Tree, branch, Trees, no_trees, more_trees, trees_of, tree_of, kind_of, text_of, parts_of, node_count, node_count_of_all}
-use Rattle.go_tree.proofs.TreeLemmas.{part_within}
-use Rattle.go_model.specs.Resolution.{same_text}
-use Rattle.go_model.specs.Resolution.{name_of, value_of, names_of, resolve}
-use Rattle.go_model.specs.Records.{Headers, record_of}
-use Rattle.go_model.specs.Quests.{Done, run}
-use Rattle.go_model.specs.Tests.{name_test, sum_test, asked_of}
-use Rattle.go_model.specs.Waiting.{lacked, lacked_in, lacked_among, Waits, Chain, one, more}
+use Rattle.go_tree.specs.declared.node_kind.NodeKind.TheVariants.{AddExpr, SelectorExpr, Name}
+use Rattle.go_tree.specs.Tree.{Tree, branch, Trees, no_trees, more_trees, id_of, kind_of, parts_of}
+use Rattle.go_model.specs.declared.meaning.Meaning.{Meaning}
+use Rattle.go_model.specs.declared.meaning.Meaning.TheVariants.{Own, Outer, Predeclared, Other}
+use Rattle.go_model.specs.declared.object.ObjId.{ObjId}
+use Rattle.go_model.specs.Constants.{Constant}
 use Rattle.go_model.specs.Graph.{Graph, HasEdge, Path, edge, further, IsGraph}
 use Rattle.go_model.specs.Lacking.{lacking}
+use Rattle.go_model.specs.Meaning.{KnownValues, denoted_meaning, declared_meaning, outer_meaning, is_predeclared}
+use Rattle.go_model.specs.Quests.{Done, run}
+use Rattle.go_model.specs.Records.{Headers, record_of}
+use Rattle.go_model.specs.Tests.{name_test, selector_test, sum_test, asked_of}
+use Rattle.go_model.specs.Waiting.{lacked, lacked_in, lacked_among, lacked_by, Waits, Chain, one, more}
+use Rattle.go_check.specs.declared.around.Around.{Around}
+use Rattle.go_check.specs.View.{PlacesBelow, denotes_by, means_by, places_by}
 
-count-parts : (t : Tree) → node_count t ≡ 1 + node_count_of_all (parts_of t)
-count-parts (branch id from to kind text parts) = refl
-
--- a part has fewer nodes than its node
-pub part_smaller : (t : Tree) (ns : List Node) (k : ℕ) (n : Node) → trees_of (map tree_of ns) ≡ parts_of t → k < length ns → n ≡ get_or ns k n → node_count (tree_of n) < node_count t
-part_smaller t ns k n parts lt at = omega (arith, part_within ns k n lt at, count-parts t, ap node_count_of_all parts)
-
--- only a name lacks a header
-
+-- only a name and a selector lack a header
 sum_lacks : (headers : Headers) (o : Option Bool) → lacked (option_map (run headers) (option_map Done o)) ≡ []
 sum_lacks headers None = refl
 sum_lacks headers (Some b) = refl
 
-pub lacks_none : (names : List (List ℕ)) (headers : Headers) (t : Tree) → (kind_of t ≡ Name → ⊥) → lacked (asked_of names headers t) ≡ []
-lacks_none names headers (branch id from to AddExpr text no_trees) other = refl
-lacks_none names headers (branch id from to AddExpr text (more_trees x no_trees)) other = refl
-lacks_none names headers (branch id from to AddExpr text (more_trees x (more_trees y no_trees))) other = sum_lacks headers (sum_test (record_of names headers x) (record_of names headers y))
-lacks_none names headers (branch id from to AddExpr text (more_trees x (more_trees y (more_trees z zs)))) other = refl
-lacks_none names headers (branch id from to Name text parts) other = absurd (other refl)
-lacks_none names headers (branch id from to IntLit text parts) other = refl
-lacks_none names headers (branch id from to kind text parts) other = refl
+lacks_none : (means : ℕ → Meaning) (headers : Headers) (t : Tree) → (kind_of t ≡ Name → ⊥) → ((a b : Tree) → kind_of t ≡ SelectorExpr → parts_of t ≡ more_trees a (more_trees b no_trees) → ⊥) → lacked (asked_of means headers t) ≡ []
+lacks_none means headers (branch id from to AddExpr text (more_trees x (more_trees y no_trees))) n s = sum_lacks headers (sum_test (record_of means headers x) (record_of means headers y))
+lacks_none means headers (branch id from to Name text parts) n s = absurd (n refl)
+lacks_none means headers (branch id from to SelectorExpr text (more_trees x (more_trees y no_trees))) n s = absurd (s x y refl refl)
+lacks_none means headers t n s = refl
+
+-- a selector lacks what the name behind its `.` lacks
+selector_lacks : (headers : Headers) (m : Meaning) (operand : Option ℤ) → lacked (option_map (run headers) (selector_test m operand)) ≡ lacked (Some (run headers (name_test m)))
+selector_lacks headers (Own place) operand = refl
+selector_lacks headers (Outer v) operand = refl
+selector_lacks headers Predeclared operand = refl
+selector_lacks headers Other None = refl
+selector_lacks headers Other (Some v) = refl
+
+-- what an expression lacks, by its parts
+lacked-behind : (means : ℕ → Meaning) (headers : Headers) (id from to : ℕ) (text : List ℕ) (parts : Trees) (a b : Tree) → parts ≡ more_trees a (more_trees b no_trees) → lacked_in means headers (branch id from to SelectorExpr text parts) ≡ lacked (asked_of means headers (branch id from to SelectorExpr text parts)) ++ lacked_in means headers a
+lacked-behind means headers id from to text parts a b two =
+    subst (λ ts. lacked_in means headers (branch id from to SelectorExpr text ts) ≡ lacked (asked_of means headers (branch id from to SelectorExpr text ts)) ++ lacked_in means headers a) (sym two) refl
+
+pub lacked-selector : (means : ℕ → Meaning) (headers : Headers) (t a b : Tree) → kind_of t ≡ SelectorExpr → parts_of t ≡ more_trees a (more_trees b no_trees) → lacked_in means headers t ≡ lacked (asked_of means headers t) ++ lacked_in means headers a
+lacked-selector means headers (branch id from to kind text parts) a b is two =
+    subst (λ k. lacked_in means headers (branch id from to k text parts) ≡ lacked (asked_of means headers (branch id from to k text parts)) ++ lacked_in means headers a) (sym is) (lacked-behind means headers id from to text parts a b two)
+
+pub lacked-parts : (means : ℕ → Meaning) (headers : Headers) (t : Tree) → ((a b : Tree) → kind_of t ≡ SelectorExpr → parts_of t ≡ more_trees a (more_trees b no_trees) → ⊥) → lacked_in means headers t ≡ lacked (asked_of means headers t) ++ lacked_among means headers (parts_of t)
+lacked-parts means headers (branch id from to SelectorExpr text (more_trees x (more_trees y no_trees))) s = absurd (s x y refl refl)
+lacked-parts means headers t s = refl
 
 -- what a name lacks is the place of a constant
-
-slot_within : (n d : ℕ) (h : Option ℤ) → d < n → All (λ k. k < n) (lacked (Some (run (λ _. h) (name_test (Some d)))))
+slot_within : (n d : ℕ) (h : Option ℤ) → d < n → All (λ k. k < n) (lacked (Some (run (λ _. h) (name_test (Own d)))))
 slot_within n d None lt = All-cons (λ k. k < n) d [] lt (All-nil (λ k. k < n))
 slot_within n d (Some h) lt = All-nil (λ k. k < n)
 
-name_within : (names : List (List ℕ)) (headers : Headers) (text : List ℕ) (o : Option ℕ) → resolve names text ≡ o → All (λ k. k < length names) (lacked (Some (run headers (name_test o))))
-name_within names headers text None e = All-nil (λ k. k < length names)
-name_within names headers text (Some d) e = slot_within (length names) d (headers d) (position-Some (λ declared. same_text declared text) names d [] e).0
+name_within : (n : ℕ) (headers : Headers) (m : Meaning) → ((place : ℕ) → m ≡ Own place → place < n) → All (λ k. k < n) (lacked (Some (run headers (name_test m))))
+name_within n headers (Own d) below = slot_within n d (headers d) (below d refl)
+name_within n headers (Outer v) below = All-nil (λ k. k < n)
+name_within n headers Predeclared below = All-nil (λ k. k < n)
+name_within n headers Other below = All-nil (λ k. k < n)
 
-own_within : (names : List (List ℕ)) (headers : Headers) (t : Tree) → All (λ k. k < length names) (lacked (asked_of names headers t))
-own_within names headers (branch id from to Name text parts) = name_within names headers text (resolve names text) refl
-own_within names headers (branch id from to kind text parts) =
-    subst (All (λ k. k < length names)) (sym (lacks_none names headers (branch id from to kind text parts) (λ e. cc))) (All-nil (λ k. k < length names))
+module _ (n : ℕ) (means : ℕ → Meaning) (headers : Headers) (below : (id place : ℕ) → means id ≡ Own place → place < n) where
+  own_within : (t : Tree) → All (λ k. k < n) (lacked (asked_of means headers t))
+  own_within (branch id from to Name text parts) = name_within n headers (means id) (below id)
+  own_within (branch id from to SelectorExpr text (more_trees x (more_trees y no_trees))) =
+      subst (All (λ k. k < n)) (sym (selector_lacks headers (means (id_of y)) (record_of means headers x))) (name_within n headers (means (id_of y)) (below (id_of y)))
+  own_within t = subst (All (λ k. k < n)) (sym (lacks_none means headers t (λ e. cc) (λ a b e two. cc))) (All-nil (λ k. k < n))
 
-mutual
-  lacked_within : (names : List (List ℕ)) (headers : Headers) (t : Tree) → All (λ k. k < length names) (lacked_in names headers t)
-  lacked_within names headers (branch id from to kind text parts) =
-      All-append (λ k. k < length names) (lacked (asked_of names headers (branch id from to kind text parts))) (lacked_among names headers parts)
-      (own_within names headers (branch id from to kind text parts)) (among_within names headers parts)
+  mutual
+    lacked_within : (t : Tree) → All (λ k. k < n) (lacked_in means headers t)
+    lacked_within (branch id from to SelectorExpr text (more_trees x (more_trees y no_trees))) =
+        All-append (λ k. k < n) (lacked (asked_of means headers (branch id from to SelectorExpr text (more_trees x (more_trees y no_trees))))) (lacked_in means headers x)
+        (own_within (branch id from to SelectorExpr text (more_trees x (more_trees y no_trees)))) (lacked_within x)
+    lacked_within (branch id from to kind text parts) =
+        subst (All (λ k. k < n)) (sym (lacked-parts means headers (branch id from to kind text parts) (λ a b e two. cc)))
+        (All-append (λ k. k < n) (lacked (asked_of means headers (branch id from to kind text parts))) (lacked_among means headers parts)
+        (own_within (branch id from to kind text parts)) (among_within parts))
 
-  among_within : (names : List (List ℕ)) (headers : Headers) (ts : Trees) → All (λ k. k < length names) (lacked_among names headers ts)
-  among_within names headers no_trees = All-nil (λ k. k < length names)
-  among_within names headers (more_trees t ts) =
-      All-append (λ k. k < length names) (lacked_in names headers t) (lacked_among names headers ts)
-      (lacked_within names headers t) (among_within names headers ts)
+    among_within : (ts : Trees) → All (λ k. k < n) (lacked_among means headers ts)
+    among_within no_trees = All-nil (λ k. k < n)
+    among_within (more_trees t ts) =
+        All-append (λ k. k < n) (lacked_in means headers t) (lacked_among means headers ts)
+        (lacked_within t) (among_within ts)
+
+  all_within : (ts : List Tree) → All (λ k. k < n) (flat_map (lacked_in means headers) ts)
+  all_within [] = All-nil (λ k. k < n)
+  all_within (t ∷ ts) = All-append (λ k. k < n) (lacked_in means headers t) (flat_map (lacked_in means headers) ts) (lacked_within t) (all_within ts)
+
+-- only the place of an object is the place that an identifier means
+outer_place : (o : Option ℤ) (place : ℕ) → outer_meaning o ≡ Own place → ⊥
+outer_place None place e = cc
+outer_place (Some v) place e = cc
+
+declared_place : (before : KnownValues) (d : ObjId) (o : Option ℕ) (place : ℕ) → declared_meaning before d o ≡ Own place → o ≡ Some place
+declared_place before d None place e = absurd (outer_place _ place e)
+declared_place before d (Some p) place e = cc
+
+chosen_place : (b : Bool) (m : Meaning) (place : ℕ) → (if b then Predeclared else m) ≡ Own place → m ≡ Own place
+chosen_place true m place e = cc
+chosen_place false m place e = e
+
+denoted_place : (places : ObjId → Option ℕ) (before : KnownValues) (o : Option ObjId) (place : ℕ) → denoted_meaning places before o ≡ Own place → (d : ObjId) × (places d ≡ Some place)
+denoted_place places before None place e = cc
+denoted_place places before (Some d) place e =
+    (d, declared_place before d (places d) place (chosen_place (is_predeclared d) (declared_meaning before d (places d)) place e))
+
+pub places_within : (n : ℕ) (around : Around) → PlacesBelow n around → (id place : ℕ) → means_by around id ≡ Own place → place < n
+places_within n around below id place e =
+    let found = denoted_place (places_by around) around.before.now.entries (denotes_by around (record { 0 = id })) place e in
+    below found.0 place found.1
 
 -- the graph of the waits
-
-declared_row : (f : Tree → List ℕ) (constants : List Tree) (d : ℕ) (row : List ℕ) → slice_get (map f constants) d ≡ Some row → (spec : Tree) × (slice_get constants d ≡ Some spec) × (row ≡ f spec)
+declared_row : (f : Constant → List ℕ) (constants : List Constant) (d : ℕ) (row : List ℕ) → slice_get (map f constants) d ≡ Some row → (constant : Constant) × (slice_get constants d ≡ Some constant) × (row ≡ f constant)
 declared_row f [] d row e = cc
 declared_row f (c ∷ constants) zero row e = (c, refl, cc)
 declared_row f (c ∷ constants) (suc d) row e = declared_row f constants d row e
 
-row_declared : (f : Tree → List ℕ) (constants : List Tree) (d : ℕ) (spec : Tree) → slice_get constants d ≡ Some spec → slice_get (map f constants) d ≡ Some (f spec)
-row_declared f [] d spec e = cc
-row_declared f (c ∷ constants) zero spec e = cc
-row_declared f (c ∷ constants) (suc d) spec e = row_declared f constants d spec e
+row_declared : (f : Constant → List ℕ) (constants : List Constant) (d : ℕ) (constant : Constant) → slice_get constants d ≡ Some constant → slice_get (map f constants) d ≡ Some (f constant)
+row_declared f [] d constant e = cc
+row_declared f (c ∷ constants) zero constant e = cc
+row_declared f (c ∷ constants) (suc d) constant e = row_declared f constants d constant e
 
-pub waits_graph : (names : List (List ℕ)) (headers : Headers) (constants : List Tree) → names ≡ names_of constants → IsGraph (lacking names headers constants)
-waits_graph names headers constants is a b e =
-    let f : Tree → List ℕ = λ spec. lacked_in names headers (value_of spec) in
-    let at = declared_row f constants a e.row e.at in
-    let has = subst (λ (xs : List ℕ). Contains xs b) at.2 e.has in
-    let lt = All-contains (λ k. k < length names) (f at.0) b (lacked_within names headers (value_of at.0)) has in
-    omega (arith, lt, ap length is, length-map constants (λ spec. text_of (name_of spec)), length-map constants f)
+module _ (means : ℕ → Meaning) (headers : Headers) (constants : List Constant) where
+  pub waits_graph : ((id place : ℕ) → means id ≡ Own place → place < length constants) → IsGraph (lacking means headers constants)
+  waits_graph below a b e =
+      let at = declared_row (lacked_by means headers) constants a e.row e.at in
+      let has = subst (λ (xs : List ℕ). Contains xs b) at.2 e.has in
+      let lt = All-contains (λ k. k < length constants) (lacked_by means headers at.0) b (all_within (length constants) means headers below at.0.rests_on) has in
+      omega (arith, lt, length-map constants (lacked_by means headers))
 
-module _ (headers : Headers) (constants : List Tree) where
-  edge_waits : (d e : ℕ) → HasEdge (lacking (names_of constants) headers constants) d e → Waits constants headers d e
+  edge_waits : (d e : ℕ) → HasEdge (lacking means headers constants) d e → Waits means constants headers d e
   edge_waits d e leads =
-      let at = declared_row (λ spec. lacked_in (names_of constants) headers (value_of spec)) constants d leads.row leads.at in
-      record { spec = at.0; declared = at.1; lacks = subst (λ (xs : List ℕ). Contains xs e) at.2 leads.has }
+      let at = declared_row (lacked_by means headers) constants d leads.row leads.at in
+      record { constant = at.0; declared = at.1; lacks = subst (λ (xs : List ℕ). Contains xs e) at.2 leads.has }
 
-  waits_edge : (d e : ℕ) → Waits constants headers d e → HasEdge (lacking (names_of constants) headers constants) d e
+  waits_edge : (d e : ℕ) → Waits means constants headers d e → HasEdge (lacking means headers constants) d e
   waits_edge d e w = record {
-    row = lacked_in (names_of constants) headers (value_of w.spec);
-    at = row_declared (λ spec. lacked_in (names_of constants) headers (value_of spec)) constants d w.spec w.declared;
+    row = lacked_by means headers w.constant;
+    at = row_declared (lacked_by means headers) constants d w.constant w.declared;
     has = w.lacks;
   }
 
-  path_chain : (d e : ℕ) → Path (lacking (names_of constants) headers constants) d e → Chain constants headers d e
+  path_chain : (d e : ℕ) → Path (lacking means headers constants) d e → Chain means constants headers d e
   path_chain d e (edge _ leads) = one e (edge_waits d e leads)
   path_chain d e (further b _ p leads) = more b e (path_chain d b p) (edge_waits b e leads)
 
-  chain_path : (d e : ℕ) → Chain constants headers d e → Path (lacking (names_of constants) headers constants) d e
+  chain_path : (d e : ℕ) → Chain means constants headers d e → Path (lacking means headers constants) d e
   chain_path d e (one _ w) = edge e (waits_edge d e w)
   chain_path d e (more b _ p w) = further b e (chain_path d b p) (waits_edge b e w)
 
--- the paths through the graph of the waits are the chains of waits
-pub paths_are_chains : (names : List (List ℕ)) (headers : Headers) (constants : List Tree) (g : Graph) → names ≡ names_of constants → g ≡ lacking names headers constants → (d e : ℕ) → Path g d e ↔ Chain constants headers d e
-paths_are_chains names headers constants g is same d e =
-    let same_graph = same ∙ ap (λ n. lacking n headers constants) is in (
-      λ p. path_chain headers constants d e (subst (λ (h : Graph). Path h d e) same_graph p),
-      λ chain. subst (λ (h : Graph). Path h d e) (sym same_graph) (chain_path headers constants d e chain),
-    )
+  -- the paths through the graph of the waits are the chains of waits
+  pub paths_are_chains : (g : Graph) → g ≡ lacking means headers constants → (d e : ℕ) → Path g d e ↔ Chain means constants headers d e
+  paths_are_chains g same d e = (
+    λ p. path_chain d e (subst (λ (h : Graph). Path h d e) same p),
+    λ chain. subst (λ (h : Graph). Path h d e) (sym same) (chain_path d e chain),
+  )

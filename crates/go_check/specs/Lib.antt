@@ -1,5 +1,6 @@
--- what the public call cites
-pub mod View
 -- what inner functions promise each other
-pub mod Names
+pub mod View
+pub mod State
 pub mod Table
+pub mod Texts
+pub mod TextView

@@ -1,7 +1,8 @@
 -- A table of headers, one slot for each constant, and a list of marks, one for each constant.
 -- Says what the rounds that fill the table keep, and when nothing more can be filled in.
 use Rattle.std.specs.Prelude.{◌≡◌, ℕ, suc, ℤ, Option, Some, None, List, [], ◌∷◌, slice_get, unwrap_or}
-use Rattle.go_tree.specs.Tree.{Tree}
+use Rattle.go_model.specs.declared.meaning.Meaning.{Meaning}
+use Rattle.go_model.specs.Constants.{Constant}
 use Rattle.go_model.specs.Records.{Headers}
 use Rattle.go_model.specs.Headers.{Follows, headers_of, Justified}
 
@@ -10,14 +11,14 @@ abbrev pub slot_of : List (Option ℤ) → Headers
 slot_of table d = unwrap_or (slice_get table d) None
 
 -- the table has what some justified list has
-pub record IsBacked (constants : List Tree) (table : List (Option ℤ)) : Type 0 where
+pub record IsBacked (means : ℕ → Meaning) (constants : List Constant) (table : List (Option ℤ)) : Type 0 where
   pub list : List (ℕ × ℤ)
-  pub justified : Justified constants list
+  pub justified : Justified means constants list
   pub same : (d : ℕ) → slot_of table d ≡ headers_of list d
 
 -- no header for the constant d follows from the table, unless it is there
-abbrev pub IsSettled : List Tree → List (Option ℤ) → ℕ → Type 0
-IsSettled constants table d = (h : ℤ) → slot_of table d ≡ None → Follows constants (slot_of table) d h → ⊥
+abbrev pub IsSettled : (ℕ → Meaning) → List Constant → List (Option ℤ) → ℕ → Type 0
+IsSettled means constants table d = (h : ℤ) → slot_of table d ≡ None → Follows means constants (slot_of table) d h → ⊥
 
 -- how many constants have no header yet
 abbrev pub open_count : List (Option ℤ) → ℕ

@@ -1,7 +1,7 @@
 // Cycles in a graph: which vertices lead back to themselves.
-ghost use Rattle.std.specs.Prelude.{◌≡◌, ◌<◌, ◌↔◌, ◌⊎◌, ℕ, All, Contains, IfOk, OnOk, length, true};
+ghost use Rattle.std.specs.Prelude.{◌≡◌, ◌<◌, ◌↔◌, ℕ, IfOk, length, true};
 ghost use Rattle.go_model.specs.Graph.{Path, IsGraph, graph_of};
-ghost use Rattle.go_load.specs.Marks.{Extends, is_marked};
+ghost use Rattle.go_load.specs.Marks.{is_marked};
 
 use go_base::NoMemory;
 use go_load::reached;

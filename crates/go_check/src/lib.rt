@@ -1,31 +1,40 @@
-//! What checking a file of constants tells.
+//! What checking a module tells.
 //!
-//! `check_file` answers with the report of a file's bytes: the rules that it breaks, by their phases, or the
-//! lines of an accepted file. Headers, the values of constants, are found in rounds over a table.
+//! `check_module` answers with the report of a module that is loaded: of each package, in import order, the
+//! rules that its names or its values break, or its lines. Headers, the values of constants, are found in rounds
+//! over a table.
 #![tactic(auto)]
 
-mod parts;
-mod report;
+mod rules;
 
-// What names denote.
-mod names;
-mod repeated;
-mod undeclared;
+// The constants of a package, and what identifiers mean.
+mod around;
+mod constants;
+mod parts;
 
 // The values of constants.
 mod headers;
 mod record;
 
 // The rules on values.
+mod broken;
 mod cycles;
+mod unequal;
 mod values;
 mod waits;
-mod wide;
 
-// The report.
-mod check;
-mod constants;
-mod report_lines;
+// Places.
+mod declarations;
+mod places;
 
-pub use check::{MOST_BYTES, check_file};
-pub use report::Report;
+// Lines.
+mod defs;
+mod exprs;
+mod lines;
+mod uses;
+
+// Reports.
+mod module;
+mod package;
+
+pub use module::check_module;

@@ -1,48 +1,66 @@
-// The rules that constants break by their values.
-ghost use Rattle.std.specs.Prelude.{◌≡◌, ◌++◌, IfOk, OnOk, map};
-ghost use Rattle.go_tree.specs.Tree.{tree_of};
-ghost use Rattle.go_model.specs.Rules.{cyclic_at};
-ghost use Rattle.go_model.specs.Rules as rules;
-ghost use Rattle.go_check.specs.Table.{slot_of};
+// What the values of a package break.
+ghost use Rattle.std.specs.Prelude.{◌≡◌, ◌++◌, IfOk, OnOk};
 ghost use Rattle.go_load.specs.Marks as marking;
+ghost use Rattle.go_model.specs.FormRules.Order.{IsListOf};
+ghost use Rattle.go_model.specs.Module.{package_view};
+ghost use Rattle.go_model.specs.Rules as rules;
+ghost use Rattle.go_model.specs.Constants.{constants_of};
+ghost use Rattle.go_check.specs.Table.{slot_of};
+ghost use Rattle.go_check.specs.View.{constant_view, constants_view, means_by};
 
-use crate::names::Names;
-use crate::parts::{name_of, value_of};
-use crate::wide::push_wide;
+use crate::around::Around;
+use crate::constants::Constant;
+use crate::unequal::push_specs;
 use go_base::{Broken, CYCLIC_DECLARATION, NoMemory};
-use go_load::broken_at;
-use go_tree::Node;
+use go_model::{Package, add_if, broken_at, ordered};
 use std::alloc::Global;
 
-/// The rules C1 and L2 where the constants break them, in source order: for each constant C1 at
-/// its name if it is marked as cyclic, then L2 in its expression.
+/// What the values of a package break, as the list of a report: C1 at each constant that is marked as cyclic, and
+/// what its specs break. An error is want of memory.
 pub fn broken_values(
     alloc: Global,
-    names: &Names,
+    around: &Around,
     table: &[Option<i128>],
     cyclic: &[bool],
-    constants: &[Node],
+    constants: &[Constant],
+    own: &Package,
 ) -> Result<Vec<Broken>, NoMemory>
-    ensures { IfOk result (λ list. list.items ≡ rules.broken_values names.now (slot_of table.now)
-        (marking.is_marked cyclic.now) 0 (map tree_of constants.now)) }
+    requires { constants_view constants.now ≡ constants_of (package_view own.now) }
+    ensures { IfOk result (λ list. IsListOf (rules.broken_values (means_by around.now) (slot_of table.now)
+        (marking.is_marked cyclic.now) (package_view own.now)) list.items) }
 {
-    let mut list = Vec::new(alloc);
+    let mut found = Vec::new(alloc);
+    push_cycles(cyclic, constants, &mut found)?;
+    push_specs(alloc, around, table, &own.files, &mut found)?;
+    Ok(ordered(found))
+}
+
+// Pushes C1 at the name of each constant that is marked as cyclic.
+fn push_cycles(
+    cyclic: &[bool],
+    constants: &[Constant],
+    list: &mut Vec<Broken>,
+) -> Result<(), NoMemory>
+    ensures { OnOk result (list.new.items ≡ list.old.items
+        ++ rules.broken_cycles (marking.is_marked cyclic.now) 0 (constants_view constants.now)) }
+{
     for (place, constant) in constants.iter().enumerate() {
-        push_cyclic(is_marked(cyclic, place), constant, &mut list)?;
-        push_wide(names, table, value_of(constant), &mut list)?;
+        push_cyclic(is_marked(cyclic, place), constant, list)?;
     }
-    Ok(list)
+    Ok(())
 }
 
 // Pushes C1 at the name of a constant that is cyclic.
-fn push_cyclic(cyclic: bool, constant: &Node, list: &mut Vec<Broken>) -> Result<(), NoMemory>
+fn push_cyclic(cyclic: bool, constant: &Constant, list: &mut Vec<Broken>) -> Result<(), NoMemory>
     ensures { OnOk result (list.new.items
-        ≡ list.old.items ++ cyclic_at cyclic (tree_of constant.now)) }
+        ≡ list.old.items ++ rules.cyclic_at cyclic (constant_view constant.now)) }
 {
-    if cyclic {
-        list.push(broken_at(name_of(constant).start(), CYCLIC_DECLARATION))?;
-    }
-    Ok(())
+    let start = constant.name.start();
+    add_if(
+        list,
+        cyclic,
+        broken_at(constant.file, start, CYCLIC_DECLARATION),
+    )
 }
 
 // Whether the constant at that place is marked.

@@ -2,10 +2,12 @@
 use Rattle.std.proofs.Common.{◌≡◌, ℕ, ℤ, Option, Some, None, List, [], ◌∷◌, ◌++◌, refl, sym, ap, ◌∙◌, subst, inl, inr, ⊎_elim}
 use Rattle.std.specs.Prelude.{option_and_then}
 use Rattle.std.proofs.lemmas.Bool.{cases_eq, eq-eqb, ne_eqb}
-use Rattle.go_tree.specs.declared.node_kind.NodeKind.TheVariants.{AddExpr, ParenExpr, Name, IntLit}
-use Rattle.go_tree.specs.Tree.{Tree, branch, no_trees, more_trees}
-use Rattle.go_model.specs.Resolution.{value_of, names_of, resolve}
-use Rattle.go_model.specs.Records.{Headers, sum_of, record_of}
+use Rattle.go_tree.specs.declared.node_kind.NodeKind.TheVariants.{AddExpr, ParenExpr, SelectorExpr, Name, IntLit}
+use Rattle.go_tree.specs.Tree.{Tree, branch, no_trees, more_trees, id_of}
+use Rattle.go_model.specs.declared.meaning.Meaning.{Meaning}
+use Rattle.go_model.specs.declared.meaning.Meaning.TheVariants.{Own, Outer, Predeclared, Other}
+use Rattle.go_model.specs.Constants.{Constant}
+use Rattle.go_model.specs.Records.{Headers, meant_value, sum_of, record_of, value_over}
 use Rattle.go_model.specs.Headers.{headers_of, Follows, Justified, Holds, Known}
 use Rattle.go_model.specs.Quests.{IsPart}
 
@@ -14,29 +16,39 @@ sum_of-part None b a' b' v pa pb e = cc
 sum_of-part (Some x) None a' b' v pa pb e = cc
 sum_of-part (Some x) (Some y) a' b' v pa pb e = rw (pa x refl, pb y refl) e
 
-and_then-part : (known more : Headers) → IsPart known more → (d : Option ℕ) (v : ℤ) → option_and_then known d ≡ Some v → option_and_then more d ≡ Some v
-and_then-part known more part None v e = e
-and_then-part known more part (Some d) v e = part d v e
+meant-part : (known more : Headers) → IsPart known more → (m : Meaning) (v : ℤ) → meant_value known m ≡ Some v → meant_value more m ≡ Some v
+meant-part known more part (Own place) v e = part place v e
+meant-part known more part (Outer w) v e = e
+meant-part known more part Predeclared v e = e
+meant-part known more part Other v e = e
 
 -- a record stays as the map grows
-pub record_of-part : (names : List (List ℕ)) (known more : Headers) → IsPart known more → (t : Tree) (v : ℤ) → record_of names known t ≡ Some v → record_of names more t ≡ Some v
-record_of-part names known more part (branch id from to IntLit text parts) v e = e
-record_of-part names known more part (branch id from to Name text parts) v e = and_then-part known more part (resolve names text) v e
-record_of-part names known more part (branch id from to ParenExpr text (more_trees x no_trees)) v e = record_of-part names known more part x v e
-record_of-part names known more part (branch id from to AddExpr text (more_trees x (more_trees y no_trees))) v e =
-    sum_of-part (record_of names known x) (record_of names known y) (record_of names more x) (record_of names more y) v (record_of-part names known more part x) (record_of-part names known more part y) e
-record_of-part names known more part t v e = cc
+pub record_of-part : (means : ℕ → Meaning) (known more : Headers) → IsPart known more → (t : Tree) (v : ℤ) → record_of means known t ≡ Some v → record_of means more t ≡ Some v
+record_of-part means known more part (branch id from to IntLit text parts) v e = e
+record_of-part means known more part (branch id from to Name text parts) v e = meant-part known more part (means id) v e
+record_of-part means known more part (branch id from to SelectorExpr text (more_trees operand (more_trees name no_trees))) v e = meant-part known more part (means (id_of name)) v e
+record_of-part means known more part (branch id from to ParenExpr text (more_trees x no_trees)) v e = record_of-part means known more part x v e
+record_of-part means known more part (branch id from to AddExpr text (more_trees x (more_trees y no_trees))) v e =
+    sum_of-part (record_of means known x) (record_of means known y) (record_of means more x) (record_of means more y) v (record_of-part means known more part x) (record_of-part means known more part y) e
+record_of-part means known more part t v e = cc
 
-module _ (constants : List Tree) where
-  pub Follows-part : (known more : Headers) → IsPart known more → (d : ℕ) (h : ℤ) → Follows constants known d h → Follows constants more d h
+value-part : (means : ℕ → Meaning) (known more : Headers) → IsPart known more → (t : Option Tree) (v : ℤ) → option_and_then (record_of means known) t ≡ Some v → option_and_then (record_of means more) t ≡ Some v
+value-part means known more part None v e = e
+value-part means known more part (Some t) v e = record_of-part means known more part t v e
+
+pub value_over-part : (means : ℕ → Meaning) (known more : Headers) → IsPart known more → (constant : Constant) (v : ℤ) → value_over means known constant ≡ Some v → value_over means more constant ≡ Some v
+value_over-part means known more part constant v e = value-part means known more part constant.value v e
+
+module _ (means : ℕ → Meaning) (constants : List Constant) where
+  pub Follows-part : (known more : Headers) → IsPart known more → (d : ℕ) (h : ℤ) → Follows means constants known d h → Follows means constants more d h
   Follows-part known more part d h f =
-      record { spec = f.spec; declared = f.declared; value = record_of-part (names_of constants) known more part (value_of f.spec) h f.value }
+      record { constant = f.constant; declared = f.declared; value = value_over-part means known more part f.constant h f.value }
 
   -- over one map a constant has one header
-  pub Follows-same : (known : Headers) (d : ℕ) (h h' : ℤ) → Follows constants known d h → Follows constants known d h' → h ≡ h'
+  pub Follows-same : (known : Headers) (d : ℕ) (h h' : ℤ) → Follows means constants known d h → Follows means constants known d h' → h ≡ h'
   Follows-same known d h h' f g =
-      let same : f.spec ≡ g.spec = cc (f.declared, g.declared) in
-      let at : record_of (names_of constants) known (value_of f.spec) ≡ record_of (names_of constants) known (value_of g.spec) = ap (λ t. record_of (names_of constants) known (value_of t)) same in
+      let same : f.constant ≡ g.constant = cc (f.declared, g.declared) in
+      let at : value_over means known f.constant ≡ value_over means known g.constant = ap (value_over means known) same in
       cc (f.value, g.value)
 
 -- what a longer list has for a constant
@@ -55,30 +67,30 @@ headers_of-holds (p ∷ before) d h e =
     (λ ne. inr (headers_of-holds before d h (sym (headers_of-there p before d ne) ∙ e)))
     (cases_eq p.0 d)
 
-module _ (constants : List Tree) where
+module _ (means : ℕ → Meaning) (constants : List Constant) where
   -- a list stays a part of itself with one more pair
-  grows : (p : ℕ × ℤ) (before : List (ℕ × ℤ)) → Follows constants (headers_of before) p.0 p.1 → ((d : ℕ) (h : ℤ) → headers_of before d ≡ Some h → Follows constants (headers_of before) d h) → IsPart (headers_of before) (headers_of (p ∷ before))
+  grows : (p : ℕ × ℤ) (before : List (ℕ × ℤ)) → Follows means constants (headers_of before) p.0 p.1 → ((d : ℕ) (h : ℤ) → headers_of before d ≡ Some h → Follows means constants (headers_of before) d h) → IsPart (headers_of before) (headers_of (p ∷ before))
   grows p before f stay d h e =
       ⊎_elim
-      (λ here. let g = subst (λ n. Follows constants (headers_of before) n p.1) here f in
-      headers_of-here p before d here ∙ ap Some (Follows-same constants (headers_of before) d p.1 h g (stay d h e)))
+      (λ here. let g = subst (λ n. Follows means constants (headers_of before) n p.1) here f in
+      headers_of-here p before d here ∙ ap Some (Follows-same means constants (headers_of before) d p.1 h g (stay d h e)))
       (λ ne. headers_of-there p before d ne ∙ e)
       (cases_eq p.0 d)
 
   -- each header of a justified list follows from the whole list too
-  pub stays : (list : List (ℕ × ℤ)) → Justified constants list → (d : ℕ) (h : ℤ) → headers_of list d ≡ Some h → Follows constants (headers_of list) d h
+  pub stays : (list : List (ℕ × ℤ)) → Justified means constants list → (d : ℕ) (h : ℤ) → headers_of list d ≡ Some h → Follows means constants (headers_of list) d h
   stays [] j d h e = cc
   stays (p ∷ before) j d h e =
       let part = grows p before j.1 (stays before j.0) in
       ⊎_elim
       (λ here. let same : p.1 ≡ h = cc (headers_of-here p before d here, e) in
-      let g = subst (λ n. Follows constants (headers_of before) n p.1) here j.1 in
-      Follows-part constants (headers_of before) (headers_of (p ∷ before)) part d h (subst (λ v. Follows constants (headers_of before) d v) same g))
+      let g = subst (λ n. Follows means constants (headers_of before) n p.1) here j.1 in
+      Follows-part means constants (headers_of before) (headers_of (p ∷ before)) part d h (subst (λ v. Follows means constants (headers_of before) d v) same g))
       (λ ne. let e' = sym (headers_of-there p before d ne) ∙ e in
-      Follows-part constants (headers_of before) (headers_of (p ∷ before)) part d h (stays before j.0 d h e'))
+      Follows-part means constants (headers_of before) (headers_of (p ∷ before)) part d h (stays before j.0 d h e'))
       (cases_eq p.0 d)
 
-module _ (constants : List Tree) where
+module _ (means : ℕ → Meaning) (constants : List Constant) where
   -- two justified lists, one after the other, are justified
   headers_of-append : (list before : List (ℕ × ℤ)) → IsPart (headers_of list) (headers_of (list ++ before))
   headers_of-append [] before d h e = cc
@@ -88,11 +100,11 @@ module _ (constants : List Tree) where
       (λ ne. headers_of-there p (list ++ before) d ne ∙ headers_of-append list before d h (sym (headers_of-there p list d ne) ∙ e))
       (cases_eq p.0 d)
 
-  Justified-append : (list before : List (ℕ × ℤ)) → Justified constants list → Justified constants before → Justified constants (list ++ before)
+  Justified-append : (list before : List (ℕ × ℤ)) → Justified means constants list → Justified means constants before → Justified means constants (list ++ before)
   Justified-append [] before j k = k
   Justified-append (p ∷ list) before j k = (
     Justified-append list before j.0 k,
-    Follows-part constants (headers_of list) (headers_of (list ++ before)) (headers_of-append list before) p.0 p.1 j.1,
+    Follows-part means constants (headers_of list) (headers_of (list ++ before)) (headers_of-append list before) p.0 p.1 j.1,
   )
 
   Holds-before : (list before : List (ℕ × ℤ)) (d : ℕ) (h : ℤ) → Holds before d h → Holds (list ++ before) d h
@@ -105,13 +117,13 @@ module _ (constants : List Tree) where
   Holds-after (p ∷ list) before d h (inr x) = inr (Holds-after list before d h x)
 
   -- a justified list has one header for a constant
-  headers_of-held : (list : List (ℕ × ℤ)) → Justified constants list → (d : ℕ) (h : ℤ) → Holds list d h → headers_of list d ≡ Some h
+  headers_of-held : (list : List (ℕ × ℤ)) → Justified means constants list → (d : ℕ) (h : ℤ) → Holds list d h → headers_of list d ≡ Some h
   headers_of-held [] j d h x = absurd x
   headers_of-held (p ∷ before) j d h (inl x) = headers_of-here p before d x.0 ∙ ap Some x.1
-  headers_of-held (p ∷ before) j d h (inr x) = grows constants p before j.1 (stays constants before j.0) d h (headers_of-held before j.0 d h x)
+  headers_of-held (p ∷ before) j d h (inr x) = grows means constants p before j.1 (stays means constants before j.0) d h (headers_of-held before j.0 d h x)
 
   -- a constant has at most one header
-  pub Known-same : (d : ℕ) (h h' : ℤ) → Known constants d h → Known constants d h' → h ≡ h'
+  pub Known-same : (d : ℕ) (h h' : ℤ) → Known means constants d h → Known means constants d h' → h ≡ h'
   Known-same d h h' k k' =
       let both = Justified-append k.list k'.list k.justified k'.justified in
       let one = headers_of-held (k.list ++ k'.list) both d h (Holds-after k.list k'.list d h k.holds) in

@@ -1,11 +1,13 @@
 -- What stays of a test as the map of headers grows.
 use Rattle.std.proofs.Common.{◌≡◌, ℕ, ℤ, Bool, Option, Some, None, List, refl, ap, ◌∙◌, subst}
 use Rattle.std.specs.Option.{option_map}
-use Rattle.go_tree.specs.declared.node_kind.NodeKind.TheVariants.{AddExpr}
-use Rattle.go_tree.specs.Tree.{Tree, branch, no_trees, more_trees}
+use Rattle.go_tree.specs.declared.node_kind.NodeKind.TheVariants.{AddExpr, SelectorExpr}
+use Rattle.go_tree.specs.Tree.{Tree, branch, no_trees, more_trees, id_of}
+use Rattle.go_model.specs.declared.meaning.Meaning.{Meaning}
+use Rattle.go_model.specs.declared.meaning.Meaning.TheVariants.{Own, Outer, Predeclared, Other}
 use Rattle.go_model.specs.Records.{Headers, record_of}
 use Rattle.go_model.specs.Quests.{Asked, Decided, Lacks, Quest, Done, run, IsPart, Stays}
-use Rattle.go_model.specs.Tests.{sum_test, test_of}
+use Rattle.go_model.specs.Tests.{selector_test, sum_test, test_of}
 use Rattle.go_model.specs.Laws.{TestStays}
 use Rattle.go_model.proofs.HeaderLemmas.{record_of-part}
 use Rattle.go_model.proofs.QuestLemmas.{run-stays}
@@ -15,6 +17,14 @@ sum_test-stays : (a b a' b' : Option ℤ) (q : Quest ℤ Bool) → ((x : ℤ) �
 sum_test-stays None b a' b' q pa pb e = cc
 sum_test-stays (Some x) None a' b' q pa pb e = cc
 sum_test-stays (Some x) (Some y) a' b' q pa pb e = rw (pa x refl, pb y refl) e
+
+-- so is a selector
+selector_test-stays : (m : Meaning) (a a' : Option ℤ) (q : Quest ℤ Bool) → ((x : ℤ) → a ≡ Some x → a' ≡ Some x) → selector_test m a ≡ Some q → selector_test m a' ≡ Some q
+selector_test-stays (Own place) a a' q part e = e
+selector_test-stays (Outer v) a a' q part e = e
+selector_test-stays Predeclared a a' q part e = e
+selector_test-stays Other None a' q part e = cc
+selector_test-stays Other (Some x) a' q part e = rw (part x refl) e
 
 -- what a test came to stays, where it is asked alike
 module _ (known more : Headers) (part : IsPart known more) where
@@ -32,16 +42,18 @@ module _ (known more : Headers) (part : IsPart known more) where
       let is : run more q ≡ Lacks d = subst (λ (a : Asked Bool). Stays more a (run more q)) was (run-stays known more part q) missing in
       ap (option_map (run more)) (same q refl) ∙ ap Some is
 
-module _ (names : List (List ℕ)) (known more : Headers) (part : IsPart known more) where
-  asked-stays : (t : Tree) (q : Quest ℤ Bool) → test_of names known t ≡ Some q → test_of names more t ≡ Some q
+module _ (means : ℕ → Meaning) (known more : Headers) (part : IsPart known more) where
+  asked-stays : (t : Tree) (q : Quest ℤ Bool) → test_of means known t ≡ Some q → test_of means more t ≡ Some q
   asked-stays (branch id from to AddExpr text (more_trees x (more_trees y no_trees))) q e =
-      sum_test-stays (record_of names known x) (record_of names known y) (record_of names more x) (record_of names more y) q (record_of-part names known more part x) (record_of-part names known more part y) e
+      sum_test-stays (record_of means known x) (record_of means known y) (record_of means more x) (record_of means more y) q (record_of-part means known more part x) (record_of-part means known more part y) e
+  asked-stays (branch id from to SelectorExpr text (more_trees operand (more_trees name no_trees))) q e =
+      selector_test-stays (means (id_of name)) (record_of means known operand) (record_of means more operand) q (record_of-part means known more part operand) e
   asked-stays t q e = e
 
 -- what stays of a test
-pub test_of-stays : (names : List (List ℕ)) (known more : Headers) → IsPart known more → (t : Tree) → TestStays names known more t
-test_of-stays names known more part t = record {
-  asked = asked-stays names known more part t;
-  decided = λ b. decided-by known more part (test_of names known t) (test_of names more t) b (asked-stays names known more part t);
-  lacks = λ d. lacks-by known more part (test_of names known t) (test_of names more t) d (asked-stays names known more part t);
+pub test_of-stays : (means : ℕ → Meaning) (known more : Headers) → IsPart known more → (t : Tree) → TestStays means known more t
+test_of-stays means known more part t = record {
+  asked = asked-stays means known more part t;
+  decided = λ b. decided-by known more part (test_of means known t) (test_of means more t) b (asked-stays means known more part t);
+  lacks = λ d. lacks-by known more part (test_of means known t) (test_of means more t) d (asked-stays means known more part t);
 }

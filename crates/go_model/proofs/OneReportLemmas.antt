@@ -1,26 +1,22 @@
--- A file has one report at most.
-use Rattle.std.proofs.Common.{◌≡◌, ◌≢◌, ℕ, ℤ, Bool, true, false, List, [], ◌∷◌, Option, Some, None, refl, sym, ap, ◌∙◌, subst, arith}
+-- A module has one report at most.
+use Rattle.std.proofs.Common.{◌≡◌, ℕ, ◌+◌, ℤ, Bool, true, false, List, [], ◌∷◌, ◌++◌, map, Option, Some, None, refl, sym, ap, ◌∙◌, subst}
 use Rattle.std.specs.Prelude.{◌↔◌}
 use Rattle.std.proofs.Math.Path.{fun_ext}
 use Rattle.go_base.specs.declared.rule.Broken.{Broken}
-use Rattle.go_parse_x.specs.declared.fault.ParseFault.{ParseFault}
-use Rattle.go_parse_x.specs.declared.fault.ParseFault.TheVariants.{NoMemory}
-use Rattle.go_parse_s.specs.Files.{IsFileOf, IsFaultOf}
-use Rattle.go_parse_s.proofs.LawLemmas.{one_file_lem, one_fault_lem, file_or_fault_lem}
-use Rattle.go_tree.specs.Tree.{Tree, text_of}
-use Rattle.go_model.specs.Fault.{broken_by}
+use Rattle.go_model.specs.declared.meaning.Meaning.{Meaning}
+use Rattle.go_model.specs.Constants.{Constant, constants_of}
 use Rattle.go_model.specs.FormRules.Order.{IsListOf}
-use Rattle.go_model.specs.FormRules.Whole.{AreBrokenForms}
-use Rattle.go_model.specs.declared.built.Built.TheVariants.{Constants}
-use Rattle.go_model.specs.Resolution.{first_part, constants_of, names_of}
+use Rattle.go_model.specs.Meaning.{KnownValues, meaning_in}
+use Rattle.go_model.specs.Module.{ModuleData, PackageData}
+use Rattle.go_model.specs.Places.{placed_by}
 use Rattle.go_model.specs.Records.{Headers}
-use Rattle.go_model.specs.Rules.{broken_names, broken_values}
+use Rattle.go_model.specs.Report.{VerdictData, refused, skipped, accepted, PackageReportData, ReportData}
+use Rattle.go_model.specs.Rules.{broken_values}
 use Rattle.go_model.specs.Waiting.{Chain}
-use Rattle.go_model.specs.FileLines.{lines_of}
-use Rattle.go_model.specs.Report.{Report, refused, refused_package, values_report}
-use Rattle.go_model.specs.Phases.{first_number, ValuesReport, PackageReport, by_names, by_values, ReportOf, too_long, no_tree, broken_form, read}
+use Rattle.go_model.specs.Names.BrokenNames.{broken_names}
+use Rattle.go_model.specs.Names.Imports.{known_in}
+use Rattle.go_model.specs.Phases.{HasHeaders, BreaksValues, IsVerdict, by_names, by_values, sound, is_accepted, imports_accepted, package_report, package_lines, known_after, AreReports, all_told, skips, checks, ReportOf}
 use Rattle.go_model.proofs.BrokenListLemmas.{one_list, none_of_none}
-use Rattle.go_model.proofs.WholeLemmas.{one_list_of_forms}
 
 same_option : (x y : Option ℤ) → ((h : ℤ) → x ≡ Some h → y ≡ Some h) → ((h : ℤ) → y ≡ Some h → x ≡ Some h) → x ≡ y
 same_option None None f g = refl
@@ -36,64 +32,69 @@ same_bool false false f g = refl
 no_list : (found : List Broken) (b : Broken) (bs : List Broken) → found ≡ [] → IsListOf found (b ∷ bs) → ⊥
 no_list found b bs e i = let none = none_of_none (b ∷ bs) (subst (λ (f : List Broken). IsListOf f (b ∷ bs)) e i) in cc none
 
-module _ (name : List ℕ) (constants : List Tree) where
-  -- constants have one report by their values at most
-  one_by_values : (a b : Report) → ValuesReport name constants a → ValuesReport name constants b → a ≡ b
-  one_by_values a b v w =
-      let headers : v.headers ≡ w.headers = fun_ext (λ d. same_option (v.headers d) (w.headers d) (λ h e. (w.known d h).1 ((v.known d h).0 e)) (λ h e. (v.known d h).1 ((w.known d h).0 e))) in
-      let over = subst (λ (hs : Headers). (d : ℕ) → (w.cyclic d ≡ true) ↔ Chain constants hs d d) (sym headers) w.is_cyclic in
-      let cyclic : v.cyclic ≡ w.cyclic = fun_ext (λ d. same_bool (v.cyclic d) (w.cyclic d) (λ e. (over d).1 ((v.is_cyclic d).0 e)) (λ e. (v.is_cyclic d).1 ((over d).0 e))) in
-      v.report_is
-      ∙ ap (λ (hs : Headers). values_report name (broken_values (names_of constants) hs v.cyclic 0 constants) (lines_of constants hs)) headers
-      ∙ ap (λ (c : ℕ → Bool). values_report name (broken_values (names_of constants) w.headers c 0 constants) (lines_of constants w.headers)) cyclic
-      ∙ sym w.report_is
+module _ (means : ℕ → Meaning) (constants : List Constant) where
+  -- there is one map of headers at most
+  one_map : (v w : Headers) (c d : ℕ → Bool) → HasHeaders means constants v c → HasHeaders means constants w d → v ≡ w
+  one_map v w c d has other = fun_ext (λ n. same_option (v n) (w n) (λ h e. (other.known n h).1 ((has.known n h).0 e)) (λ h e. (has.known n h).1 ((other.known n h).0 e)))
 
-  -- constants have one report at most
-  pub one_of_package : (a b : Report) → PackageReport name constants a → PackageReport name constants b → a ≡ b
-  one_of_package a b (by_names x xs i) (by_names y ys j) = let same = one_list (broken_names constants) (x ∷ xs) (y ∷ ys) i j in ap (refused_package name) same
-  one_of_package a b (by_names x xs i) (by_values r f w) = absurd (no_list (broken_names constants) x xs f i)
-  one_of_package a b (by_values r e v) (by_names y ys j) = absurd (no_list (broken_names constants) y ys e j)
-  one_of_package a b (by_values r e v) (by_values s f w) = one_by_values r s v w
+  one_mark : (v w : Headers) (c d : ℕ → Bool) → HasHeaders means constants v c → HasHeaders means constants w d → c ≡ d
+  one_mark v w c d has other =
+      let over = subst (λ (hs : Headers). (n : ℕ) → (d n ≡ true) ↔ Chain means constants hs n n) (sym (one_map v w c d has other)) other.is_cyclic in
+      fun_ext (λ n. same_bool (c n) (d n) (λ e. (over n).1 ((has.is_cyclic n).0 e)) (λ e. (has.is_cyclic n).1 ((over n).0 e)))
 
--- what breaks a rule is no want of memory
-some_fault : (fault : ParseFault) (b : Broken) → broken_by fault ≡ Some b → fault ≢ NoMemory
-some_fault fault b e = λ n. let none = sym (ap broken_by n) ∙ e in cc none
+module _ (m : ModuleData) (k : ℕ) (p : PackageData) (before : KnownValues) where
+  same_headers : (v w : Headers) (xs ys : List Broken) → BreaksValues m k p before v xs → BreaksValues m k p before w ys → v ≡ w
+  same_headers v w xs ys a b = one_map (meaning_in m k p before) (constants_of p) v w a.cyclic b.cyclic a.has_headers b.has_headers
 
-module _ (bytes : List ℕ) where
-  no_tree_beside : (tree : Tree) (fault : ParseFault) (b : Broken) → IsFileOf bytes first_number tree → IsFaultOf bytes fault → broken_by fault ≡ Some b → ⊥
-  no_tree_beside tree fault b i f e = file_or_fault_lem bytes first_number tree fault i f (some_fault fault b e)
+  same_values : (v w : Headers) (xs ys : List Broken) → BreaksValues m k p before v xs → BreaksValues m k p before w ys → xs ≡ ys
+  same_values v w xs ys a b =
+      let means = meaning_in m k p before in
+      let headers = same_headers v w xs ys a b in
+      let marks = one_mark means (constants_of p) v w a.cyclic b.cyclic a.has_headers b.has_headers in
+      let there : IsListOf (broken_values means v a.cyclic p) ys = subst (λ (c : ℕ → Bool). IsListOf (broken_values means v c p) ys) (sym marks) (subst (λ (hs : Headers). IsListOf (broken_values means hs b.cyclic p) ys) (sym headers) b.is_list) in
+      one_list (broken_values means v a.cyclic p) xs ys a.is_list there
 
-  one_broken : (f g : ParseFault) (b c : Broken) → IsFaultOf bytes f → IsFaultOf bytes g → broken_by f ≡ Some b → broken_by g ≡ Some c → refused (b ∷ []) ≡ refused (c ∷ [])
-  one_broken f g b c v w p q =
-      let same = one_fault_lem bytes f g v w (some_fault f b p) (some_fault g c q) in
-      let equal = sym p ∙ ap broken_by same ∙ q in
-      let one : b ≡ c = cc equal in
-      ap (λ (x : Broken). refused (x ∷ [])) one
+  -- a verdict and what is known behind it
+  record Given : Type 0 where
+    verdict : VerdictData
+    known : KnownValues
 
-  no_forms : (t : Tree) (b : Broken) (bs : List Broken) → AreBrokenForms Constants bytes t (b ∷ bs) → AreBrokenForms Constants bytes t [] → ⊥
-  no_forms t b bs some none = let same = one_list_of_forms Constants bytes t (b ∷ bs) [] some none in cc same
+  abbrev given : VerdictData → KnownValues → Given
+  given x after = record { verdict = x; known = after }
 
-  one_tree : (t u : Tree) → IsFileOf bytes first_number t → IsFileOf bytes first_number u → u ≡ t
-  one_tree t u i j = one_file_lem bytes first_number u t j i
+  abbrev sound_by : Headers → Given
+  sound_by v = given (accepted (package_lines m k p before v)) (known_after before (meaning_in m k p before) v (constants_of p))
 
-  -- a file has one report at most
-  pub one_report : (a b : Report) → ReportOf bytes a → ReportOf bytes b → a ≡ b
-  one_report a b (too_long x) (too_long y) = refl
-  one_report a b (too_long x) (no_tree g c y w q) = absurd (omega arith)
-  one_report a b (too_long x) (broken_form u c cs y j l) = absurd (omega arith)
-  one_report a b (too_long x) (read u s y j m q) = absurd (omega arith)
-  one_report a b (no_tree f d x v p) (too_long y) = absurd (omega arith)
-  one_report a b (no_tree f d x v p) (no_tree g c y w q) = one_broken f g d c v w p q
-  one_report a b (no_tree f d x v p) (broken_form u c cs y j l) = absurd (no_tree_beside u f d j v p)
-  one_report a b (no_tree f d x v p) (read u s y j m q) = absurd (no_tree_beside u f d j v p)
-  one_report a b (broken_form t d ds x i k) (too_long y) = absurd (omega arith)
-  one_report a b (broken_form t d ds x i k) (no_tree g c y w q) = absurd (no_tree_beside t g c i w q)
-  one_report a b (broken_form t d ds x i k) (broken_form u c cs y j l) =
-      let there = subst (λ (tree : Tree). AreBrokenForms Constants bytes tree (c ∷ cs)) (one_tree t u i j) l in
-      ap refused (one_list_of_forms Constants bytes t (d ∷ ds) (c ∷ cs) k there)
-  one_report a b (broken_form t d ds x i k) (read u s y j m q) = absurd (no_forms t d ds k (subst (λ (tree : Tree). AreBrokenForms Constants bytes tree []) (one_tree t u i j) m))
-  one_report a b (read t r x i n p) (too_long y) = absurd (omega arith)
-  one_report a b (read t r x i n p) (no_tree g c y w q) = absurd (no_tree_beside t g c i w q)
-  one_report a b (read t r x i n p) (broken_form u c cs y j l) = absurd (no_forms t c cs (subst (λ (tree : Tree). AreBrokenForms Constants bytes tree (c ∷ cs)) (one_tree t u i j) l) n)
-  one_report a b (read t r x i n p) (read u s y j m q) =
-      one_of_package (text_of (first_part t)) (constants_of t) r s p (subst (λ (tree : Tree). PackageReport (text_of (first_part tree)) (constants_of tree) s) (one_tree t u i j) q)
+  one_verdict : (x y : VerdictData) (after later : KnownValues) → IsVerdict m k p before x after → IsVerdict m k p before y later → given x after ≡ given y later
+  one_verdict x y after later (by_names b bs i) (by_names c cs j) = ap (λ list. given (refused (map (placed_by p) list)) before) (one_list (broken_names (known_in m) k p) (b ∷ bs) (c ∷ cs) i j)
+  one_verdict x y after later (by_names b bs i) (by_values w c cs j) = absurd (no_list (broken_names (known_in m) k p) b bs j.sound_names i)
+  one_verdict x y after later (by_names b bs i) (sound w j) = absurd (no_list (broken_names (known_in m) k p) b bs j.sound_names i)
+  one_verdict x y after later (by_values v b bs i) (by_names c cs j) = absurd (no_list (broken_names (known_in m) k p) c cs i.sound_names j)
+  one_verdict x y after later (by_values v b bs i) (by_values w c cs j) = ap (λ list. given (refused (map (placed_by p) list)) before) (same_values v w (b ∷ bs) (c ∷ cs) i j)
+  one_verdict x y after later (by_values v b bs i) (sound w j) = absurd (let same = same_values v w (b ∷ bs) [] i j in cc same)
+  one_verdict x y after later (sound v i) (by_names c cs j) = absurd (no_list (broken_names (known_in m) k p) c cs i.sound_names j)
+  one_verdict x y after later (sound v i) (by_values w c cs j) = absurd (let same = same_values v w [] (c ∷ cs) i j in cc same)
+  one_verdict x y after later (sound v i) (sound w j) = ap sound_by (same_headers v w [] [] i j)
+
+-- packages have one list of reports at most
+one_list_of_reports : (m : ModuleData) (k : ℕ) (marks : List Bool) (before : KnownValues) (ps : List PackageData) (left right : List PackageReportData) → AreReports m k marks before ps left → AreReports m k marks before ps right → left ≡ right
+one_list_of_reports m k marks before [] left right (all_told _ _ _) (all_told _ _ _) = refl
+one_list_of_reports m k marks before (p ∷ ps) left right (skips _ _ _ _ _ xs e rest) (skips _ _ _ _ _ ys f other) =
+    ap (λ rs. package_report p skipped ∷ rs) (one_list_of_reports m (k + 1) (marks ++ false ∷ []) before ps xs ys rest other)
+one_list_of_reports m k marks before (p ∷ ps) left right (skips _ _ _ _ _ xs e rest) (checks _ _ _ later w _ _ ys f j other) = cc (e, f)
+one_list_of_reports m k marks before (p ∷ ps) left right (checks _ _ _ after v _ _ xs e i rest) (skips _ _ _ _ _ ys f other) = cc (e, f)
+one_list_of_reports m k marks before (p ∷ ps) left right (checks _ _ _ after v _ _ xs e i rest) (checks _ _ _ later w _ _ ys f j other) =
+    let same = one_verdict m k p before v w after later i j in
+    let verdicts : v ≡ w = ap (λ (g : Given m k p before). g.verdict) same in
+    let there : AreReports m (k + 1) (marks ++ is_accepted v ∷ []) after ps ys = subst (λ (g : Given m k p before). AreReports m (k + 1) (marks ++ is_accepted g.verdict ∷ []) g.known ps ys) (sym same) other in
+    ap (λ x. package_report p x ∷ xs) verdicts
+    ∙ ap (λ rs. package_report p w ∷ rs) (one_list_of_reports m (k + 1) (marks ++ is_accepted v ∷ []) after ps xs ys rest there)
+
+-- a module has one report at most
+pub one_report : (m : ModuleData) (a b : ReportData) → ReportOf m a → ReportOf m b → a ≡ b
+one_report m a b i j =
+    let path : a.path ≡ b.path = i.path_is ∙ sym j.path_is in
+    let version : a.version ≡ b.version = i.version_is ∙ sym j.version_is in
+    let first : a.first ≡ b.first = i.first_is ∙ sym j.first_is in
+    let packages : a.packages ≡ b.packages = one_list_of_reports m 0 [] [] m.packages a.packages b.packages i.packages j.packages in
+    λ n. record { path = path n; version = version n; first = first n; packages = packages n }

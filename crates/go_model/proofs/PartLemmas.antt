@@ -5,7 +5,7 @@ use Rattle.go_tree.specs.declared.node.Node.{Node}
 use Rattle.go_tree.specs.Tree.{Tree, branch, no_trees, more_trees, trees_of, list_of, tree_of, parts_of}
 use Rattle.go_tree.proofs.TreeLemmas.{list_of-trees_of}
 use Rattle.go_model.specs.FormRules.Parts.{all_but_first}
-use Rattle.go_model.specs.Resolution.{first_part, last_of, last_part}
+use Rattle.go_model.specs.NodeParts.{first_part, last_of, last_part}
 
 -- the first and the last part
 

@@ -9,7 +9,7 @@ use Rattle.go_tree.specs.declared.token.TokenKind.TheVariants.{Text}
 use Rattle.go_tree.specs.LiteralValues.{string_lit_value}
 use Rattle.go_tree.specs.Scan.{IsNext}
 use Rattle.go_tree.specs.Tree.{Tree, branch, list_of, parts_of, start_of, text_of}
-use Rattle.go_model.specs.Resolution.{first_part, last_part}
+use Rattle.go_model.specs.NodeParts.{first_part, last_part}
 
 -- an import: the path that its string names, and the offset of the string
 pub record ImportSpec : Type 0 where

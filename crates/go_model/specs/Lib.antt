@@ -1,15 +1,18 @@
--- the report of a file
+-- the report of a module
 pub mod Phases
 pub mod Report
-pub mod FileLines
+pub mod PackageLines
+pub mod Places
 pub mod Text
 -- the form of a file
 pub mod Broken
 pub mod Fault
 pub mod FormRules
--- the constants of a file
+pub mod NodeParts
+-- the constants of a package
 pub mod Scopes
-pub mod Resolution
+pub mod Constants
+pub mod Meaning
 pub mod Records
 pub mod Headers
 pub mod Quests

@@ -1,48 +1,89 @@
--- The phases of the check of a file.
--- Decides which report a file has: the first phase that breaks a rule ends it. Text that is no file:
--- `Fault`; forms: `FormRules`; names and values: `Rules`; the lines of an accepted file: `FileLines`.
-use Rattle.std.specs.Prelude.{◌≡◌, ℕ, ℤ, ◌<◌, ◌≤◌, ◌↔◌, Bool, true, Some, List, [], ◌∷◌, length}
+-- The phases of the check of a module whose files are read; Package initialization (Go specification).
+-- Decides which report a module has. The packages are taken in import order; of each the first phase that
+-- breaks a rule ends it, names before values. What the phases before break: `Loading`; names: `Names`; values:
+-- `Rules`; the lines of an accepted package: `PackageLines`.
+use Rattle.std.specs.Prelude.{◌≡◌, ℕ, ℤ, ◌+◌, ◌↔◌, Bool, true, false, Some, List, [], ◌∷◌, ◌++◌, map}
+use Rattle.std.specs.List.{flat_map, list_all}
+use Rattle.std.specs.Map.{lookup}
+use Rattle.std.specs.Option.{option_map_or}
+use Rattle.indexmap.specs.IndexMap.{insert_all}
 use Rattle.go_base.specs.declared.rule.Broken.{Broken}
-use Rattle.go_tree.specs.Tree.{Tree, text_of}
-use Rattle.go_parse_x.specs.declared.fault.ParseFault.{ParseFault}
-use Rattle.go_parse_s.specs.Files.{IsFileOf, IsFaultOf}
-use Rattle.go_model.specs.declared.built.Built.TheVariants.{Constants}
-use Rattle.go_model.specs.Fault.{broken_by}
-use Rattle.go_model.specs.Broken.{broken_at}
+use Rattle.go_model.specs.declared.meaning.Meaning.{Meaning}
+use Rattle.go_model.specs.declared.object.ObjId.{ObjId}
+use Rattle.go_model.specs.declared.records.Line.{Line}
+use Rattle.go_model.specs.Constants.{Constant, constants_of, number_of}
 use Rattle.go_model.specs.FormRules.Order.{IsListOf}
-use Rattle.go_model.specs.FormRules.RuleNames.{unbuilt_form_rule}
-use Rattle.go_model.specs.FormRules.Whole.{AreBrokenForms}
-use Rattle.go_model.specs.Resolution.{first_part, constants_of, names_of}
-use Rattle.go_model.specs.Records.{Headers}
 use Rattle.go_model.specs.Headers.{Known}
+use Rattle.go_model.specs.Meaning.{KnownValues, meaning_in, uses_table}
+use Rattle.go_model.specs.Module.{ModuleData, PackageData}
+use Rattle.go_model.specs.PackageLines.{lines_of}
+use Rattle.go_model.specs.Packages.{is_marked}
+use Rattle.go_model.specs.Places.{placed_by}
+use Rattle.go_model.specs.Records.{Headers, value_over}
+use Rattle.go_model.specs.Report.{VerdictData, accepted, refused, skipped, PackageReportData, ReportData}
+use Rattle.go_model.specs.Rules.{broken_values}
+use Rattle.go_model.specs.Scopes.{same_node, same_object}
 use Rattle.go_model.specs.Waiting.{Chain}
-use Rattle.go_model.specs.Rules.{broken_names, broken_values}
-use Rattle.go_model.specs.Sources.{most_bytes}
-use Rattle.go_model.specs.FileLines.{lines_of}
-use Rattle.go_model.specs.Report.{Report, refused, refused_package, values_report}
+use Rattle.go_model.specs.Names.BrokenNames.{broken_names}
+use Rattle.go_model.specs.Names.Imports.{known_in}
 
--- the report by the values of the constants, over their known headers
-pub record ValuesReport (name : List ℕ) (constants : List Tree) (report : Report) : Type 0 where
-  pub headers : Headers
-  pub known : (d : ℕ) (h : ℤ) → (headers d ≡ Some h) ↔ Known constants d h
+-- the headers of a package's constants, and which of them wait for themselves
+pub record HasHeaders (means : ℕ → Meaning) (constants : List Constant) (headers : Headers) (cyclic : ℕ → Bool) : Type 0 where
+  pub known : (d : ℕ) (h : ℤ) → (headers d ≡ Some h) ↔ Known means constants d h
+  pub is_cyclic : (d : ℕ) → (cyclic d ≡ true) ↔ Chain means constants headers d d
+
+-- the values of a package's constants, behind those that were known before
+abbrev pub values_of : (ℕ → Meaning) → Headers → List Constant → List (ObjId × ℤ)
+values_of means headers constants = flat_map (λ constant. option_map_or (λ v. (number_of constant, v) ∷ []) (value_over means headers constant) []) constants
+
+abbrev pub known_after : KnownValues → (ℕ → Meaning) → Headers → List Constant → KnownValues
+known_after before means headers constants = insert_all same_object before (values_of means headers constants)
+
+-- what the values of a package break, as one list
+pub record BreaksValues (m : ModuleData) (k : ℕ) (p : PackageData) (before : KnownValues) (headers : Headers) (list : List Broken) : Type 0 where
+  pub sound_names : broken_names (known_in m) k p ≡ []
   pub cyclic : ℕ → Bool
-  pub is_cyclic : (d : ℕ) → (cyclic d ≡ true) ↔ Chain constants headers d d
-  pub report_is : report ≡ values_report name (broken_values (names_of constants) headers cyclic 0 constants) (lines_of constants headers)
+  pub has_headers : HasHeaders (meaning_in m k p before) (constants_of p) headers cyclic
+  pub is_list : IsListOf (broken_values (meaning_in m k p before) headers cyclic p) list
 
--- the report of the constants of a package: the first phase that breaks a rule ends it, names before
--- values
-pub data PackageReport (name : List ℕ) (constants : List Tree) : Report → Type 0 where
-  by_names : (b : Broken) (bs : List Broken) → IsListOf (broken_names constants) (b ∷ bs) → PackageReport name constants (refused_package name (b ∷ bs))
-  by_values : (report : Report) → broken_names constants ≡ [] → ValuesReport name constants report → PackageReport name constants report
+-- the lines of the package at a place, over these headers
+abbrev pub package_lines : ModuleData → ℕ → PackageData → KnownValues → Headers → List Line
+package_lines m k p before headers = lines_of m k p (λ id. lookup (same_node id) (uses_table m k p)) (meaning_in m k p before) headers
 
--- own: the number of the first node of a file; lower ones are those of predeclared identifiers
-abbrev pub first_number : ℕ
-first_number = 45
+-- the verdict on the package at a place, whose imports are accepted, and what is known behind it
+pub data IsVerdict (m : ModuleData) (k : ℕ) (p : PackageData) (before : KnownValues) : VerdictData → KnownValues → Type 0 where
+  by_names : (b : Broken) (bs : List Broken) → IsListOf (broken_names (known_in m) k p) (b ∷ bs)
+      → IsVerdict m k p before (refused (map (placed_by p) (b ∷ bs))) before
+  by_values : (headers : Headers) (b : Broken) (bs : List Broken) → BreaksValues m k p before headers (b ∷ bs)
+      → IsVerdict m k p before (refused (map (placed_by p) (b ∷ bs))) before
+  sound : (headers : Headers) → BreaksValues m k p before headers []
+      → IsVerdict m k p before (accepted (package_lines m k p before headers)) (known_after before (meaning_in m k p before) headers (constants_of p))
 
--- the report of a file: it is too long, or it has no tree, or its form breaks rules, or else it is that
--- of its package
-pub data ReportOf (bytes : List ℕ) : Report → Type 0 where
-  too_long : most_bytes < length bytes → ReportOf bytes (refused (broken_at 0 unbuilt_form_rule ∷ []))
-  no_tree : (fault : ParseFault) (b : Broken) → length bytes ≤ most_bytes → IsFaultOf bytes fault → broken_by fault ≡ Some b → ReportOf bytes (refused (b ∷ []))
-  broken_form : (tree : Tree) (b : Broken) (bs : List Broken) → length bytes ≤ most_bytes → IsFileOf bytes first_number tree → AreBrokenForms Constants bytes tree (b ∷ bs) → ReportOf bytes (refused (b ∷ bs))
-  read : (tree : Tree) (report : Report) → length bytes ≤ most_bytes → IsFileOf bytes first_number tree → AreBrokenForms Constants bytes tree [] → PackageReport (text_of (first_part tree)) (constants_of tree) report → ReportOf bytes report
+abbrev pub is_accepted : VerdictData → Bool
+is_accepted (accepted lines) = true
+is_accepted (refused list) = false
+is_accepted skipped = false
+
+abbrev pub imports_accepted : List Bool → PackageData → Bool
+imports_accepted marks p = list_all (is_marked marks) p.imports
+
+abbrev pub package_report : PackageData → VerdictData → PackageReportData
+package_report p verdict = record { path = p.path; name = p.name; verdict = verdict }
+
+-- the reports of packages, of which the first has the place k: the marks say which before it are accepted.
+-- A package is skipped where one that it imports is not
+pub data AreReports (m : ModuleData) : ℕ → List Bool → KnownValues → List PackageData → List PackageReportData → Type 0 where
+  all_told : (k : ℕ) (marks : List Bool) (before : KnownValues) → AreReports m k marks before [] []
+  skips : (k : ℕ) (marks : List Bool) (before : KnownValues) (p : PackageData) (ps : List PackageData) (rs : List PackageReportData)
+      → imports_accepted marks p ≡ false → AreReports m (k + 1) (marks ++ false ∷ []) before ps rs
+      → AreReports m k marks before (p ∷ ps) (package_report p skipped ∷ rs)
+  checks : (k : ℕ) (marks : List Bool) (before after : KnownValues) (verdict : VerdictData) (p : PackageData) (ps : List PackageData) (rs : List PackageReportData)
+      → imports_accepted marks p ≡ true → IsVerdict m k p before verdict after → AreReports m (k + 1) (marks ++ is_accepted verdict ∷ []) after ps rs
+      → AreReports m k marks before (p ∷ ps) (package_report p verdict ∷ rs)
+
+-- the report of a module whose files break no rule of the phases before
+pub record ReportOf (m : ModuleData) (report : ReportData) : Type 0 where
+  pub path_is : report.path ≡ m.path
+  pub version_is : report.version ≡ m.version
+  pub first_is : report.first ≡ []
+  pub packages : AreReports m 0 [] [] m.packages report.packages

@@ -1,19 +1,40 @@
--- The report of a file.
--- Says what a report has. Which report a file has: `Phases`. How it reads: `Text`.
-use Rattle.std.specs.Prelude.{ℕ, List, [], ◌∷◌}
-use Rattle.go_base.specs.declared.rule.Broken.{Broken}
-use Rattle.go_model.specs.declared.file_lines.FileLine.{FileLine}
+-- The report of a module.
+-- Says what a report has. Which report a module has: `Phases`. How it reads: `Text`.
+use Rattle.std.specs.Prelude.{ℕ, List, map}
+use Rattle.go_model.specs.declared.records.Line.{Line}
+use Rattle.go_model.specs.declared.report.PackageReport.{PackageReport}
+use Rattle.go_model.specs.declared.report.Placed.{Placed}
+use Rattle.go_model.specs.declared.report.Report.{Report}
+use Rattle.go_model.specs.declared.report.Verdict.{Verdict}
+use Rattle.go_model.specs.declared.report.Verdict.TheVariants.{Accepted, Refused, Skipped}
 
--- what a run tells of a file
-pub data Report : Type 0 where
-  -- the package's name, and the lines behind its own
-  accepted : List ℕ → List FileLine → Report
-  -- the broken rules of the file
-  refused : List Broken → Report
-  -- the package's name, and the broken rules of its constants
-  refused_package : List ℕ → List Broken → Report
+-- what is said of a package: its lines; the rules that it breaks; or nothing, since a package that it imports
+-- is not accepted
+pub data VerdictData : Type 0 where
+  accepted : List Line → VerdictData
+  refused : List Placed → VerdictData
+  skipped : VerdictData
 
--- by the rules that the values break, and the lines
-abbrev pub values_report : List ℕ → List Broken → List FileLine → Report
-values_report name [] lines = accepted name lines
-values_report name (b ∷ bs) lines = refused_package name (b ∷ bs)
+pub record PackageReportData : Type 0 where
+  pub path : List ℕ
+  pub name : List ℕ
+  pub verdict : VerdictData
+
+-- the rules of the phases before packages are checked, or else a report of each package
+pub record ReportData : Type 0 where
+  pub path : List ℕ
+  pub version : ℕ
+  pub first : List Placed
+  pub packages : List PackageReportData
+
+-- what the reports of the program stand for
+abbrev pub verdict_view : Verdict → VerdictData
+verdict_view (Accepted records) = accepted records.lines.items
+verdict_view (Refused list) = refused list.items
+verdict_view Skipped = skipped
+
+abbrev pub package_view : PackageReport → PackageReportData
+package_view p = record { path = p.path; name = p.name; verdict = verdict_view p.verdict }
+
+abbrev pub report_view : Report → ReportData
+report_view r = record { path = r.path; version = r.version; first = r.first.items; packages = map package_view r.packages.items }

@@ -1,18 +1,22 @@
--- The rules that a file can break.
--- Decides where the constants of a file break them, one definition a rule, in the order of the table of
--- rules: P4, P7, C1, L2. Which constant waits for which: `Waiting`. Files without a tree: `Fault`; the
--- form of a file: `FormRules`.
-use Rattle.std.specs.Prelude.{ℕ, ◌+◌, nat_lt, Bool, true, false, if◌then◌else◌, Option, Some, None, List, [], ◌∷◌, ◌++◌}
-use Rattle.std.specs.List.{flat_map, count_by}
+-- The rules that the values of constants can break.
+-- Decides where the constants of a package break them, one definition a rule: C1, R37, U0, L2. Which constant
+-- waits for which: `Waiting`. Rules on names: `Names`; the form of a file: `FormRules`.
+use Rattle.std.specs.Prelude.{ℕ, ◌+◌, ◌==◌, ◌&&◌, Bool, true, false, not, is_some, Option, Some, None, List, [], ◌∷◌, ◌++◌, length}
+use Rattle.std.specs.List.{flat_map, list_all}
 use Rattle.go_base.specs.declared.rule.Broken.{Broken}
 use Rattle.go_base.specs.declared.rule.Rule.{Rule}
-use Rattle.go_base.specs.declared.rule.Family.TheVariants.{P, C, L}
-use Rattle.go_tree.specs.declared.node_kind.NodeKind.TheVariants.{Name}
-use Rattle.go_tree.specs.Tree.{Tree, branch, Trees, no_trees, more_trees, start_of, text_of}
-use Rattle.go_model.specs.Broken.{broken_at}
-use Rattle.go_model.specs.Resolution.{name_of, value_of, names_of, same_text, resolve}
-use Rattle.go_model.specs.Records.{Headers}
+use Rattle.go_base.specs.declared.rule.Family.TheVariants.{P, C, R, L}
+use Rattle.go_tree.specs.declared.node_kind.NodeKind.{NodeKind}
+use Rattle.go_tree.specs.declared.node_kind.NodeKind.TheVariants.{IntLit, AddExpr, SelectorExpr}
+use Rattle.go_tree.specs.Tree.{Tree, branch, Trees, no_trees, more_trees, start_of}
+use Rattle.go_model.specs.declared.meaning.Meaning.{Meaning}
+use Rattle.go_model.specs.BrokenImports.{broken_at, told_if}
+use Rattle.go_model.specs.Constants.{Constant, constants_of, values_in_spec}
+use Rattle.go_model.specs.FormRules.RuleNames.{unbuilt_form_rule}
+use Rattle.go_model.specs.Module.{FileData, PackageData}
+use Rattle.go_model.specs.Names.Constants.{const_specs, names_in_spec}
 use Rattle.go_model.specs.Quests.{Asked, Decided, Lacks}
+use Rattle.go_model.specs.Records.{Headers, record_of}
 use Rattle.go_model.specs.Tests.{asked_of}
 
 abbrev pub repeated_name : Rule
@@ -24,62 +28,62 @@ undeclared_name = record { family = P; number = 7 }
 abbrev pub cyclic_declaration : Rule
 cyclic_declaration = record { family = C; number = 1 }
 
+abbrev pub unequal_sides : Rule
+unequal_sides = record { family = R; number = 37 }
+
 abbrev pub wide_integer : Rule
 wide_integer = record { family = L; number = 2 }
 
--- P4: the name of each constant whose name several constants have. "No identifier may be declared twice
--- in the same block"
-abbrev pub is_repeated : List (List ℕ) → List ℕ → Bool
-is_repeated names name = nat_lt 1 (count_by (same_text name) names)
-
-abbrev pub repeated_at : List (List ℕ) → Tree → List Broken
-repeated_at names name = if is_repeated names (text_of name) then broken_at (start_of name) repeated_name ∷ [] else []
-
-abbrev pub repeated : List Tree → List Broken
-repeated constants = flat_map (λ spec. repeated_at (names_of constants) (name_of spec)) constants
-
--- P7: each identifier that denotes nothing
-abbrev pub undeclared_at : ℕ → Option ℕ → List Broken
-undeclared_at from None = broken_at from undeclared_name ∷ []
-undeclared_at from (Some d) = []
-
-abbrev mutual
-  pub undeclared_in : List (List ℕ) → Tree → List Broken
-  undeclared_in names (branch id from to Name text parts) = undeclared_at from (resolve names text)
-  undeclared_in names (branch id from to kind text parts) = undeclared_among names parts
-
-  pub undeclared_among : List (List ℕ) → Trees → List Broken
-  undeclared_among names no_trees = []
-  undeclared_among names (more_trees t ts) = undeclared_in names t ++ undeclared_among names ts
-
-abbrev pub undeclared : List Tree → List Broken
-undeclared constants = flat_map (λ spec. undeclared_in (names_of constants) (value_of spec)) constants
-
--- the rules that the constants break by their names
-abbrev pub broken_names : List Tree → List Broken
-broken_names constants = repeated constants ++ undeclared constants
-
 -- C1: the name of a constant whose declaration needs its own header
-abbrev pub cyclic_at : Bool → Tree → List Broken
-cyclic_at true spec = broken_at (start_of (name_of spec)) cyclic_declaration ∷ []
-cyclic_at false spec = []
+abbrev pub cyclic_at : Bool → Constant → List Broken
+cyclic_at cyclic constant = told_if cyclic (broken_at constant.file (start_of constant.name) cyclic_declaration)
 
--- L2: each literal and each sum whose value is outside -2^127 to 2^127-1
-abbrev pub wide_at : ℕ → Option (Asked Bool) → List Broken
-wide_at from None = []
-wide_at from (Some (Lacks d)) = []
-wide_at from (Some (Decided true)) = []
-wide_at from (Some (Decided false)) = broken_at from wide_integer ∷ []
+-- the constants from the one at the place d on
+abbrev pub broken_cycles : (ℕ → Bool) → ℕ → List Constant → List Broken
+broken_cycles cyclic d [] = []
+broken_cycles cyclic d (constant ∷ constants) = cyclic_at (cyclic d) constant ++ broken_cycles cyclic (d + 1) constants
+
+-- the rule that the test at a node of this kind decides. L2: each literal and each sum whose value is outside
+-- -2^127 to 2^127-1. U0: each predeclared identifier, and each selector of a value
+abbrev pub rule_at : NodeKind → Rule
+rule_at IntLit = wide_integer
+rule_at AddExpr = wide_integer
+rule_at kind = unbuilt_form_rule
+
+abbrev pub told_at : ℕ → ℕ → Rule → Option (Asked Bool) → List Broken
+told_at file from rule None = []
+told_at file from rule (Some (Lacks d)) = []
+told_at file from rule (Some (Decided true)) = []
+told_at file from rule (Some (Decided false)) = broken_at file from rule ∷ []
 
 abbrev mutual
-  pub wide_in : List (List ℕ) → Headers → Tree → List Broken
-  wide_in names headers (branch id from to kind text parts) = wide_among names headers parts ++ wide_at from (asked_of names headers (branch id from to kind text parts))
+  pub broken_in : ℕ → (ℕ → Meaning) → Headers → Tree → List Broken
+  broken_in file means headers (branch id from to SelectorExpr text (more_trees operand (more_trees name no_trees))) =
+      broken_in file means headers operand
+      ++ told_at file from (rule_at SelectorExpr) (asked_of means headers (branch id from to SelectorExpr text (more_trees operand (more_trees name no_trees))))
+  broken_in file means headers (branch id from to kind text parts) =
+      broken_among file means headers parts ++ told_at file from (rule_at kind) (asked_of means headers (branch id from to kind text parts))
 
-  pub wide_among : List (List ℕ) → Headers → Trees → List Broken
-  wide_among names headers no_trees = []
-  wide_among names headers (more_trees t ts) = wide_in names headers t ++ wide_among names headers ts
+  pub broken_among : ℕ → (ℕ → Meaning) → Headers → Trees → List Broken
+  broken_among file means headers no_trees = []
+  broken_among file means headers (more_trees t ts) = broken_in file means headers t ++ broken_among file means headers ts
 
--- the rules that the constants break by their values, from the constant d on
-abbrev pub broken_values : List (List ℕ) → Headers → (ℕ → Bool) → ℕ → List Tree → List Broken
-broken_values names headers cyclic d [] = []
-broken_values names headers cyclic d (spec ∷ specs) = cyclic_at (cyclic d) spec ++ (wide_in names headers (value_of spec) ++ broken_values names headers cyclic (d + 1) specs)
+-- R37: the spec whose numbers of names and of expressions differ, where all its expressions have records
+abbrev pub are_unequal : (ℕ → Meaning) → Headers → List Tree → List Tree → Bool
+are_unequal means headers names values = not (length names == length values) && list_all (λ value. is_some (record_of means headers value)) values
+
+abbrev pub unequal_at : ℕ → (ℕ → Meaning) → Headers → Tree → List Broken
+unequal_at file means headers spec = told_if (are_unequal means headers (names_in_spec spec) (values_in_spec spec)) (broken_at file (start_of spec) unequal_sides)
+
+-- what a spec breaks
+abbrev pub broken_spec : ℕ → (ℕ → Meaning) → Headers → Tree → List Broken
+broken_spec file means headers spec = unequal_at file means headers spec ++ flat_map (broken_in file means headers) (values_in_spec spec)
+
+-- what the specs of these files break, of which the first has this place
+abbrev pub broken_specs : ℕ → (ℕ → Meaning) → Headers → List FileData → List Broken
+broken_specs file means headers [] = []
+broken_specs file means headers (f ∷ files) = flat_map (broken_spec file means headers) (const_specs f.tree) ++ broken_specs (file + 1) means headers files
+
+-- what the values of a package break, in any order
+abbrev pub broken_values : (ℕ → Meaning) → Headers → (ℕ → Bool) → PackageData → List Broken
+broken_values means headers cyclic p = broken_cycles cyclic 0 (constants_of p) ++ broken_specs 0 means headers p.files

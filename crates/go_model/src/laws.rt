@@ -1,11 +1,14 @@
-// Laws of the maps of headers, which hold of every map, and of the report of a file: each is the
+// Laws of the maps of headers, which hold of every map, and of the report of a module: each is the
 // contract of a function that does nothing.
 ghost use Rattle.std.specs.Prelude.{◌≡◌, ℕ, List, Option};
 ghost use Rattle.go_tree.specs.Tree.{Tree};
 ghost use Rattle.go_model.specs.Quests.{IsPart, Quest, Stays, run};
+ghost use Rattle.go_model.specs.declared.meaning.Meaning.{Meaning};
+ghost use Rattle.go_model.specs.Constants.{Constant};
+ghost use Rattle.go_model.specs.Module.{ModuleData};
 ghost use Rattle.go_model.specs.Records.{Headers};
 ghost use Rattle.go_model.specs.Phases.{ReportOf};
-ghost use Rattle.go_model.specs.Report.{Report};
+ghost use Rattle.go_model.specs.Report.{ReportData};
 ghost use Rattle.go_model.specs.Laws.{TestStays, RecordsStay, OneHeader};
 
 /// A question that is decided over some headers is decided alike over more, and one that lacks a
@@ -18,22 +21,22 @@ pub fn decided_stays<H, A>()
 /// A test at a node that is asked over some headers is asked alike over more: one that is decided is
 /// decided alike, and one that lacks a header lacks it as long as it is missing.
 pub fn tests_stay()
-    ensures { (names : List (List ℕ)) (known more : Headers) → IsPart known more
-        → (t : Tree) → TestStays names known more t }
+    ensures { (means : ℕ → Meaning) (known more : Headers) → IsPart known more
+        → (t : Tree) → TestStays means known more t }
 {}
 
 /// A record over some headers is the record over more.
 pub fn records_stay()
-    ensures { (names : List (List ℕ)) (known more : Headers) → IsPart known more
-        → RecordsStay names known more }
+    ensures { (means : ℕ → Meaning) (known more : Headers) → IsPart known more
+        → RecordsStay means known more }
 {}
 
 /// A constant has at most one header.
 pub fn one_header()
-    ensures { (constants : List Tree) → OneHeader constants }
+    ensures { (means : ℕ → Meaning) (constants : List Constant) → OneHeader means constants }
 {}
 
-/// A file has at most one report.
+/// A module has at most one report.
 pub fn one_report()
-    ensures { (bytes : List ℕ) (a b : Report) → ReportOf bytes a → ReportOf bytes b → a ≡ b }
+    ensures { (m : ModuleData) (a b : ReportData) → ReportOf m a → ReportOf m b → a ≡ b }
 {}

@@ -31,12 +31,12 @@ mod text_names;
 
 // What is known of declarations and expressions.
 mod header;
+mod meaning;
 mod outcome;
 mod rec;
 
 // Reports.
 mod broken_places;
-mod file_lines;
 mod order;
 mod records;
 mod report;
@@ -52,10 +52,10 @@ mod scopes_tests;
 pub use block::{Block, Import, Occurrence, Region, Selected};
 pub use broken_places::{add_if, broken_at};
 pub use built::Built;
-pub use file_lines::FileLine;
 pub use form_laws::{one_list, one_list_of_forms};
 pub use header::{Header, Method};
 pub use laws::{decided_stays, one_header, one_report, records_stay, tests_stay};
+pub use meaning::Meaning;
 pub use module::{Module, Package, SourceFile};
 pub use node_parts::{all_but_first, part_list, three_parts};
 pub use object::{ObjId, ObjKind, Object};

@@ -1,14 +1,14 @@
 // The first and the last part of a node.
 ghost use Rattle.std.specs.Prelude.{◌≡◌};
 ghost use Rattle.go_tree.specs.Tree.{tree_of};
-ghost use Rattle.go_model.specs.Resolution as resolution;
+ghost use Rattle.go_model.specs.NodeParts as spec;
 
 use go_tree::Node;
 
 /// The first part of a node, or the node itself where it has none.
 #[tactic(auto, using(crate::proofs::PartLemmas::part_lemmas))]
 pub fn first_part(node: &Node) -> &Node
-    ensures { tree_of result.now ≡ resolution.first_part (tree_of node.now) }
+    ensures { tree_of result.now ≡ spec.first_part (tree_of node.now) }
 {
     match node.parts() {
         [first, ..] => first,
@@ -19,7 +19,7 @@ pub fn first_part(node: &Node) -> &Node
 /// The last part of a node, or the node itself where it has none.
 #[tactic(auto, using(crate::proofs::PartLemmas::part_lemmas))]
 pub fn last_part(node: &Node) -> &Node
-    ensures { tree_of result.now ≡ resolution.last_part (tree_of node.now) }
+    ensures { tree_of result.now ≡ spec.last_part (tree_of node.now) }
 {
     match node.parts() {
         [.., last] => last,

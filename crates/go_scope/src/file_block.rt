@@ -1,8 +1,6 @@
 // The blocks of the files of a package (Go specification, "Import declarations").
 ghost use Rattle.std.specs.Prelude.{◌≡◌, ◌++◌, IfOk, OnOk, map, take, drop, length};
 ghost use Rattle.std.specs.List.{flat_map};
-ghost use Rattle.go_tree.specs.Tree.{tree_of};
-ghost use Rattle.go_model.specs.Heads as heads;
 ghost use Rattle.go_model.specs.Module.{file_view};
 ghost use Rattle.go_model.specs.Names.Imports as rule;
 ghost use Rattle.go_scope.specs.Blocks.{block_data, block_of, trees_at};
@@ -10,9 +8,10 @@ ghost use Rattle.go_scope.specs.Known.{known_by};
 
 use crate::imports::{ImportAt, add_import, add_import_regions};
 use crate::known::Known;
+use crate::spec_lists::import_specs;
 use go_base::NoMemory;
-use go_model::{Import, Region, SourceFile, part_list};
-use go_tree::{Node, NodeKind};
+use go_model::{Import, Region, SourceFile};
+use go_tree::Node;
 use std::alloc::Global;
 
 /// The block of a file: its regions, and its imports that declare names.
@@ -72,8 +71,8 @@ fn file_block(
     Ok(FileBlock { regions, imports })
 }
 
-// The first entries of a list, or all where it has fewer.
-fn front(list: &[usize], count: usize) -> &[usize]
+/// The first entries of a list, or all where it has fewer.
+pub fn front(list: &[usize], count: usize) -> &[usize]
     ensures { result.now ≡ take count list.now }
 {
     if count < list.len() {
@@ -83,8 +82,8 @@ fn front(list: &[usize], count: usize) -> &[usize]
     }
 }
 
-// The entries of a list behind the first.
-fn behind(list: &[usize], count: usize) -> &[usize]
+/// The entries of a list behind the first.
+pub fn behind(list: &[usize], count: usize) -> &[usize]
     ensures { result.now ≡ drop count list.now }
 {
     if count < list.len() {
@@ -92,36 +91,4 @@ fn behind(list: &[usize], count: usize) -> &[usize]
     } else {
         &[]
     }
-}
-
-// The import specs of a file, in source order.
-fn import_specs<'a>(alloc: Global, root: &'a Node) -> Result<Vec<&'a Node>, NoMemory>
-    ensures { IfOk result (λ specs. trees_at specs.items ≡ heads.import_specs (tree_of root.now)) }
-{
-    let mut specs = Vec::new(alloc);
-    for declaration in part_list(root) {
-        push_specs(&mut specs, declaration)?;
-    }
-    Ok(specs)
-}
-
-// Pushes the import specs of a declaration.
-fn push_specs<'a>(specs: &mut Vec<&'a Node>, declaration: &'a Node) -> Result<(), NoMemory>
-    ensures { OnOk result (trees_at specs.new.items
-        ≡ trees_at specs.old.items ++ heads.specs_in (tree_of declaration.now)) }
-{
-    match declaration.kind() {
-        NodeKind::ImportDecl => push_all(specs, part_list(declaration)),
-        NodeKind::ImportGroup => push_all(specs, part_list(declaration)),
-        _ => Ok(()),
-    }
-}
-
-fn push_all<'a>(list: &mut Vec<&'a Node>, nodes: &'a [Node]) -> Result<(), NoMemory>
-    ensures { OnOk result (trees_at list.new.items ≡ trees_at list.old.items ++ map tree_of nodes.now) }
-{
-    for node in nodes {
-        list.push(node)?;
-    }
-    Ok(())
 }

@@ -2,3 +2,4 @@ pub mod FieldLemmas
 pub mod RunLemmas
 pub mod ScopeLemmas
 pub mod TextLemmas
+pub mod VerdictLemmas

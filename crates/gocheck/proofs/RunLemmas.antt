@@ -1,23 +1,23 @@
--- Lemmas on what a run writes.
-use Rattle.std.proofs.Common.{◌≡◌, ℕ, List, Option, sym, ◌∙◌, subst, inr}
+-- Lemmas on the text and the status of a run.
+use Rattle.std.proofs.Common.{ℕ, List, Option, sym, subst}
 use Rattle.go_base.specs.declared.status.Status.{Status}
-use Rattle.go_base.specs.declared.status.Status.TheVariants.{WriteFault, NoMemory}
-use Rattle.go_base.specs.Status.{IsReport}
-use Rattle.go_base.specs.Sink.{Adds, AddsPrefix}
-use Rattle.gocheck.specs.Headline.{IsReportText, WritesReport, WritesFront}
+use Rattle.go_base.specs.declared.tree.MemFile.{MemFile}
+use Rattle.go_model.specs.declared.report.Placed.{Placed}
+use Rattle.go_model.specs.Loading.{LoadsBroken, LoadsModule}
+use Rattle.go_model.specs.Module.{ModuleData}
+use Rattle.gocheck.specs.Headline.{RunOf, first, whole, refusal_of, verdict_of, IsRunText}
+use Rattle.gocheck.specs.Runs.{IsFirst, IsWhole}
+use Rattle.gocheck.specs.Words.{Roots}
 
-pub no_report-WriteFault : (s : Status) → s ≡ WriteFault → IsReport s → ⊥
-no_report-WriteFault s e r = subst IsReport e r
+-- a run that ends before packages are checked, and one that checks them
+pub first_run : (told : Option (List MemFile)) (roots : Roots) (list : List Placed) (text : List ℕ) (status : Status) → LoadsBroken told roots.root roots.stubs list → IsFirst list text status → IsRunText told roots text status
+first_run told roots list text status loads is = record {
+  is_run = subst (λ (s : Status). RunOf told roots text s) (sym is.status_is) (subst (λ (t : List ℕ). RunOf told roots t (refusal_of list)) (sym is.text_is) (first list loads));
+  is_verdict = is.is_verdict;
+}
 
-pub no_report-NoMemory : (s : Status) → s ≡ NoMemory → IsReport s → ⊥
-no_report-NoMemory s e r = subst IsReport e r
-
--- the whole text is written
-pub writes : (bytes text : List ℕ) (verdict status : Status) (old new : Option (List ℕ)) → IsReportText bytes text verdict → status ≡ verdict → Adds old new text → WritesReport bytes status old new
-writes bytes text verdict status old new made same adds =
-    record { report = made.report; is_report = made.is_report; verdict = same ∙ made.verdict; text = subst (Adds old new) made.text_is adds }
-
--- a front of the text is written
-pub writes_front : (bytes text : List ℕ) (verdict : Status) (old new : Option (List ℕ)) → IsReportText bytes text verdict → AddsPrefix old new text → WritesFront bytes old new
-writes_front bytes text verdict old new made adds =
-    record { text = adds.front; front = inr (record { report = made.report; is_report = made.is_report; back = adds.back; whole = sym made.text_is ∙ adds.whole }); adds = adds.adds }
+pub whole_run : (told : Option (List MemFile)) (roots : Roots) (m : ModuleData) (text : List ℕ) (status : Status) → LoadsModule told roots.root roots.stubs m → IsWhole m text status → IsRunText told roots text status
+whole_run told roots m text status loads is = record {
+  is_run = subst (λ (s : Status). RunOf told roots text s) (sym is.status_is) (subst (λ (t : List ℕ). RunOf told roots t (verdict_of is.report)) (sym is.text_is) (whole m is.report loads is.is_report));
+  is_verdict = is.is_verdict;
+}

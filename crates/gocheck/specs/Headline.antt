@@ -1,25 +1,22 @@
 -- What a run writes.
--- Decides, for the words and for a tree that tells its files, the text that a run adds to its sink
--- and the status that it ends with.
-use Rattle.std.specs.Prelude.{◌≡◌, ℕ, ◌+◌, ◌⊎◌, Bool, true, false, if◌then◌else◌, List, [], ◌++◌, Option, take, codes}
-use Rattle.std.specs.List.{list_any}
-use Rattle.go_base.specs.declared.rule.Broken.{Broken}
+-- Decides, for the roots that the words name and for a tree, the text that a run adds to its sink and the status
+-- that it ends with.
+use Rattle.std.specs.Prelude.{◌≡◌, ℕ, ◌⊎◌, Bool, true, false, if◌then◌else◌, List, [], ◌++◌, Option}
+use Rattle.std.specs.List.{list_all, list_any}
 use Rattle.go_base.specs.declared.rule.Family.{Family}
 use Rattle.go_base.specs.declared.rule.Family.TheVariants.{U, L}
 use Rattle.go_base.specs.declared.status.Status.{Status}
 use Rattle.go_base.specs.declared.status.Status.TheVariants.{Accepted, Refused, Beyond}
 use Rattle.go_base.specs.declared.tree.MemFile.{MemFile}
 use Rattle.go_base.specs.Status.{IsReport}
-use Rattle.go_base.specs.Tree.{bytes_of}
 use Rattle.go_base.specs.Sink.{Adds}
-use Rattle.go_model.specs.Sources.{most_bytes}
-use Rattle.go_model.specs.Report.{Report, accepted, refused, refused_package}
-use Rattle.go_model.specs.Phases.{ReportOf}
-use Rattle.go_model.specs.Text.Lines.{report_text}
-
--- own: one byte more than a file may have is read, so that a longer file shows
-abbrev pub source_of : List MemFile → List ℕ → List ℕ
-source_of files root = take (most_bytes + 1) (bytes_of files root (codes "a.go"))
+use Rattle.go_model.specs.declared.report.Placed.{Placed}
+use Rattle.go_model.specs.Loading.{LoadsBroken, LoadsModule}
+use Rattle.go_model.specs.Module.{ModuleData}
+use Rattle.go_model.specs.Phases.{ReportOf, is_accepted}
+use Rattle.go_model.specs.Report.{VerdictData, accepted, refused, skipped, ReportData}
+use Rattle.go_model.specs.Text.Lines.{first_text, report_text}
+use Rattle.gocheck.specs.Words.{Roots}
 
 -- a rule on forms outside the language that is checked, or a limit
 abbrev pub is_beyond : Family → Bool
@@ -27,39 +24,52 @@ is_beyond U = true
 is_beyond L = true
 is_beyond _ = false
 
-abbrev pub refusal_of : List Broken → Status
-refusal_of list = if list_any (λ broken. is_beyond broken.rule.family) list then Beyond else Refused
+abbrev pub has_beyond : List Placed → Bool
+has_beyond list = list_any (λ placed. is_beyond placed.rule.family) list
 
--- the status that a report ends a run with
-abbrev pub verdict_of : Report → Status
-verdict_of (accepted name lines) = Accepted
-verdict_of (refused list) = refusal_of list
-verdict_of (refused_package name list) = refusal_of list
+-- the status that rules end a run with which are broken before packages are checked
+abbrev pub refusal_of : List Placed → Status
+refusal_of list = if has_beyond list then Beyond else Refused
 
--- the text is that of the report of the file, and the status is its verdict
-pub record IsReportText (bytes text : List ℕ) (status : Status) : Type 0 where
-  pub report : Report
-  pub is_report : ReportOf bytes report
-  pub text_is : text ≡ report_text bytes report
-  pub verdict : status ≡ verdict_of report
+-- the rules that a package breaks
+abbrev pub broken_in : VerdictData → List Placed
+broken_in (accepted lines) = []
+broken_in (refused list) = list
+broken_in skipped = []
+
+-- the status that the report of a module ends a run with
+abbrev pub verdict_of : ReportData → Status
+verdict_of report =
+    if list_any (λ p. has_beyond (broken_in p.verdict)) report.packages then Beyond
+    else if list_all (λ p. is_accepted p.verdict) report.packages then Accepted else Refused
+
+-- the text and the status of a run: those of the rules of the first phase of loading that breaks any, or else
+-- those of the report of the module that is loaded
+pub data RunOf (told : Option (List MemFile)) (roots : Roots) : List ℕ → Status → Type 0 where
+  first : (list : List Placed) → LoadsBroken told roots.root roots.stubs list
+      → RunOf told roots (first_text list) (refusal_of list)
+  whole : (m : ModuleData) (report : ReportData) → LoadsModule told roots.root roots.stubs m → ReportOf m report
+      → RunOf told roots (report_text report) (verdict_of report)
+
+-- the text and the status of a run, which is one after which a report was written
+pub record IsRunText (told : Option (List MemFile)) (roots : Roots) (text : List ℕ) (status : Status) : Type 0 where
+  pub is_run : RunOf told roots text status
   pub is_verdict : IsReport status
 
--- the report of the file was written whole, and the status is its verdict
-pub record WritesReport (bytes : List ℕ) (status : Status) (old new : Option (List ℕ)) : Type 0 where
-  pub report : Report
-  pub is_report : ReportOf bytes report
-  pub verdict : status ≡ verdict_of report
-  pub text : Adds old new (report_text bytes report)
-
--- the text is a front of the report of the file
-pub record IsReportFront (bytes text : List ℕ) : Type 0 where
-  pub report : Report
-  pub is_report : ReportOf bytes report
-  pub back : List ℕ
-  pub whole : report_text bytes report ≡ text ++ back
-
--- nothing was written, or a front of the report of the file
-pub record WritesFront (bytes : List ℕ) (old new : Option (List ℕ)) : Type 0 where
+-- the text of the run was written whole, and it ends with this status
+pub record WritesReport (told : Option (List MemFile)) (roots : Roots) (status : Status) (old new : Option (List ℕ)) : Type 0 where
   pub text : List ℕ
-  pub front : (text ≡ []) ⊎ IsReportFront bytes text
+  pub is_run : RunOf told roots text status
+  pub adds : Adds old new text
+
+-- the text is a front of that of the run
+pub record IsReportFront (told : Option (List MemFile)) (roots : Roots) (text : List ℕ) : Type 0 where
+  pub back : List ℕ
+  pub status : Status
+  pub is_run : RunOf told roots (text ++ back) status
+
+-- nothing was written, or a front of the text of the run
+pub record WritesFront (told : Option (List MemFile)) (roots : Roots) (old new : Option (List ℕ)) : Type 0 where
+  pub text : List ℕ
+  pub front : (text ≡ []) ⊎ IsReportFront told roots text
   pub adds : Adds old new text

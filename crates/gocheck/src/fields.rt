@@ -14,7 +14,8 @@ pub fn put_line(out: &mut Vec<u8>, fields: &[&[u8]]) -> Result<(), AllocError>
     Ok(())
 }
 
-fn put_fields(out: &mut Vec<u8>, fields: &[&[u8]]) -> Result<(), AllocError>
+/// Appends fields, which a tab joins.
+pub fn put_fields(out: &mut Vec<u8>, fields: &[&[u8]]) -> Result<(), AllocError>
     ensures { OnOk result (out.new.items ≡ out.old.items ++ join_with_byte 9 (map (λ field. field.now) fields.now)) }
 {
     let Some((first, others)) = fields.split_first() else {
@@ -27,7 +28,8 @@ fn put_fields(out: &mut Vec<u8>, fields: &[&[u8]]) -> Result<(), AllocError>
     Ok(())
 }
 
-fn put_field(out: &mut Vec<u8>, field: &[u8]) -> Result<(), AllocError>
+/// Appends a tab and a field.
+pub fn put_field(out: &mut Vec<u8>, field: &[u8]) -> Result<(), AllocError>
     ensures { OnOk result (out.new.items ≡ out.old.items ++ (9 ∷ field.now)) }
 {
     out.push(b'\t')?;

@@ -1,15 +1,19 @@
-//! `gocheck ROOT`: checks the Go file `a.go` below ROOT and prints its report.
+//! `gocheck ROOT [--stubs ROOT2]`: checks the Go module below ROOT, over the stub packages below ROOT2, and
+//! prints its report.
 #![tactic(auto)]
 
 mod fields;
 mod folder;
 mod folder_list;
+mod lines;
 mod paths;
+mod places;
 #[cfg(test)]
 mod rows;
 mod run;
 mod std_sink;
 mod text;
+mod values;
 mod verdict;
 mod words;
 
@@ -65,6 +69,14 @@ fn status_without_words(error: io::Error) -> Status {
     }
 }
 
+// What a run says on standard error; that of Usage has the words that are read so far.
+fn message_of(status: Status) -> &'static str {
+    match status {
+        Status::Usage => "usage: gocheck ROOT [--stubs ROOT2]",
+        other => other.message(),
+    }
+}
+
 fn main(rt: HostRuntime) -> ExitCode {
     let alloc = rt.alloc();
     let status = match words_of(&rt) {
@@ -74,7 +86,7 @@ fn main(rt: HostRuntime) -> ExitCode {
         },
         Err(error) => status_without_words(error),
     };
-    let message = status.message();
+    let message = message_of(status);
     if !message.is_empty() {
         // Nothing is left to do where standard error is closed.
         let _ = rt.eprintln(message);

@@ -10,6 +10,8 @@ mod declarations;
 mod deep;
 mod faults;
 mod folders;
+mod modules;
+mod names;
 mod order;
 mod orders;
 mod parameters;
@@ -23,11 +25,18 @@ mod usage;
 mod wrong;
 
 use crate::run::gocheck;
-use go_base::{Bytes, MemFile, Name, Sink, Status, Steps, SureSink, SureTree, Tree, Word};
+use go_base::{
+    Bytes, MemFile, Name, Sink, Status, Steps, SureSink, SureTree, Tree, Word, has_distinct_paths,
+};
 use std::alloc::{AllocError, Global};
 use std::marker::Brand;
 use std::sync::ledger::{Blank, Ledger};
 use std::test::Fail;
+
+/// A file: its path, which begins with `+` below the root of stubs, and its text.
+pub type File<'a> = (&'a str, &'a str);
+
+pub const GO_MOD: File = ("go.mod", "module m\n\ngo 1.21\n");
 
 pub fn word(alloc: Global, text: &str) -> Result<Word, AllocError> {
     Ok(Word::new(String::from_str(alloc, text)?))
@@ -41,16 +50,59 @@ pub fn words(alloc: Global, texts: &[&str]) -> Result<Vec<Word>, AllocError> {
     Ok(words)
 }
 
-/// The file a.go below the root r.
-pub fn source_file(alloc: Global, source: &[u8]) -> Result<Vec<MemFile>, AllocError>
+// The file at a path, below the root r or below that of stubs, s.
+fn mem_file(alloc: Global, path: &str, bytes: &[u8]) -> Result<MemFile, AllocError> {
+    let root = if path.starts_with('+') { "s" } else { "r" };
+    let path = path.trim_start_matches('+');
+    Ok(MemFile {
+        root: word(alloc, root)?,
+        path: Name::new(String::from_str(alloc, path)?),
+        bytes: Bytes::new(bytes.to_vec(alloc)?),
+    })
+}
+
+// These files, where no two of them have one path.
+fn distinct(list: Vec<MemFile>) -> Result<Vec<MemFile>, Fail>
     ensures { IfOk result (λ files. HasDistinctPaths files.items) }
 {
-    let file = MemFile {
-        root: word(alloc, "r")?,
-        path: Name::new(String::from_str(alloc, "a.go")?),
-        bytes: Bytes::new(source.to_vec(alloc)?),
-    };
-    Ok(vec![in alloc; file]?)
+    if has_distinct_paths(&list) {
+        Ok(list)
+    } else {
+        Err(Fail::from("two files of one path"))
+    }
+}
+
+/// These files.
+pub fn mem_files(alloc: Global, files: &[File]) -> Result<Vec<MemFile>, Fail>
+    ensures { IfOk result (λ list. HasDistinctPaths list.items) }
+{
+    let mut list = Vec::new(alloc);
+    for (path, text) in files {
+        list.push(mem_file(alloc, path, text.as_bytes())?)?;
+    }
+    distinct(list)
+}
+
+/// The file go.mod of the module m, and these files.
+pub fn module_files(alloc: Global, files: &[File]) -> Result<Vec<MemFile>, Fail>
+    ensures { IfOk result (λ list. HasDistinctPaths list.items) }
+{
+    let (path, text) = GO_MOD;
+    let mut list = vec![in alloc; mem_file(alloc, path, text.as_bytes())?]?;
+    for (path, text) in files {
+        list.push(mem_file(alloc, path, text.as_bytes())?)?;
+    }
+    distinct(list)
+}
+
+/// The files go.mod and a.go below the root r.
+pub fn source_files(alloc: Global, source: &[u8]) -> Result<Vec<MemFile>, Fail>
+    ensures { IfOk result (λ files. HasDistinctPaths files.items) }
+{
+    let (path, text) = GO_MOD;
+    let mut list = vec![in alloc; mem_file(alloc, path, text.as_bytes())?]?;
+    list.push(mem_file(alloc, "a.go", source)?)?;
+    distinct(list)
 }
 
 fn counted_run<L: Ledger, T: Tree, S: Sink>(
@@ -73,12 +125,42 @@ pub fn run<T: Tree, S: Sink>(alloc: Global, words: &[Word], tree: &mut T, out: &
     counted_run::<Brand, T, S>(alloc, Blank::new(1), words, tree, out)
 }
 
-/// The run of `gocheck r` where r has the file a.go with that source.
-pub fn checked(alloc: Global, source: &[u8]) -> Result<(Status, SureSink), AllocError> {
-    let mut tree = SureTree::new(source_file(alloc, source)?);
+// The run with these words on these files.
+fn checked_files(
+    alloc: Global,
+    given: &[&str],
+    files: Vec<MemFile>,
+) -> Result<(Status, SureSink), Fail>
+    requires { HasDistinctPaths files.items }
+{
+    let mut tree = SureTree::new(files);
     let mut out = SureSink::new(alloc);
-    let status = run(alloc, &words(alloc, &["r"])?, &mut tree, &mut out);
+    let status = run(alloc, &words(alloc, given)?, &mut tree, &mut out);
     Ok((status, out))
+}
+
+/// The run of `gocheck r` where r has the module m of one file a.go with that source.
+pub fn checked(alloc: Global, source: &[u8]) -> Result<(Status, SureSink), Fail> {
+    checked_files(alloc, &["r"], source_files(alloc, source)?)
+}
+
+/// The run of `gocheck r --stubs s` on these files.
+pub fn checked_roots(alloc: Global, files: &[File]) -> Result<(Status, SureSink), Fail> {
+    checked_files(alloc, &["r", "--stubs", "s"], mem_files(alloc, files)?)
+}
+
+/// The same, where r has the go.mod of the module m besides.
+pub fn checked_module(alloc: Global, files: &[File]) -> Result<(Status, SureSink), Fail> {
+    checked_files(alloc, &["r", "--stubs", "s"], module_files(alloc, files)?)
+}
+
+/// A report, whose fields stand between `|`.
+pub fn report(alloc: Global, lines: &str) -> Result<Vec<u8>, AllocError> {
+    let mut text = Vec::new(alloc);
+    for byte in lines.as_bytes() {
+        text.push(if *byte == b'|' { b'\t' } else { *byte })?;
+    }
+    Ok(text)
 }
 
 /// The lines of a report for these broken rules, each behind its place.
@@ -92,8 +174,14 @@ pub fn broken_lines(alloc: Global, list: &str) -> Result<String, Fail> {
     Ok(text)
 }
 
-/// The report of a file whose form breaks these rules.
+/// The report of a module whose file breaks these rules by itself.
 pub fn refused(alloc: Global, list: &str) -> Result<String, Fail> {
     let lines = broken_lines(alloc, list)?;
     Ok(format!(in alloc; "refused\n{lines}")?)
+}
+
+/// The report of a module whose one package, of that name, breaks these rules.
+pub fn refused_package(alloc: Global, name: &str, list: &str) -> Result<String, Fail> {
+    let lines = broken_lines(alloc, list)?;
+    Ok(format!(in alloc; "module\tm\t1.21\npackage\tm\t{name}\trefused\n{lines}")?)
 }

@@ -1,23 +1,26 @@
 // The top call: one run of the checker.
-ghost use Rattle.std.specs.Prelude.{◌≡◌, ◌≢◌, ◌≤◌, ◌↔◌, ◌⊎◌, None, IfOk, IfSome, IsErrOf, codes};
+ghost use Rattle.std.specs.Prelude.{◌≡◌, ◌≢◌, ◌↔◌, ◌⊎◌, None, IfOk, IfSome, IsErrOf};
+ghost use Rattle.std.specs.Option.{option_copied};
 ghost use Rattle.go_base.specs.Counters.{Rose};
 ghost use Rattle.go_base.specs.Status.{IsReport};
 ghost use Rattle.go_base.specs.Sink.{Adds, AddsPrefix};
-ghost use Rattle.gocheck.specs.Headline.{source_of, IsReportText, WritesReport, WritesFront};
-ghost use Rattle.gocheck.specs.Words.{root_of};
+ghost use Rattle.go_model.specs.Module.{module_view};
+ghost use Rattle.gocheck.specs.Headline.{IsRunText, WritesReport, WritesFront};
+ghost use Rattle.gocheck.specs.Runs.{IsFirst, IsWhole};
+ghost use Rattle.gocheck.specs.Words.{roots_of};
 
-use crate::text::report_text;
-use crate::verdict::verdict;
-use crate::words::root_word;
-use go_base::{Bytes, Name, NoMemory, Sink, SinkFault, Status, Steps, Tree, TreeFault, Word};
-use go_check::{MOST_BYTES, check_file};
+use crate::text::{first_text, report_text};
+use crate::verdict::{refusal, verdict};
+use crate::words::root_words;
+use go_base::{NoMemory, Sink, SinkFault, Status, Steps, Tree, TreeFault, Word};
+use go_check::check_module;
+use go_load::{LoadFault, Module, load};
+use go_model::Placed;
 use std::alloc::Global;
 use std::sync::ledger::Ledger;
 
-/// The most bytes of a file that are read: one more than a file may have.
-const MOST_READ: usize = MOST_BYTES + 1;
-
-/// Checks the file `a.go` below the root that the words name, and writes its report to `out`.
+/// Checks the module below the root that the words name, over the stubs below the other root that they name, if
+/// they do, and writes its report to `out`.
 ///
 /// Usage comes exactly where the words name no root; ReadFault only where the tree counted a fault
 /// in this call, and WriteFault only where the sink did. Nothing is written before all is read.
@@ -26,17 +29,17 @@ pub fn gocheck<T: Tree, S: Sink, L: Ledger>(
     words: &[Word],
     tree: &mut T,
     out: &mut S,
-    _steps: &mut Steps<L>,
+    steps: &mut Steps<L>,
 ) -> Status
-    // The report of the tree's file is written whole, and the status is its verdict.
-    ensures report { IsReport result → IfSome (root_of words.now) (λ root. IfSome (T.files tree.old) (λ files.
-        WritesReport (source_of files root) result (S.taken out.old) (S.taken out.new))) }
+    // The report of the tree's module is written whole, and the status is its verdict.
+    ensures report { IsReport result → IfSome (roots_of words.now) (λ roots.
+        WritesReport (T.files tree.old) roots result (S.taken out.old) (S.taken out.new)) }
 
     // Each other status has its cause.
-    ensures usage { (result ≡ Status.Usage) ↔ (root_of words.now ≡ None) }
+    ensures usage { (result ≡ Status.Usage) ↔ (roots_of words.now ≡ None) }
     ensures read_fault { result ≡ Status.ReadFault → Rose (T.faults tree.old) (T.faults tree.new) }
     ensures write_fault { result ≡ Status.WriteFault → Rose (S.faults out.old) (S.faults out.new) }
-    ensures complete { root_of words.now ≢ None → (Rose (T.faults tree.old) (T.faults tree.new) → ⊥) → (Rose (S.faults out.old) (S.faults out.new) → ⊥) → IsReport result ⊎ (result ≡ Status.NoMemory) }
+    ensures complete { roots_of words.now ≢ None → (Rose (T.faults tree.old) (T.faults tree.new) → ⊥) → (Rose (S.faults out.old) (S.faults out.new) → ⊥) → IsReport result ⊎ (result ≡ Status.NoMemory) }
 
     // A report comes only where no call failed.
     ensures same_tree { IsReport result → T.faults tree.new ≡ T.faults tree.old }
@@ -45,54 +48,61 @@ pub fn gocheck<T: Tree, S: Sink, L: Ledger>(
     // What the other statuses leave in the sink.
     ensures nothing_on_usage { result ≡ Status.Usage → S.taken out.new ≡ S.taken out.old }
     ensures nothing_on_read_fault { result ≡ Status.ReadFault → S.taken out.new ≡ S.taken out.old }
-    ensures front_on_write_fault { result ≡ Status.WriteFault → IfSome (root_of words.now) (λ root. IfSome (T.files tree.old) (λ files.
-        WritesFront (source_of files root) (S.taken out.old) (S.taken out.new))) }
-    ensures front_on_no_memory { result ≡ Status.NoMemory → IfSome (root_of words.now) (λ root. IfSome (T.files tree.old) (λ files.
-        WritesFront (source_of files root) (S.taken out.old) (S.taken out.new))) }
+    ensures front_on_write_fault { result ≡ Status.WriteFault → IfSome (roots_of words.now) (λ roots.
+        WritesFront (T.files tree.old) roots (S.taken out.old) (S.taken out.new)) }
+    ensures front_on_no_memory { result ≡ Status.NoMemory → IfSome (roots_of words.now) (λ roots.
+        WritesFront (T.files tree.old) roots (S.taken out.old) (S.taken out.new)) }
 {
-    let Some(root) = root_word(words) else {
+    let Some((root, stubs)) = root_words(words) else {
         return Status::Usage;
     };
-    match read_source(alloc, tree, root) {
-        Ok(source) => write_report(alloc, &source, out),
+    match text_and_verdict(alloc, tree, root, stubs, steps) {
+        Ok((text, verdict)) => put_report(&text, verdict, out),
         Err(TreeFault::Failed) => Status::ReadFault,
         Err(TreeFault::NoMemory) => Status::NoMemory,
     }
 }
 
-// The file that is checked; a file that is not there has no bytes.
-fn read_source<T: Tree>(alloc: Global, tree: &mut T, root: &Word) -> Result<Bytes, TreeFault>
-    ensures bytes { IfOk result (λ bytes. IfSome (T.files tree.old) (λ files. bytes ≡ source_of files root.now)) }
+// The text of a run over two roots, and its status.
+fn text_and_verdict<T: Tree, L: Ledger>(
+    alloc: Global,
+    tree: &mut T,
+    root: &Word,
+    stubs: Option<&Word>,
+    steps: &mut Steps<L>,
+) -> Result<(Vec<u8>, Status), TreeFault>
+    ensures text { IfOk result (λ made.
+        IsRunText (T.files tree.old) (record { root = root.now; stubs = option_copied stubs.entry }) made.0.items made.1) }
     ensures cause { IsErrOf result TreeFault.Failed → Rose (T.faults tree.old) (T.faults tree.new) }
     ensures stays { (IsErrOf result TreeFault.Failed → ⊥) → T.faults tree.new ≡ T.faults tree.old }
 {
-    let path = Name::new(String::from_str(alloc, "a.go")?);
-    tree.read(alloc, root, &path, MOST_READ)
-}
-
-// Writes the report on a file.
-fn write_report<S: Sink>(alloc: Global, source: &Bytes, out: &mut S) -> Status
-    ensures report { IsReport result → WritesReport source.now result (S.taken out.old) (S.taken out.new) }
-    ensures no_usage { result ≢ Status.Usage }
-    ensures no_read_fault { result ≢ Status.ReadFault }
-    ensures write_fault { result ≡ Status.WriteFault → Rose (S.faults out.old) (S.faults out.new) }
-    ensures same_sink { IsReport result → S.faults out.new ≡ S.faults out.old }
-    ensures front_on_write_fault { result ≡ Status.WriteFault → WritesFront source.now (S.taken out.old) (S.taken out.new) }
-    ensures front_on_no_memory { result ≡ Status.NoMemory → WritesFront source.now (S.taken out.old) (S.taken out.new) }
-{
-    match text_and_verdict(alloc, source.as_slice()) {
-        Ok((text, verdict)) => put_report(&text, verdict, out),
-        Err(_) => Status::NoMemory,
+    match load(alloc, tree, root, stubs) {
+        Ok(module) => Ok(whole(alloc, &module, steps)?),
+        Err(LoadFault::Broken(list)) => Ok(first(alloc, &list)?),
+        Err(LoadFault::ReadFault) => Err(TreeFault::Failed),
+        Err(LoadFault::NoMemory) => Err(TreeFault::NoMemory),
     }
 }
 
-// The text of the report on a file, and its verdict.
-fn text_and_verdict(alloc: Global, bytes: &[u8]) -> Result<(Vec<u8>, Status), NoMemory>
-    ensures { IfOk result (λ made. IsReportText bytes.now made.0.items made.1) }
+// The text of the report of a module, and its verdict.
+fn whole<L: Ledger>(
+    alloc: Global,
+    module: &Module,
+    steps: &mut Steps<L>,
+) -> Result<(Vec<u8>, Status), NoMemory>
+    ensures { IfOk result (λ made. IsWhole (module_view «module».now) made.0.items made.1) }
 {
-    let report = check_file(alloc, bytes)?;
-    let text = report_text(alloc, bytes, &report)?;
+    let report = check_module(alloc, module, steps)?;
+    let text = report_text(alloc, &report)?;
     Ok((text, verdict(&report)))
+}
+
+// The text of rules that are broken before packages are checked, and its status.
+fn first(alloc: Global, list: &[Placed]) -> Result<(Vec<u8>, Status), NoMemory>
+    ensures { IfOk result (λ made. IsFirst list.now made.0.items made.1) }
+{
+    let text = first_text(alloc, list)?;
+    Ok((text, refusal(list)))
 }
 
 // Hands the text of a report to the sink.

@@ -15,7 +15,7 @@ use Rattle.go_model.specs.declared.object.Object.{Object}
 use Rattle.go_model.specs.Folders.{as_text}
 use Rattle.go_model.specs.Module.{FileData, PackageData}
 use Rattle.go_model.specs.Paths.{same_text}
-use Rattle.go_model.specs.Resolution.{first_part}
+use Rattle.go_model.specs.NodeParts.{first_part}
 use Rattle.go_model.specs.Names.Exported.{is_blank}
 
 -- ConstDecl = "const" ( ConstSpec | "(" { ConstSpec ";" } ")" ) .

@@ -1,40 +1,84 @@
 -- The text of a report.
--- Decides how each line reads: a line is a list of fields, which a tab joins and a newline ends. How a
--- place reads: `Places`.
-use Rattle.std.specs.Prelude.{ℕ, List, [], ◌∷◌, ◌++◌, map, slice_range, codes}
-use Rattle.std.specs.Fmt.{signed_decimal}
+-- Decides how each line reads: a line is a list of fields, which a tab joins and a newline ends. How a place
+-- reads: `Places`; a type and a value: `Values`.
+use Rattle.std.specs.Prelude.{ℕ, List, [], ◌∷◌, ◌++◌, map, codes, decimal, Option, Some, None}
 use Rattle.std.specs.List.{flat_map, join_with_byte}
 use Rattle.go_base.specs.Rule.{rule_text}
-use Rattle.go_base.specs.declared.rule.Broken.{Broken}
-use Rattle.go_model.specs.declared.file_lines.FileLine.{FileLine}
-use Rattle.go_model.specs.declared.file_lines.FileLine.TheVariants.{Def, Use, Expr}
-use Rattle.go_model.specs.Report.{Report, accepted, refused, refused_package}
-use Rattle.go_model.specs.Text.Places.{line_col, place_text}
+use Rattle.go_term.specs.declared.term.Term.{Term}
+use Rattle.go_num.specs.declared.value.Value.{Value}
+use Rattle.go_model.specs.declared.rec.Mode.{Mode}
+use Rattle.go_model.specs.declared.rec.Mode.TheVariants.{Const as ConstMode}
+use Rattle.go_model.specs.declared.records.DefKind.{DefKind}
+use Rattle.go_model.specs.declared.records.DefKind.TheVariants.{Const, Package}
+use Rattle.go_model.specs.declared.records.Line.{Line}
+use Rattle.go_model.specs.declared.records.What.{What}
+use Rattle.go_model.specs.declared.records.What.TheVariants.{Def, Used, Expr}
+use Rattle.go_model.specs.declared.report.At.{At}
+use Rattle.go_model.specs.declared.report.Placed.{Placed}
+use Rattle.go_model.specs.Report.{VerdictData, accepted, refused, skipped, PackageReportData, ReportData}
+use Rattle.go_model.specs.Text.Places.{place_text, end_text}
+use Rattle.go_model.specs.Text.Values.{type_text, value_text}
 
--- the fields of a line of an accepted file
-abbrev pub line_fields : List ℕ → FileLine → List (List ℕ)
-line_fields bytes (Def start end value) = codes "def" ∷ place_text bytes start ∷ slice_range bytes start end ∷ codes "const" ∷ codes "untyped int" ∷ signed_decimal value ∷ []
-line_fields bytes (Use start end declared) = codes "use" ∷ place_text bytes start ∷ slice_range bytes start end ∷ place_text bytes declared ∷ []
-line_fields bytes (Expr start end value) = codes "expr" ∷ place_text bytes start ∷ line_col bytes end ∷ codes "const" ∷ codes "untyped int" ∷ signed_decimal value ∷ []
+-- what a name is declared as
+abbrev pub kind_fields : DefKind → List (List ℕ)
+kind_fields (Const type value) = codes "const" ∷ type_text type ∷ value_text value ∷ []
+kind_fields (Package path) = codes "package" ∷ path ∷ []
 
-abbrev pub broken_fields : List ℕ → Broken → List (List ℕ)
-broken_fields bytes broken = codes "broken" ∷ place_text bytes broken.pos.offset ∷ rule_text broken.rule ∷ []
+-- where what a name denotes is declared
+abbrev pub declared_text : Option At → List ℕ
+declared_text None = codes "universe"
+declared_text (Some at) = place_text at
 
--- the module has the path `m`, and its one package lies in its root
-abbrev pub module_fields : List (List ℕ)
-module_fields = codes "module" ∷ codes "m" ∷ codes "1.21" ∷ []
+abbrev pub mode_text : Mode → List ℕ
+mode_text ConstMode = codes "const"
 
-abbrev pub package_fields : List ℕ → List ℕ → List (List ℕ)
-package_fields name verdict = codes "package" ∷ codes "m" ∷ name ∷ verdict ∷ []
+-- a type and a value, where there are any
+abbrev pub type_fields : Option Term → List (List ℕ)
+type_fields None = []
+type_fields (Some type) = type_text type ∷ []
 
--- the lines of a report, each as its fields
-abbrev pub report_fields : List ℕ → Report → List (List (List ℕ))
-report_fields bytes (accepted name lines) = module_fields ∷ package_fields name (codes "accepted") ∷ map (line_fields bytes) lines
-report_fields bytes (refused list) = (codes "refused" ∷ []) ∷ map (broken_fields bytes) list
-report_fields bytes (refused_package name list) = module_fields ∷ package_fields name (codes "refused") ∷ map (broken_fields bytes) list
+abbrev pub value_fields : Option Value → List (List ℕ)
+value_fields None = []
+value_fields (Some value) = value_text value ∷ []
+
+-- the fields of a line at a place
+abbrev pub what_fields : At → What → List (List ℕ)
+what_fields at (Def name kind) = codes "def" ∷ place_text at ∷ name ∷ kind_fields kind
+what_fields at (Used name declared) = codes "use" ∷ place_text at ∷ name ∷ declared_text declared ∷ []
+what_fields at (Expr end mode type value) = codes "expr" ∷ place_text at ∷ end_text end ∷ mode_text mode ∷ (type_fields type ++ value_fields value)
+
+abbrev pub line_fields : Line → List (List ℕ)
+line_fields line = what_fields line.at line.what
+
+abbrev pub broken_fields : Placed → List (List ℕ)
+broken_fields placed = codes "broken" ∷ place_text placed.at ∷ rule_text placed.rule ∷ []
+
+-- the version is the 1.N of Go's that go.mod names
+abbrev pub module_fields : List ℕ → ℕ → List (List ℕ)
+module_fields path version = codes "module" ∷ path ∷ (codes "1." ++ decimal version) ∷ []
+
+abbrev pub package_fields : PackageReportData → List ℕ → List (List ℕ)
+package_fields p verdict = codes "package" ∷ p.path ∷ p.name ∷ verdict ∷ []
+
+-- the lines of a package
+abbrev pub verdict_fields : PackageReportData → VerdictData → List (List (List ℕ))
+verdict_fields p (accepted lines) = package_fields p (codes "accepted") ∷ map line_fields lines
+verdict_fields p (refused list) = package_fields p (codes "refused") ∷ map broken_fields list
+verdict_fields p skipped = package_fields p (codes "skipped") ∷ []
+
+-- a report of packages, each line as its fields
+abbrev pub report_fields : ReportData → List (List (List ℕ))
+report_fields r = module_fields r.path r.version ∷ flat_map (λ p. verdict_fields p p.verdict) r.packages
+
+-- a report of the rules of the phases before
+abbrev pub first_fields : List Placed → List (List (List ℕ))
+first_fields list = (codes "refused" ∷ []) ∷ map broken_fields list
 
 abbrev pub line_text : List (List ℕ) → List ℕ
 line_text fields = join_with_byte 9 fields ++ codes "\n"
 
-abbrev pub report_text : List ℕ → Report → List ℕ
-report_text bytes report = flat_map line_text (report_fields bytes report)
+abbrev pub report_text : ReportData → List ℕ
+report_text r = flat_map line_text (report_fields r)
+
+abbrev pub first_text : List Placed → List ℕ
+first_text list = flat_map line_text (first_fields list)

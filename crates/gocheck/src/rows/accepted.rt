@@ -3,7 +3,7 @@ use super::checked;
 use go_base::Status;
 use std::test::Fail;
 
-const ROWS: [(&str, &str, &str); 12] = [
+const ROWS: [(&str, &str, &str); 14] = [
     (
         "a constant is used before it is declared",
         "package p\n\nconst X = Y + 2\nconst Y = 1\n",
@@ -132,6 +132,38 @@ const ROWS: [(&str, &str, &str); 12] = [
          def\ta.go:5:7\tY\tconst\tuntyped int\t2\n\
          expr\ta.go:2:12\t2:13\tconst\tuntyped int\t1\n\
          expr\ta.go:5:11\t5:12\tconst\tuntyped int\t2\n",
+    ),
+    (
+        "groups, several names and values, and the blank identifier",
+        "package p\n\nconst (\n\tA, B = 1, A + 1\n\t_ = B\n)\nconst C, _ = B, 7\nconst ()\n",
+        "module\tm\t1.21\n\
+         package\tm\tp\taccepted\n\
+         def\ta.go:4:2\tA\tconst\tuntyped int\t1\n\
+         def\ta.go:4:5\tB\tconst\tuntyped int\t2\n\
+         def\ta.go:5:2\t_\tconst\tuntyped int\t2\n\
+         def\ta.go:7:7\tC\tconst\tuntyped int\t2\n\
+         def\ta.go:7:10\t_\tconst\tuntyped int\t7\n\
+         use\ta.go:4:12\tA\ta.go:4:2\n\
+         use\ta.go:5:6\tB\ta.go:4:5\n\
+         use\ta.go:7:14\tB\ta.go:4:5\n\
+         expr\ta.go:4:9\t4:10\tconst\tuntyped int\t1\n\
+         expr\ta.go:4:12\t4:17\tconst\tuntyped int\t2\n\
+         expr\ta.go:4:12\t4:13\tconst\tuntyped int\t1\n\
+         expr\ta.go:4:16\t4:17\tconst\tuntyped int\t1\n\
+         expr\ta.go:5:6\t5:7\tconst\tuntyped int\t2\n\
+         expr\ta.go:7:14\t7:15\tconst\tuntyped int\t2\n\
+         expr\ta.go:7:17\t7:18\tconst\tuntyped int\t7\n",
+    ),
+    (
+        "constants and a package of the names of functions",
+        "package init\n\nconst main, len = 1, main\n",
+        "module\tm\t1.21\n\
+         package\tm\tinit\taccepted\n\
+         def\ta.go:3:7\tmain\tconst\tuntyped int\t1\n\
+         def\ta.go:3:13\tlen\tconst\tuntyped int\t1\n\
+         use\ta.go:3:22\tmain\ta.go:3:7\n\
+         expr\ta.go:3:19\t3:20\tconst\tuntyped int\t1\n\
+         expr\ta.go:3:22\t3:26\tconst\tuntyped int\t1\n",
     ),
 ];
 

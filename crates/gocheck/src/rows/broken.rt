@@ -1,5 +1,5 @@
 // Files whose constants break rules, each with the list of them.
-use super::{broken_lines, checked};
+use super::{checked, refused_package};
 use go_base::Status;
 use std::test::Fail;
 
@@ -127,8 +127,7 @@ fn constants_break_all_rules_of_the_first_phase_that_breaks_any(
     let alloc = rt.alloc();
     for (name, constants, status, list) in ROWS {
         let source = format!(in alloc; "package p\n\n{constants}")?;
-        let lines = broken_lines(alloc, list)?;
-        let text = format!(in alloc; "module\tm\t1.21\npackage\tm\tp\trefused\n{lines}")?;
+        let text = refused_package(alloc, "p", list)?;
         let (ended, out) = checked(alloc, source.as_bytes())?;
         assert_eq!(rt; ended, status, "{name}");
         assert_eq!(rt; out.taken(), text.as_bytes(), "{name}");

@@ -3,7 +3,7 @@ use super::{checked, refused};
 use go_base::Status;
 use std::test::Fail;
 
-const ROWS: [(&str, &str, &str); 38] = [
+const ROWS: [(&str, &str, &str); 37] = [
     ("a constant without a value", "const X", "3:7 U0 3:7 S8"),
     (
         "several constants without values",
@@ -18,19 +18,18 @@ const ROWS: [(&str, &str, &str); 38] = [
     (
         "a group whose first constant has no value",
         "const (\n\tA\n\tB = 1\n)",
-        "3:1 U0 4:2 S8",
+        "4:2 U0 4:2 S8",
     ),
     (
         "a group whose second constant has no value",
         "const (\n\tA = 1\n\tB\n)",
-        "3:1 U0",
+        "5:2 U0",
     ),
     (
         "a group without values",
         "const (\n\tA\n\tB\n)",
-        "3:1 U0 4:2 S8",
+        "4:2 U0 4:2 S8 5:2 U0",
     ),
-    ("an empty group", "const ()", "3:1 U0"),
     (
         "a constant without a value in a function",
         "func f() {\n\tconst X\n}",
@@ -104,7 +103,7 @@ const ROWS: [(&str, &str, &str); 38] = [
     (
         "one in a list that a later constant omits",
         "const (\n\tA = 1.5\n\tB\n\tC\n)",
-        "3:1 U0 4:6 U2",
+        "4:6 U2 5:2 U0 6:2 U0",
     ),
     (
         "an alias with type parameters",

@@ -1,5 +1,5 @@
 // Trees and sinks whose calls fail.
-use super::{run, source_file, words};
+use super::{run, source_files, words};
 use go_base::{FailPut, MemSink, MemTree, Status};
 use std::test::Fail;
 
@@ -18,16 +18,16 @@ fn faults_are_told_and_leave_a_prefix(rt: HostRuntime) -> Result<(), Fail> {
             "module\tm\t1.21\npackage\tm\tp\taccepted\n",
         ),
         (
-            "no such file",
+            "no such root",
             "q",
             9,
             9,
             Status::Refused,
-            "refused\nbroken\ta.go:1:1\tS3\n",
+            "refused\nbroken\tgo.mod:1:1\tM1\n",
         ),
     ];
     for (name, root, read, put, status, text) in rows {
-        let mut tree = MemTree::new(source_file(alloc, b"package p\n")?, vec![in alloc; read]?);
+        let mut tree = MemTree::new(source_files(alloc, b"package p\n")?, vec![in alloc; read]?);
         let failing = vec![in alloc; FailPut { call: put, take: 3 }]?;
         let mut out = MemSink::new(alloc, failing);
         let ended = run(alloc, &words(alloc, &[root])?, &mut tree, &mut out);

@@ -11,8 +11,8 @@ const ROWS: [(&str, &str, &str); 15] = [
     ),
     (
         "another word",
-        "//go:builder\n// go:build\n//+build a\npackage main\n",
-        "4:9 U0",
+        "//go:builder\n// go:build\n//+build a\npackage p; type T int\n",
+        "4:17 U0",
     ),
     (
         "behind the package clause",
@@ -21,13 +21,13 @@ const ROWS: [(&str, &str, &str); 15] = [
     ),
     (
         "in the package clause",
-        "package\n//go:build a\nmain\n",
-        "3:1 U0",
+        "package\n//go:build a\np; type T int\n",
+        "3:9 U0",
     ),
     (
         "behind blanks, and with nothing behind it",
-        " \t//go:build\n//go:build a\npackage main\n",
-        "1:3 U3 2:1 U3 3:9 U0",
+        " \t//go:build\n//go:build a\npackage p; type T int\n",
+        "1:3 U3 2:1 U3 3:17 U0",
     ),
     (
         "with a tab and with a carriage return behind it",
@@ -36,18 +36,18 @@ const ROWS: [(&str, &str, &str); 15] = [
     ),
     (
         "in a general comment",
-        "/*\n//go:build a\n*/\npackage main\n",
-        "4:9 U0",
+        "/*\n//go:build a\n*/\npackage p; type T int\n",
+        "4:17 U0",
     ),
     (
         "in a line comment",
-        "// //go:build a\npackage main\n",
-        "2:9 U0",
+        "// //go:build a\npackage p; type T int\n",
+        "2:17 U0",
     ),
     (
         "behind a general comment",
-        "/* a */ //go:build a\npackage main\n",
-        "2:9 U0",
+        "/* a */ //go:build a\npackage p; type T int\n",
+        "2:17 U0",
     ),
     (
         "behind a general comment of several lines",

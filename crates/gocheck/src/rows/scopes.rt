@@ -1,6 +1,5 @@
 // Scopes of modules in memory: the helpers of the tables of names.
-ghost use Rattle.std.specs.Prelude.{ℕ, ◌<◌, Contains, IfOk, IsTrue};
-ghost use Rattle.go_base.specs.Tree.{HasDistinctPaths};
+ghost use Rattle.std.specs.Prelude.{ℕ, ◌<◌, Contains, IsTrue};
 
 mod calls;
 mod conflicts;
@@ -14,8 +13,8 @@ mod undeclared;
 mod universe;
 mod unused;
 
-use super::word;
-use go_base::{Broken, Bytes, LineCol, MemFile, Name, SureTree, has_distinct_paths, place};
+use super::{File, module_files, word};
+use go_base::{Broken, LineCol, SureTree, place};
 use go_load::load;
 use go_model::{Module, Package, Scopes, SourceFile};
 use go_scope::{ScopeFault, collect};
@@ -23,44 +22,14 @@ use go_tree::{NodeId, find};
 use std::alloc::Global;
 use std::test::Fail;
 
-/// A file: its path, which begins with `+` below the root of stubs, and its text.
-type File<'a> = (&'a str, &'a str);
-
-const GO_MOD: File = ("go.mod", "module m\n\ngo 1.21\n");
-
 /// Packages that modules import.
 const LEFT: File = ("l/l.go", "package l\n\nconst X, Y, low = 1, 2, 3\n");
 
 const RIGHT: File = ("r/r.go", "package r\n\nconst X, Z = 1, 2\n");
 
-fn mem_file(alloc: Global, file: &File) -> Result<MemFile, Fail> {
-    let (path, text) = *file;
-    let root = if path.starts_with('+') { "s" } else { "r" };
-    let path = path.trim_start_matches('+');
-    Ok(MemFile {
-        root: word(alloc, root)?,
-        path: Name::new(String::from_str(alloc, path)?),
-        bytes: Bytes::new(text.as_bytes().to_vec(alloc)?),
-    })
-}
-
-fn mem_files(alloc: Global, files: &[File]) -> Result<Vec<MemFile>, Fail>
-    ensures { IfOk result (λ list. HasDistinctPaths list.items) }
-{
-    let mut list = vec![in alloc; mem_file(alloc, &GO_MOD)?]?;
-    for file in files {
-        list.push(mem_file(alloc, file)?)?;
-    }
-    if has_distinct_paths(&list) {
-        Ok(list)
-    } else {
-        Err(Fail::from("two files of one path"))
-    }
-}
-
 /// The module `m` of these files, with the stub packages that it reaches.
 fn loaded(alloc: Global, files: &[File]) -> Result<Module, Fail> {
-    let mut tree = SureTree::new(mem_files(alloc, files)?);
+    let mut tree = SureTree::new(module_files(alloc, files)?);
     let root = word(alloc, "r")?;
     let stubs = word(alloc, "s")?;
     Ok(load(alloc, &mut tree, &root, Some(&stubs))?)

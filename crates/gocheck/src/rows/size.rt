@@ -15,7 +15,7 @@ fn a_file_past_the_greatest_size_is_not_read(rt: HostRuntime) -> Result<(), Fail
         (
             16_777_217,
             Status::Beyond,
-            "refused\nbroken\ta.go:1:1\tU0\n",
+            "refused\nbroken\ta.go:1:1\tL1\n",
         ),
     ];
     for (size, status, text) in rows {

@@ -3,7 +3,7 @@ use super::{checked, refused};
 use go_base::Status;
 use std::test::Fail;
 
-const ROWS: [(&str, &str, &str); 23] = [
+const ROWS: [(&str, &str, &str); 22] = [
     (
         "a function without its body, at the end of the file",
         "package a\n\nfunc f()",
@@ -14,17 +14,20 @@ const ROWS: [(&str, &str, &str); 23] = [
         "package p\n\nfunc f() {\n\tconst X = -1\n}\n\nfunc (t T) g()\n",
         "3:1 U0 7:1 U0",
     ),
-    ("package main", "package main\n", "1:9 U0"),
-    ("package init", "package init\n", "1:9 U0"),
     (
-        "imports",
-        "package p\n\nimport \"q\"\nimport (\n\t\"r\"\n\t. \"s\"\n)\nimport ()\n",
-        "3:1 U0 4:1 U0 8:1 U0",
+        "a form in a group of constants",
+        "package p\n\nconst (\n\tX = -1\n\tY = 2\n)\n",
+        "4:6 U0",
     ),
     (
-        "a group of constants",
-        "package p\n\nconst (\n\tX = -1\n\tY = 2\n)\n",
-        "3:1 U0",
+        "lists that are omitted",
+        "package p\n\nconst (\n\tA = 1\n\tB\n\tC, D\n)\n",
+        "5:2 U0 6:2 U0",
+    ),
+    (
+        "a list that is omitted with its type",
+        "package p\n\nconst (\n\tA int = 1\n\tB\n)\n",
+        "4:4 U0 5:2 U0",
     ),
     (
         "variables and types",
@@ -82,16 +85,19 @@ const ROWS: [(&str, &str, &str); 23] = [
         "3:9 U0",
     ),
     (
-        "several names and values",
+        "a form beside several names and values",
         "package p\n\nconst X, Y = 1, -2\n",
-        "3:7 U0",
+        "3:17 U0",
     ),
-    ("several values", "package p\n\nconst X = -1, 2\n", "3:7 U0"),
-    ("several names", "package p\n\nconst X, Y = 1\n", "3:7 U0"),
     (
-        "names that are taken",
-        "package p\n\nconst len = iota\nconst _ = true + nil\nconst init = X\n",
-        "3:7 U0 3:13 U0 4:7 U0 4:11 U0 4:18 U0 5:7 U0",
+        "a form beside several values",
+        "package p\n\nconst X = -1, 2\n",
+        "3:11 U0",
+    ),
+    (
+        "a form beside names that are taken",
+        "package p\n\nconst len, _, init = iota, nil, -main\n",
+        "3:33 U0",
     ),
     (
         "string and rune literals",
@@ -99,9 +105,14 @@ const ROWS: [(&str, &str, &str); 23] = [
         "3:11 U0 3:17 U0",
     ),
     (
-        "literals of other types, and selectors",
+        "literals of other types, but no qualified identifier",
         "package p\n\nconst X = []int{1}\nconst Y = a.b\nconst Z = func() {}\n",
-        "3:11 U0 4:11 U0 5:11 U0",
+        "3:11 U0 5:11 U0",
+    ),
+    (
+        "selectors of what is no identifier",
+        "package p\n\nconst X = a.b.c\nconst Y = (a).b\nconst Z = a.b + (1)\n",
+        "3:11 U0 4:11 U0",
     ),
 ];
 

@@ -1,10 +1,10 @@
-use Rattle.std.proofs.Common.{◌≡◌, ◌++◌, map, drop}
-use Rattle.go_tree.specs.Tree.{tree_of}
-use Rattle.go_check.specs.Table.{slot_of}
+use Rattle.std.proofs.Common.{◌≡◌, ◌++◌, drop}
 use Rattle.go_model.specs.Graph.{graph_of}
 use Rattle.go_model.specs.Lacking.{lacking}
+use Rattle.go_check.specs.Table.{slot_of}
+use Rattle.go_check.specs.View.{constants_view, means_by}
 use Rattle.go_check.proofs.waits.waits_of.Given as goal
 
 abbrev pub invariant-loop-constant : goal.invariant-loop-constant
 invariant-loop-constant l =
-    graph_of l.waits.items ++ lacking l.names (slot_of l.table) (map tree_of (drop l.constant-index l.constants)) ≡ lacking l.names (slot_of l.table) (map tree_of l.constants)
+    graph_of l.waits.items ++ lacking (means_by l.around) (slot_of l.table) (constants_view (drop l.constant-index l.constants)) ≡ lacking (means_by l.around) (slot_of l.table) (constants_view l.constants)

@@ -1,4 +1,4 @@
-use Rattle.std.proofs.Common.{rules, refl}
+use Rattle.std.proofs.Common.{rules}
 use Rattle.go_model.specs.Names.Universe.{universe}
 use Rattle.go_model.proofs.predeclared.universe.Goals as goal
 

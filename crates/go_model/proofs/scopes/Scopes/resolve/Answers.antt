@@ -1,4 +1,4 @@
-use Rattle.std.proofs.Common.{◌∙◌, sym}
+use Rattle.std.proofs.Common.{◌∙◌}
 use Rattle.go_model.specs.Names.Imports.{known_in}
 use Rattle.go_model.specs.Names.Tables.{uses_of}
 use Rattle.go_model.proofs.TableLemmas.{node_denotes, node_found}

@@ -1,0 +1,100 @@
+-- The verdict on a package, by what was found of it.
+use Rattle.std.proofs.Common.{◌≡◌, ◌≢◌, ℕ, ℤ, Bool, true, Option, Some, List, [], ◌∷◌, map, refl, sym, ap, ◌∙◌, subst}
+use Rattle.std.specs.Prelude.{◌↔◌, slice_get}
+use Rattle.std.specs.Map.{lookup}
+use Rattle.std.proofs.Math.Path.{fun_ext}
+use Rattle.indexmap.specs.IndexMap.{insert_all}
+use Rattle.go_base.specs.declared.rule.Broken.{Broken}
+use Rattle.go_tree.specs.declared.node.NodeId.{NodeId}
+use Rattle.go_model.specs.declared.meaning.Meaning.{Meaning}
+use Rattle.go_model.specs.declared.object.ObjId.{ObjId}
+use Rattle.go_model.specs.declared.scopes.Scopes.{Scopes}
+use Rattle.go_model.specs.Constants.{Constant, constants_of, numbers_of}
+use Rattle.go_model.specs.FormRules.Order.{IsListOf}
+use Rattle.go_model.specs.Headers.{Known}
+use Rattle.go_model.specs.Meaning.{KnownValues, meaning_by, meaning_in, place_among, uses_table}
+use Rattle.go_model.specs.Module.{ModuleData, PackageData}
+use Rattle.go_model.specs.PackageLines.{lines_of}
+use Rattle.go_model.specs.Phases.{HasHeaders, BreaksValues, IsVerdict, by_names, by_values, sound, values_of}
+use Rattle.go_model.specs.Places.{placed_by}
+use Rattle.go_model.specs.Records.{Headers}
+use Rattle.go_model.specs.Report.{VerdictData, accepted, refused}
+use Rattle.go_model.specs.Rules.{broken_values}
+use Rattle.go_model.specs.Scopes.{same_node, same_object}
+use Rattle.go_model.specs.Waiting.{Chain}
+use Rattle.go_model.specs.Names.BrokenNames.{broken_names}
+use Rattle.go_model.specs.Names.Imports.{known_in}
+use Rattle.go_model.specs.Names.Tables.{IsScopesOf}
+use Rattle.go_scope.specs.Collecting.{IsBrokenNames}
+use Rattle.go_check.specs.declared.around.Around.{Around}
+use Rattle.go_check.specs.View.{IsAround, denotes_by, means_by, places_by}
+
+-- the package at a place is one
+same_package : (m : ModuleData) (k : ℕ) (p q : PackageData) → slice_get m.packages k ≡ Some p → slice_get m.packages k ≡ Some q → q ≡ p
+same_package m k p q at there = cc (at, there)
+
+module _ (m : ModuleData) (k : ℕ) (p : PackageData) (at : slice_get m.packages k ≡ Some p) where
+  -- the table of uses of the package's scopes
+  uses_are : (scopes : Scopes) → IsScopesOf m k scopes → scopes.uses.entries ≡ uses_table m k p
+  uses_are scopes is = is.tables.uses ∙ ap (uses_table m k) (same_package m k p is.p at is.at)
+
+  pub sound_names : (scopes : Scopes) → IsScopesOf m k scopes → broken_names (known_in m) k p ≡ []
+  sound_names scopes is = ap (broken_names (known_in m) k) (sym (same_package m k p is.p at is.at)) ∙ is.sound
+
+  module _ (constants : List Constant) (around : Around) (constants_are : constants ≡ constants_of p) (is_around : IsAround constants around) (is_scopes : IsScopesOf m k around.scopes.now) where
+    places_are : places_by around ≡ place_among (numbers_of (constants_of p))
+    places_are = fun_ext (λ d. is_around d ∙ ap (λ (cs : List Constant). place_among (numbers_of cs) d) constants_are)
+
+    pub means_are : means_by around ≡ meaning_in m k p around.before.now.entries
+    means_are =
+        ap (λ uses. meaning_by uses (places_by around) around.before.now.entries) (uses_are around.scopes.now is_scopes)
+        ∙ ap (λ places. meaning_by (uses_table m k p) places around.before.now.entries) places_are
+
+    pub denotes_are : denotes_by around ≡ (λ id. lookup (same_node id) (uses_table m k p))
+    denotes_are = ap (λ (uses : List (NodeId × ObjId)). λ id. lookup (same_node id) uses) (uses_are around.scopes.now is_scopes)
+
+module _ (m : ModuleData) (k : ℕ) (p : PackageData) (before : KnownValues) (means : ℕ → Meaning) (constants : List Constant) (means_are : means ≡ meaning_in m k p before) (constants_are : constants ≡ constants_of p) where
+  -- what the values break, over what was found
+  pub breaks : (headers : Headers) (cyclic : ℕ → Bool) (list : List Broken) → broken_names (known_in m) k p ≡ []
+      → ((d : ℕ) (h : ℤ) → (headers d ≡ Some h) ↔ Known means constants d h)
+      → ((d : ℕ) → (cyclic d ≡ true) ↔ Chain means constants headers d d)
+      → IsListOf (broken_values means headers cyclic p) list
+      → BreaksValues m k p before headers list
+  breaks headers cyclic list names known chains listed =
+      let found : HasHeaders means constants headers cyclic = record { known = known; is_cyclic = chains } in
+      let own = subst (λ (ms : ℕ → Meaning). HasHeaders ms constants headers cyclic) means_are found in
+      record {
+        sound_names = names;
+        cyclic = cyclic;
+        has_headers = subst (λ (cs : List Constant). HasHeaders (meaning_in m k p before) cs headers cyclic) constants_are own;
+        is_list = subst (λ (ms : ℕ → Meaning). IsListOf (broken_values ms headers cyclic p) list) means_are listed;
+      }
+
+  -- no rule is broken
+  pub sound_verdict : (headers : Headers) (denotes : NodeId → Option ObjId) (list : List Broken) (verdict : VerdictData) (values : List (ObjId × ℤ)) → BreaksValues m k p before headers list → list ≡ []
+      → denotes ≡ (λ id. lookup (same_node id) (uses_table m k p))
+      → verdict ≡ accepted (lines_of m k p denotes means headers) → values ≡ values_of means headers constants
+      → IsVerdict m k p before verdict (insert_all same_object before values)
+  sound_verdict headers denotes list verdict values found none denotes_are verdict_is values_are =
+      let is = sound headers (subst (BreaksValues m k p before headers) none found) in
+      let own : verdict ≡ accepted (lines_of m k p (λ id. lookup (same_node id) (uses_table m k p)) (meaning_in m k p before) headers) =
+      verdict_is ∙ ap (λ ds. accepted (lines_of m k p ds means headers)) denotes_are ∙ ap (λ (ms : ℕ → Meaning). accepted (lines_of m k p (λ id. lookup (same_node id) (uses_table m k p)) ms headers)) means_are in
+      let all : values ≡ values_of (meaning_in m k p before) headers (constants_of p) =
+      values_are ∙ ap (λ (ms : ℕ → Meaning). values_of ms headers constants) means_are ∙ ap (values_of (meaning_in m k p before) headers) constants_are in
+      subst (λ v. IsVerdict m k p before v (insert_all same_object before values)) (sym own)
+      (subst (λ vs. IsVerdict m k p before (accepted (lines_of m k p (λ id. lookup (same_node id) (uses_table m k p)) (meaning_in m k p before) headers)) (insert_all same_object before vs)) (sym all) is)
+
+module _ (m : ModuleData) (k : ℕ) (p : PackageData) (before : KnownValues) where
+  -- some rule is
+  pub refused_values : (headers : Headers) (list : List Broken) → BreaksValues m k p before headers list → list ≢ [] → IsVerdict m k p before (refused (map (placed_by p) list)) before
+  refused_values headers [] found some = absurd (some refl)
+  refused_values headers (b ∷ bs) found some = by_values headers b bs found
+
+  names_by : (list : List Broken) → IsListOf (broken_names (known_in m) k p) list → list ≢ [] → IsVerdict m k p before (refused (map (placed_by p) list)) before
+  names_by [] found some = absurd (some refl)
+  names_by (b ∷ bs) found some = by_names b bs found
+
+  pub refused_names : (list : List Broken) → slice_get m.packages k ≡ Some p → IsBrokenNames m k list → IsVerdict m k p before (refused (map (placed_by p) list)) before
+  refused_names list at broken =
+      let same : broken.p ≡ p = cc (at, broken.at) in
+      names_by list (subst (λ (q : PackageData). IsListOf (broken_names (known_in m) k q) list) same broken.is_list) broken.some

@@ -1,0 +1,21 @@
+use Rattle.std.proofs.Common.{◌≡◌, ◌-◌, ◌∙◌, ap, drop, arith}
+use Rattle.indexmap.specs.IndexMap.{insert_entry}
+use Rattle.go_model.specs.Constants.{number_of, numbers_of}
+use Rattle.go_model.specs.Scopes.{same_object}
+use Rattle.go_check.specs.View.{constant_view, constants_view}
+use Rattle.go_check.proofs.PlaceLemmas.{one_more_place, place_from, place_from_start}
+use Rattle.go_check.proofs.constants.places_of.Goals as goal
+
+pub loop-place-preserved : goal.loop-place-preserved
+loop-place-preserved c =
+    one_more_place constant_view number_of c.args.constants.now c.loop-place.place c.index-constants-place.result c.loop-place.places.entries c.insert.new.self.entries
+    (omega arith) (omega arith) c.index-constants-place.is
+    (c.in_ok-insert.ensures.entries ∙ ap (λ k. insert_entry same_object c.loop-place.places.entries k (c.loop-place.place - 1)) c.number.ensures)
+    c.loop-place.invariant
+
+pub returns : goal.returns
+returns c d =
+    let start : c.loop-place.place ≡ 0 = omega arith in
+    c.loop-place.invariant d
+    ∙ ap (λ n. place_from n (numbers_of (constants_view (drop n c.args.constants.now))) d) start
+    ∙ place_from_start (numbers_of (constants_view c.args.constants.now)) d

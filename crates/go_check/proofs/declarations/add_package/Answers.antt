@@ -1,0 +1,15 @@
+use Rattle.std.proofs.Common.{◌≡◌, List, ◌∙◌, ap, subst}
+use Rattle.std.specs.Prelude.{OnOk}
+use Rattle.indexmap.specs.IndexMap.{insert_all}
+use Rattle.go_model.specs.declared.object.ObjId.{ObjId}
+use Rattle.go_model.specs.declared.report.At.{At}
+use Rattle.go_model.specs.Module.{package_view}
+use Rattle.go_model.specs.Scopes.{same_object}
+use Rattle.go_check.specs.TextView.{texts_view}
+use Rattle.go_check.proofs.TextLemmas.{declared_in}
+use Rattle.go_check.proofs.declarations.add_package.Goals as goal
+
+pub returns : goal.returns
+returns c =
+    subst (λ (l : List (ObjId × At)). OnOk c.add_texts.result (c.add_texts.new.table.entries ≡ insert_all same_object c.args.table.now.entries l))
+    (declared_in (package_view c.args.own.now) c.deref.result.now (ap texts_view c.deref.ensures.value ∙ c.in_ok-texts_of.ensures)) c.add_texts.ensures

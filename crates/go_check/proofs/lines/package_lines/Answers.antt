@@ -1,0 +1,34 @@
+use Rattle.std.proofs.Common.{◌≡◌, ◌++◌, sym, ap, ◌∙◌}
+use Rattle.go_model.specs.Constants.{constants_from}
+use Rattle.go_model.specs.Module.{package_view}
+use Rattle.go_check.specs.Table.{slot_of}
+use Rattle.go_check.specs.TextView.{module_of, texts_view}
+use Rattle.go_check.specs.Texts.{texts_in, files_of, defs_by, uses_by, exprs_by}
+use Rattle.go_check.specs.View.{denotes_by, means_by}
+use Rattle.go_check.proofs.LineLemmas.{three_groups}
+use Rattle.go_check.proofs.TextLemmas.{files_are}
+use Rattle.go_check.proofs.lines.package_lines.Goals as goal
+
+pub push_defs-requires : goal.push_defs-requires
+push_defs-requires c =
+    let p = package_view c.args.own.now in
+    let are : texts_view c.deref.result.now ≡ texts_in p = ap texts_view c.deref.ensures.value ∙ c.in_ok-texts.ensures in
+    c.requires ∙ ap (constants_from 0) (sym (ap files_of are ∙ files_are p.stub p.files))
+
+pub returns : goal.returns
+returns c k =
+    let m = module_of c.args.declared.now in
+    let denotes = denotes_by c.args.around.now in
+    let means = means_by c.args.around.now in
+    let headers = slot_of c.args.table.now in
+    let start = c.new-lines.result.items in
+    let defs = c.push_defs.new.lines.items in
+    let uses = c.push_uses.new.lines.items in
+    let texts = texts_view c.in_ok-texts.texts.items in
+    three_groups m k (package_view c.args.own.now) denotes means headers texts start defs uses c.push_exprs.new.lines.items
+    c.in_ok-texts.ensures c.new-lines.ensures.items
+    (c.in_ok-push_defs.ensures
+    ∙ ap (λ l. start ++ defs_by m means headers 0 (texts_view l) c.deref-2.result.now) c.deref.ensures.value
+    ∙ ap (λ l. start ++ defs_by m means headers 0 texts l) c.deref-2.ensures.value)
+    (c.in_ok-push_uses.ensures ∙ ap (λ l. defs ++ uses_by m denotes 0 (texts_view l)) c.deref-3.ensures.value)
+    (c.in_ok-push_exprs.ensures ∙ ap (λ l. uses ++ exprs_by means headers (texts_view l)) c.deref-4.ensures.value)

@@ -1,0 +1,5 @@
+package p
+
+import "m/size"
+
+const Total = size.Large + size.Small

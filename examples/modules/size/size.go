@@ -1,0 +1,4 @@
+package size
+
+const Large = Small + 1
+const Small = 2
