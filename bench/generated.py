@@ -14,6 +14,10 @@ import sys
 import tempfile
 from typing import Any, NamedTuple
 
+sys.dont_write_bytecode = True
+
+from generated_text import Text, reached
+
 LIMIT = 2**127 - 1
 BLANKS = [' ', '  ', '\t', ' \t', '\r ']
 NAMES = ['A', 'B', 'C', 'D', 'x', 'y', 'z9', '_a', 'Const', 'packages', 'initial']
@@ -39,26 +43,6 @@ class Constant(NamedTuple):
     value: Node
 
 
-class Text:
-    """A text that tells where each piece of it stands."""
-
-    def __init__(self):
-        self.pieces, self.at = [], 0
-
-    def put(self, piece):
-        start = self.at
-        self.pieces.append(piece)
-        self.at += len(piece)
-        return start, self.at
-
-    def blank(self, needed=False):
-        if needed or rng.random() < .7:
-            self.put(rng.choice(BLANKS))
-
-    def __str__(self):
-        return ''.join(self.pieces)
-
-
 def number(wide):
     if wide and rng.random() < .3:
         return rng.choice([LIMIT, LIMIT + 1, LIMIT - 1, LIMIT * 3])
@@ -68,16 +52,18 @@ def number(wide):
 def write_item(text, names, depth, wide):
     drawn = rng.random()
     if drawn < .15 and depth < 6:
-        start, _ = text.put('(')
+        start = text.put('(')
         text.blank()
         inner = write_sum(text, names, depth + 1, wide)
         text.blank()
-        return Node(start, text.put(')')[1], 'paren', inner)
+        return Node(start, text.put(')') + 1, 'paren', inner)
     if drawn < .55 and names:
         name = rng.choice(names)
-        return Node(*text.put(name), 'name', name)
+        start = text.put(name)
+        return Node(start, text.at, 'name', name)
     value = number(wide)
-    return Node(*text.put(str(value)), 'int', value)
+    start = text.put(str(value))
+    return Node(start, text.at, 'int', value)
 
 
 def write_sum(text, names, depth, wide):
@@ -95,7 +81,7 @@ def write_sum(text, names, depth, wide):
 
 def make(kind):
     """A good file: the package's name, the text and the constants. In a plain one no name waits for itself."""
-    text = Text()
+    text = Text(rng, BLANKS)
     text.put(rng.choice(['', '\n', ' ', '\r\n']))
     text.put('package')
     text.blank(needed=True)
@@ -115,7 +101,8 @@ def make(kind):
         text.blank()
         text.put('const')
         text.blank(needed=True)
-        start, end = text.put(name)
+        start = text.put(name)
+        end = text.at
         text.blank()
         text.put('=')
         text.blank()
@@ -150,16 +137,6 @@ def known_headers(constants):
         more = {name: value for name, value in found.items() if value is not None}
         headers |= more
     return headers
-
-
-def reached(waits, name):
-    seen, todo = set(), list(waits[name])
-    while todo:
-        other = todo.pop()
-        if other not in seen:
-            seen.add(other)
-            todo += waits[other]
-    return seen
 
 
 def is_wide(node, headers):
@@ -240,6 +217,8 @@ def main():
     program = words.get(2, here + '/../crates/gocheck/out/gocheck')
     differ = 0
     with tempfile.TemporaryDirectory() as root:
+        with open(root + '/go.mod', 'w') as file:
+            file.write('module m\n\ngo 1.21\n')
         for _ in range(count):
             text, status, lines = case()
             with open(root + '/a.go', 'w', newline='') as file:
@@ -253,4 +232,5 @@ def main():
     sys.exit(differ > 0)
 
 
-main()
+if __name__ == '__main__':
+    main()

@@ -40,6 +40,8 @@ def main():
     here = os.path.dirname(os.path.abspath(__file__))
     program = sys.argv[1] if len(sys.argv) > 1 else here + '/../crates/gocheck/out/gocheck'
     with tempfile.TemporaryDirectory() as root:
+        with open(root + '/go.mod', 'w') as file:
+            file.write('module m\n\ngo 1.21\n')
         for make in (short_constants, open_parentheses):
             with open(root + '/a.go', 'w', newline='') as file:
                 file.write(make())

@@ -77,6 +77,9 @@ def main():
         subprocess.run([GO, 'build', '-o', other, here + '/parse/main.go'], check=True,
                        env={**os.environ, 'GO111MODULE': 'off', 'GOCACHE': root + '/cache'})
 
+        with open(root + '/go.mod', 'w') as file:
+            file.write('module m\n\ngo 1.21\n')
+
         def line(name, text, times):
             with open(root + '/a.go', 'wb') as file:
                 file.write(text)

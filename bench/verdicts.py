@@ -3,7 +3,7 @@
 
 usage: bench/verdicts.py [PROGRAM [FOLDER]]    (crates/gocheck/out/gocheck, Debian's Go 1.19)
 
-Each file is put as a.go into a folder of its own. A file counts as refused where rule S1, S2, S3 or L6 is in the
+Each file is put as a.go into a module of its own. A file counts as refused where rule S1, S2, S3 or L6 is in the
 list. Prints the paths on which both differ, with the rule and place, or Go's error, and how many files ended how.
 Ends with status 1 where a run ended otherwise than with a report.
 """
@@ -18,6 +18,8 @@ def own(program, path):
     with tempfile.TemporaryDirectory() as root:
         with open(path, 'rb') as file, open(root + '/a.go', 'wb') as copy:
             copy.write(file.read())
+        with open(root + '/go.mod', 'w') as file:
+            file.write('module m\n\ngo 1.21\n')
         done = subprocess.run([program, root], capture_output=True, timeout=60)
     broken = [line.split('\t')[1:] for line in done.stdout.decode().splitlines() if line.startswith('broken\t')]
     return done.returncode, [(place, rule) for place, rule in broken if rule in REFUSED]
