@@ -1,6 +1,5 @@
 -- The lines of a report: the names that files declare, and the three groups.
-use Rattle.std.proofs.Common.{◌≡◌, ℕ, suc, ◌+◌, ◌<◌, ◌≤◌, ◌==◌, min, Bool, true, false, cond, Bor, List, [], ◌∷◌, ◌++◌, Option, Some, length, map, take, drop, inl, inr, refl, sym, ap, ◌∙◌, subst, append_assoc, arith}
-use Rattle.std.specs.Prelude.{slice_get}
+use Rattle.std.proofs.Common.{◌≡◌, ℕ, suc, ◌+◌, ◌<◌, ◌≤◌, ◌==◌, min, Bool, true, false, cond, Bor, List, [], ◌∷◌, ◌++◌, Option, length, map, take, drop, inl, inr, refl, sym, ap, ◌∙◌, subst, append_assoc, arith}
 use Rattle.std.specs.List.{flat_map, prefix_len, zip}
 use Rattle.std.proofs.lemmas.Bool.{cases_lt}
 use Rattle.std.proofs.lemmas.Bool.Decides.{nat_tests}
@@ -13,11 +12,11 @@ use Rattle.go_model.specs.declared.object.ObjId.{ObjId}
 use Rattle.go_model.specs.declared.records.Line.{Line}
 use Rattle.go_model.specs.Constants.{Constant, bound, unbound, constants_with, constants_in_spec, constants_in_file, constants_from, values_in_spec}
 use Rattle.go_model.specs.Heads.{import_specs}
-use Rattle.go_model.specs.Module.{FileData, PackageData, ModuleData}
+use Rattle.go_model.specs.Module.{FileData, PackageData}
 use Rattle.go_model.specs.Names.Constants.{const_specs, names_in_spec}
 use Rattle.go_model.specs.Names.Imports.{imports_in, imports_from, imports_of}
 use Rattle.go_model.specs.Names.Occurrences.{occurrences_in_file}
-use Rattle.go_model.specs.PackageLines.{import_defs, import_defs_in, constant_defs, defs_in, defs_from, occurrence_uses, uses_from, exprs_in_file, lines_of}
+use Rattle.go_model.specs.PackageLines.{Outline, import_defs, import_defs_in, constant_defs, defs_in, defs_from, occurrence_uses, uses_from, exprs_in_file, lines_of}
 use Rattle.go_model.specs.Records.{Headers}
 use Rattle.go_scope.specs.Blocks.{trees_at}
 use Rattle.go_check.specs.declared.constants.Constant.{Constant as OwnConstant}
@@ -120,34 +119,34 @@ run_of_file file list f files is =
 
 -- the lines of the names that files declare
 
-pairs_are : (m : ModuleData) (stub : Bool) (f : FileData) (k file : ℕ) (pairs : List (Tree × ℕ)) → import_defs_by m (text_in stub f) pairs ≡ flat_map (import_defs m stub f) (map (λ pair. record { spec = pair.0; file = file; importer = k; imported = pair.1 }) pairs)
-pairs_are m stub f k file [] = refl
-pairs_are m stub f k file (pair ∷ pairs) = ap (λ l. import_defs_in m stub f pair.1 (parts_of pair.0) ++ l) (pairs_are m stub f k file pairs)
+pairs_are : (outline : Outline) (stub : Bool) (f : FileData) (k file : ℕ) (pairs : List (Tree × ℕ)) → import_defs_by outline (text_in stub f) pairs ≡ flat_map (import_defs outline stub f) (map (λ pair. record { spec = pair.0; file = file; importer = k; imported = pair.1 }) pairs)
+pairs_are outline stub f k file [] = refl
+pairs_are outline stub f k file (pair ∷ pairs) = ap (λ l. import_defs_in outline stub f pair.1 (parts_of pair.0) ++ l) (pairs_are outline stub f k file pairs)
 
-defs_are : (m : ModuleData) (k : ℕ) (stub : Bool) (means : ℕ → Meaning) (headers : Headers) (file : ℕ) (files : List FileData) (packages : List ℕ) → defs_by m means headers file (map (text_in stub) files) packages ≡ defs_from m stub means headers file files (imports_from k file files packages)
-defs_are m k stub means headers file [] packages = refl
-defs_are m k stub means headers file (f ∷ files) packages =
+defs_are : (outline : Outline) (k : ℕ) (stub : Bool) (means : ℕ → Meaning) (headers : Headers) (file : ℕ) (files : List FileData) (packages : List ℕ) → defs_by outline means headers file (map (text_in stub) files) packages ≡ defs_from outline stub means headers file files (imports_from k file files packages)
+defs_are outline k stub means headers file [] packages = refl
+defs_are outline k stub means headers file (f ∷ files) packages =
     let n = length (import_specs f.tree) in
-    ap (λ l. (l ++ flat_map (constant_defs stub f means headers) (constants_in_file file f.tree)) ++ defs_by m means headers (file + 1) (map (text_in stub) files) (drop n packages)) (pairs_are m stub f k file (zip (import_specs f.tree) (take n packages)))
-    ∙ ap (λ l. defs_in m stub means headers file f (imports_in k file (import_specs f.tree) (take n packages)) ++ l) (defs_are m k stub means headers (file + 1) files (drop n packages))
+    ap (λ l. (l ++ flat_map (constant_defs stub f means headers) (constants_in_file file f.tree)) ++ defs_by outline means headers (file + 1) (map (text_in stub) files) (drop n packages)) (pairs_are outline stub f k file (zip (import_specs f.tree) (take n packages)))
+    ∙ ap (λ l. defs_in outline stub means headers file f (imports_in k file (import_specs f.tree) (take n packages)) ++ l) (defs_are outline k stub means headers (file + 1) files (drop n packages))
 
-uses_are : (m : ModuleData) (stub : Bool) (denotes : NodeId → Option ObjId) (file : ℕ) (files : List FileData) → uses_by m denotes file (map (text_in stub) files) ≡ uses_from m stub denotes file files
-uses_are m stub denotes file [] = refl
-uses_are m stub denotes file (f ∷ files) = ap (λ l. flat_map (occurrence_uses m stub f denotes) (occurrences_in_file file f.tree) ++ l) (uses_are m stub denotes (file + 1) files)
+uses_are : (outline : Outline) (stub : Bool) (denotes : NodeId → Option ObjId) (file : ℕ) (files : List FileData) → uses_by outline denotes file (map (text_in stub) files) ≡ uses_from outline stub denotes file files
+uses_are outline stub denotes file [] = refl
+uses_are outline stub denotes file (f ∷ files) = ap (λ l. flat_map (occurrence_uses outline stub f denotes) (occurrences_in_file file f.tree) ++ l) (uses_are outline stub denotes (file + 1) files)
 
 -- the three groups of lines
-pub three_groups : (m : ModuleData) (k : ℕ) (p : PackageData) (denotes : NodeId → Option ObjId) (means : ℕ → Meaning) (headers : Headers) (texts : List TextData) (start defs uses whole : List Line) → texts ≡ texts_in p → start ≡ [] → defs ≡ start ++ defs_by m means headers 0 texts p.imports → uses ≡ defs ++ uses_by m denotes 0 texts → whole ≡ uses ++ exprs_by means headers texts → whole ≡ lines_of m k p denotes means headers
-three_groups m k p denotes means headers texts start defs uses whole is is_start is_defs is_uses is_whole =
-    let D = defs_by m means headers 0 texts p.imports in
-    let U = uses_by m denotes 0 texts in
+pub three_groups : (outline : Outline) (k : ℕ) (p : PackageData) (denotes : NodeId → Option ObjId) (means : ℕ → Meaning) (headers : Headers) (texts : List TextData) (start defs uses whole : List Line) → texts ≡ texts_in p → start ≡ [] → defs ≡ start ++ defs_by outline means headers 0 texts p.imports → uses ≡ defs ++ uses_by outline denotes 0 texts → whole ≡ uses ++ exprs_by means headers texts → whole ≡ lines_of outline k p denotes means headers
+three_groups outline k p denotes means headers texts start defs uses whole is is_start is_defs is_uses is_whole =
+    let D = defs_by outline means headers 0 texts p.imports in
+    let U = uses_by outline denotes 0 texts in
     let E = exprs_by means headers texts in
     is_whole
     ∙ ap (λ l. l ++ E) (is_uses ∙ ap (λ l. l ++ U) (is_defs ∙ ap (λ l. l ++ D) is_start))
     ∙ append_assoc D U E
-    ∙ ap (λ ts. defs_by m means headers 0 ts p.imports ++ (uses_by m denotes 0 ts ++ exprs_by means headers ts)) is
-    ∙ ap (λ l. l ++ (uses_by m denotes 0 (texts_in p) ++ exprs_by means headers (texts_in p))) (defs_are m k p.stub means headers 0 p.files p.imports)
-    ∙ ap (λ l. defs_from m p.stub means headers 0 p.files (imports_of k p) ++ (l ++ exprs_by means headers (texts_in p))) (uses_are m p.stub denotes 0 p.files)
-    ∙ ap (λ l. defs_from m p.stub means headers 0 p.files (imports_of k p) ++ (uses_from m p.stub denotes 0 p.files ++ l)) (each_text (λ stub f. exprs_in_file stub means headers f) p.stub p.files)
+    ∙ ap (λ ts. defs_by outline means headers 0 ts p.imports ++ (uses_by outline denotes 0 ts ++ exprs_by means headers ts)) is
+    ∙ ap (λ l. l ++ (uses_by outline denotes 0 (texts_in p) ++ exprs_by means headers (texts_in p))) (defs_are outline k p.stub means headers 0 p.files p.imports)
+    ∙ ap (λ l. defs_from outline p.stub means headers 0 p.files (imports_of k p) ++ (l ++ exprs_by means headers (texts_in p))) (uses_are outline p.stub denotes 0 p.files)
+    ∙ ap (λ l. defs_from outline p.stub means headers 0 p.files (imports_of k p) ++ (uses_from outline p.stub denotes 0 p.files ++ l)) (each_text (λ stub f. exprs_in_file stub means headers f) p.stub p.files)
 
 -- behind the last import of a file
 
@@ -162,29 +161,29 @@ pairs_done f xs ys i behind =
       | inr past ↦ ap (λ l. zip (map f l) (drop i ys)) (drop_all i xs past)
     ]
 
-pub imports_done : (m : ModuleData) (t : TextData) (specs : List (Bor Node)) (packages : List ℕ) (i : ℕ) (list whole : List Line) → min (length specs) (length packages) ≤ i → list ++ import_defs_by m t (zip (trees_at (drop i specs)) (drop i packages)) ≡ whole → list ≡ whole
-imports_done m t specs packages i list whole behind so_far =
-    sym (append-nil list) ∙ ap (λ l. list ++ import_defs_by m t l) (sym (pairs_done (λ node. tree_of node.now) specs packages i behind)) ∙ so_far
+pub imports_done : (outline : Outline) (t : TextData) (specs : List (Bor Node)) (packages : List ℕ) (i : ℕ) (list whole : List Line) → min (length specs) (length packages) ≤ i → list ++ import_defs_by outline t (zip (trees_at (drop i specs)) (drop i packages)) ≡ whole → list ≡ whole
+imports_done outline t specs packages i list whole behind so_far =
+    sym (append-nil list) ∙ ap (λ l. list ++ import_defs_by outline t l) (sym (pairs_done (λ node. tree_of node.now) specs packages i behind)) ∙ so_far
 
 -- one more file
-pub file_done : (m : ModuleData) (means : ℕ → Meaning) (headers : Headers) (file n : ℕ) (left rest : List TextData) (t : TextData) (named front behind : List ℕ) (specs : List Tree) (cs : List Constant) (old mid new whole : List Line) → left ≡ t ∷ rest → specs ≡ import_specs t.file.tree → n ≡ length specs → front ≡ take n named → behind ≡ drop n named → mid ≡ old ++ import_defs_by m t (zip specs front) → cs ≡ constants_in_file file t.file.tree → new ≡ mid ++ flat_map (constant_defs t.stub t.file means headers) cs → old ++ defs_by m means headers file left named ≡ whole → new ++ defs_by m means headers (file + 1) rest behind ≡ whole
-file_done m means headers file n left rest t named front behind specs cs old mid new whole at is_specs len is_front is_behind is_mid is_cs is_new so_far =
+pub file_done : (outline : Outline) (means : ℕ → Meaning) (headers : Headers) (file n : ℕ) (left rest : List TextData) (t : TextData) (named front behind : List ℕ) (specs : List Tree) (cs : List Constant) (old mid new whole : List Line) → left ≡ t ∷ rest → specs ≡ import_specs t.file.tree → n ≡ length specs → front ≡ take n named → behind ≡ drop n named → mid ≡ old ++ import_defs_by outline t (zip specs front) → cs ≡ constants_in_file file t.file.tree → new ≡ mid ++ flat_map (constant_defs t.stub t.file means headers) cs → old ++ defs_by outline means headers file left named ≡ whole → new ++ defs_by outline means headers (file + 1) rest behind ≡ whole
+file_done outline means headers file n left rest t named front behind specs cs old mid new whole at is_specs len is_front is_behind is_mid is_cs is_new so_far =
     let S = import_specs t.file.tree in
     let N = length S in
     let count : n ≡ N = len ∙ ap length is_specs in
-    let I = import_defs_by m t (zip S (take N named)) in
+    let I = import_defs_by outline t (zip S (take N named)) in
     let C = flat_map (constant_defs t.stub t.file means headers) (constants_in_file file t.file.tree) in
-    let R = defs_by m means headers (file + 1) rest (drop N named) in
+    let R = defs_by outline means headers (file + 1) rest (drop N named) in
     let imported : mid ≡ old ++ I =
     is_mid
-    ∙ ap (λ l. old ++ import_defs_by m t (zip l front)) is_specs
-    ∙ ap (λ l. old ++ import_defs_by m t (zip S l)) (is_front ∙ ap (λ k. take k named) count) in
+    ∙ ap (λ l. old ++ import_defs_by outline t (zip l front)) is_specs
+    ∙ ap (λ l. old ++ import_defs_by outline t (zip S l)) (is_front ∙ ap (λ k. take k named) count) in
     let made : new ≡ (old ++ I) ++ C = is_new ∙ ap (λ l. mid ++ flat_map (constant_defs t.stub t.file means headers) l) is_cs ∙ ap (λ l. l ++ C) imported in
-    ap (λ l. l ++ defs_by m means headers (file + 1) rest behind) made
-    ∙ ap (λ b. ((old ++ I) ++ C) ++ defs_by m means headers (file + 1) rest b) (is_behind ∙ ap (λ k. drop k named) count)
+    ap (λ l. l ++ defs_by outline means headers (file + 1) rest behind) made
+    ∙ ap (λ b. ((old ++ I) ++ C) ++ defs_by outline means headers (file + 1) rest b) (is_behind ∙ ap (λ k. drop k named) count)
     ∙ ap (λ l. l ++ R) (append_assoc old I C)
     ∙ append_assoc old (I ++ C) R
-    ∙ ap (λ ts. old ++ defs_by m means headers file ts named) (sym at)
+    ∙ ap (λ ts. old ++ defs_by outline means headers file ts named) (sym at)
     ∙ so_far
 
 -- the run at a place of the list, and what stands behind it
@@ -201,9 +200,3 @@ run_taken file n start list rest f files rest_is len is =
 pub specs_counted : (specs : List (Bor Node)) → length (trees_at specs) ≡ length specs
 specs_counted [] = refl
 specs_counted (spec ∷ specs) = ap suc (specs_counted specs)
-
--- the lines are those of the package that stands at the place
-pub lines_at : (m : ModuleData) (k : ℕ) (p q : PackageData) (denotes : NodeId → Option ObjId) (means : ℕ → Meaning) (headers : Headers) (lines : List Line) → slice_get m.packages k ≡ Some p → slice_get m.packages k ≡ Some q → lines ≡ lines_of m k p denotes means headers → lines ≡ lines_of m k q denotes means headers
-lines_at m k p q denotes means headers lines there is now =
-    let same : p ≡ q = cc in
-    now ∙ ap (λ x. lines_of m k x denotes means headers) same

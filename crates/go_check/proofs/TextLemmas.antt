@@ -65,17 +65,6 @@ pub flat_more : {X A : Type 0} (g : X → List A) (left rest : List X) (x : X) (
 flat_more g left rest x old new whole at now so_far =
     ap (λ l. l ++ flat_map g rest) now ∙ append_assoc old (g x) (flat_map g rest) ∙ ap (λ l. old ++ flat_map g l) (sym at) ∙ so_far
 
--- what stands at a place of a list, as others see it
-pub got_view : {X Y : Type 0} (g : X → Y) (xs : List X) (i : ℕ) (x : X) → i < length xs → x ≡ get_or xs i x → slice_get (map g xs) i ≡ Some (g x)
-got_view g [] i x lt e = absurd (omega arith)
-got_view g (y ∷ xs) zero x lt e = ap (λ z. Some (g z)) (sym e)
-got_view g (y ∷ xs) (suc i) x lt e = got_view g xs i x (omega arith) e
-
-pub got_none : {X Y : Type 0} (g : X → Y) (xs : List X) (i : ℕ) → length xs ≤ i → slice_get (map g xs) i ≡ None
-got_none g [] i past = refl
-got_none g (y ∷ xs) zero past = absurd (omega arith)
-got_none g (y ∷ xs) (suc i) past = got_none g xs i (omega arith)
-
 -- the place of a broken rule in a text, and where there is no text
 
 source_at : (texts : List Text) (i : ℕ) (t : Text) → i < length texts → t ≡ get_or texts i t → slice_get (sources_of (texts_view texts)) i ≡ Some (record { stub = t.stub; path = (file_of t).path; bytes = (file_of t).bytes })

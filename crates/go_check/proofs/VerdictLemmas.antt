@@ -14,7 +14,7 @@ use Rattle.go_model.specs.FormRules.Order.{IsListOf}
 use Rattle.go_model.specs.Headers.{Known}
 use Rattle.go_model.specs.Meaning.{KnownValues, meaning_by, meaning_in, place_among, uses_table}
 use Rattle.go_model.specs.Module.{ModuleData, PackageData}
-use Rattle.go_model.specs.PackageLines.{lines_of}
+use Rattle.go_model.specs.PackageLines.{lines_of, outline_of}
 use Rattle.go_model.specs.Phases.{HasHeaders, BreaksValues, IsVerdict, by_names, by_values, sound, values_of}
 use Rattle.go_model.specs.Places.{placed_by}
 use Rattle.go_model.specs.Records.{Headers}
@@ -73,16 +73,16 @@ module _ (m : ModuleData) (k : ℕ) (p : PackageData) (before : KnownValues) (me
   -- no rule is broken
   pub sound_verdict : (headers : Headers) (denotes : NodeId → Option ObjId) (list : List Broken) (verdict : VerdictData) (values : List (ObjId × ℤ)) → BreaksValues m k p before headers list → list ≡ []
       → denotes ≡ (λ id. lookup (same_node id) (uses_table m k p))
-      → verdict ≡ accepted (lines_of m k p denotes means headers) → values ≡ values_of means headers constants
+      → verdict ≡ accepted (lines_of (outline_of m) k p denotes means headers) → values ≡ values_of means headers constants
       → IsVerdict m k p before verdict (insert_all same_object before values)
   sound_verdict headers denotes list verdict values found none denotes_are verdict_is values_are =
       let is = sound headers (subst (BreaksValues m k p before headers) none found) in
-      let own : verdict ≡ accepted (lines_of m k p (λ id. lookup (same_node id) (uses_table m k p)) (meaning_in m k p before) headers) =
-      verdict_is ∙ ap (λ ds. accepted (lines_of m k p ds means headers)) denotes_are ∙ ap (λ (ms : ℕ → Meaning). accepted (lines_of m k p (λ id. lookup (same_node id) (uses_table m k p)) ms headers)) means_are in
+      let own : verdict ≡ accepted (lines_of (outline_of m) k p (λ id. lookup (same_node id) (uses_table m k p)) (meaning_in m k p before) headers) =
+      verdict_is ∙ ap (λ ds. accepted (lines_of (outline_of m) k p ds means headers)) denotes_are ∙ ap (λ (ms : ℕ → Meaning). accepted (lines_of (outline_of m) k p (λ id. lookup (same_node id) (uses_table m k p)) ms headers)) means_are in
       let all : values ≡ values_of (meaning_in m k p before) headers (constants_of p) =
       values_are ∙ ap (λ (ms : ℕ → Meaning). values_of ms headers constants) means_are ∙ ap (values_of (meaning_in m k p before) headers) constants_are in
       subst (λ v. IsVerdict m k p before v (insert_all same_object before values)) (sym own)
-      (subst (λ vs. IsVerdict m k p before (accepted (lines_of m k p (λ id. lookup (same_node id) (uses_table m k p)) (meaning_in m k p before) headers)) (insert_all same_object before vs)) (sym all) is)
+      (subst (λ vs. IsVerdict m k p before (accepted (lines_of (outline_of m) k p (λ id. lookup (same_node id) (uses_table m k p)) (meaning_in m k p before) headers)) (insert_all same_object before vs)) (sym all) is)
 
 module _ (m : ModuleData) (k : ℕ) (p : PackageData) (before : KnownValues) where
   -- some rule is

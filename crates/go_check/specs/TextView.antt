@@ -1,7 +1,8 @@
--- What texts, and a module with the table of its declarations, stand for.
+-- What texts, and the outline of a module, stand for.
 use Rattle.std.specs.Prelude.{List, map}
-use Rattle.go_model.specs.Module.{FileData, ModuleData, file_view, module_view}
-use Rattle.go_check.specs.declared.declarations.Declared.{Declared}
+use Rattle.go_model.specs.Module.{FileData, file_view}
+use Rattle.go_model.specs.PackageLines.{Outline}
+use Rattle.go_check.specs.declared.outline.Outline.{Outline as OwnOutline}
 use Rattle.go_check.specs.declared.places.Text.{Text}
 use Rattle.go_check.specs.Texts.{TextData}
 
@@ -14,5 +15,5 @@ text_view t = record { stub = t.stub; file = file_view t.file.now }
 abbrev pub texts_view : List Text → List TextData
 texts_view texts = map text_view texts
 
-abbrev pub module_of : Declared → ModuleData
-module_of d = module_view d.own.now
+abbrev pub outline_view : OwnOutline → Outline
+outline_view outline = record { paths = outline.paths.now; declared = outline.declared.now.entries }

@@ -10,9 +10,9 @@ use Rattle.go_model.specs.declared.records.Line.{Line}
 use Rattle.go_model.specs.Constants.{constants_in_file}
 use Rattle.go_model.specs.Folders.{SourceText}
 use Rattle.go_model.specs.Heads.{import_specs}
-use Rattle.go_model.specs.Module.{FileData, PackageData, ModuleData}
+use Rattle.go_model.specs.Module.{FileData, PackageData}
 use Rattle.go_model.specs.Names.Occurrences.{occurrences_in_file}
-use Rattle.go_model.specs.PackageLines.{constant_defs, import_defs_in, occurrence_uses, exprs_in, exprs_among, exprs_in_file}
+use Rattle.go_model.specs.PackageLines.{Outline, constant_defs, import_defs_in, occurrence_uses, exprs_in, exprs_among, exprs_in_file}
 use Rattle.go_model.specs.Records.{Headers}
 use Rattle.go_check.specs.declared.constants.Constant.{Constant as OwnConstant}
 
@@ -39,22 +39,22 @@ abbrev pub sources_of : List TextData → List SourceText
 sources_of texts = map (λ t. record { stub = t.stub; path = t.file.path; bytes = t.file.bytes }) texts
 
 -- the lines of the names that imports declare: of each its spec, and the place of the package that it names
-abbrev pub import_defs_by : ModuleData → TextData → List (Tree × ℕ) → List Line
-import_defs_by m t pairs = flat_map (λ pair. import_defs_in m t.stub t.file pair.1 (parts_of pair.0)) pairs
+abbrev pub import_defs_by : Outline → TextData → List (Tree × ℕ) → List Line
+import_defs_by outline t pairs = flat_map (λ pair. import_defs_in outline t.stub t.file pair.1 (parts_of pair.0)) pairs
 
 -- the lines of the names that files declare, of which the first has this place, where their imports name
 -- these packages
-abbrev pub defs_by : ModuleData → (ℕ → Meaning) → Headers → ℕ → List TextData → List ℕ → List Line
-defs_by m means headers file [] packages = []
-defs_by m means headers file (t ∷ texts) packages =
-    (import_defs_by m t (zip (import_specs t.file.tree) (take (length (import_specs t.file.tree)) packages))
+abbrev pub defs_by : Outline → (ℕ → Meaning) → Headers → ℕ → List TextData → List ℕ → List Line
+defs_by outline means headers file [] packages = []
+defs_by outline means headers file (t ∷ texts) packages =
+    (import_defs_by outline t (zip (import_specs t.file.tree) (take (length (import_specs t.file.tree)) packages))
     ++ flat_map (constant_defs t.stub t.file means headers) (constants_in_file file t.file.tree))
-    ++ defs_by m means headers (file + 1) texts (drop (length (import_specs t.file.tree)) packages)
+    ++ defs_by outline means headers (file + 1) texts (drop (length (import_specs t.file.tree)) packages)
 
 -- the lines of uses in files, of which the first has this place
-abbrev pub uses_by : ModuleData → (NodeId → Option ObjId) → ℕ → List TextData → List Line
-uses_by m denotes file [] = []
-uses_by m denotes file (t ∷ texts) = flat_map (occurrence_uses m t.stub t.file denotes) (occurrences_in_file file t.file.tree) ++ uses_by m denotes (file + 1) texts
+abbrev pub uses_by : Outline → (NodeId → Option ObjId) → ℕ → List TextData → List Line
+uses_by outline denotes file [] = []
+uses_by outline denotes file (t ∷ texts) = flat_map (occurrence_uses outline t.stub t.file denotes) (occurrences_in_file file t.file.tree) ++ uses_by outline denotes (file + 1) texts
 
 -- the lines of expressions in files
 abbrev pub exprs_by : (ℕ → Meaning) → Headers → List TextData → List Line

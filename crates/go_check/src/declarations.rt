@@ -6,7 +6,6 @@ ghost use Rattle.go_tree.specs.Tree.{tree_of};
 ghost use Rattle.go_model.specs.Heads.{import_specs};
 ghost use Rattle.go_model.specs.Module.{file_view, module_view, package_view};
 ghost use Rattle.go_model.specs.NodeParts.{first_part};
-ghost use Rattle.go_model.specs.PackageLines as package_lines;
 ghost use Rattle.go_model.specs.Places as spec;
 ghost use Rattle.go_model.specs.Names.Constants.{const_specs, names_in_spec};
 ghost use Rattle.go_model.specs.Scopes.{same_object};
@@ -14,61 +13,12 @@ ghost use Rattle.go_scope.specs.Blocks.{trees_at};
 
 use crate::parts::names_in_spec;
 use crate::places::{Text, texts_of};
-use go_base::{Name, NoMemory};
+use go_base::NoMemory;
 use go_model::{At, Module, ObjId, Package, first_part};
 use go_scope::{const_specs, import_specs};
 use go_tree::Node;
 use indexmap::IndexMap;
 use std::alloc::Global;
-
-/// A module, and where its objects are declared.
-#[derive(Drop)]
-pub struct Declared<'a> {
-    pub own: &'a Module,
-    pub table: &'a IndexMap<ObjId, At>,
-    ghost of_own: { table.now.entries ≡ spec.declarations (module_view own.now) },
-}
-
-impl<'a> Declared<'a> {
-    /// The module, and the table of its declarations.
-    pub fn new(own: &'a Module, table: &'a IndexMap<ObjId, At>) -> Declared<'a>
-        requires { table.now.entries ≡ spec.declarations (module_view own.now) }
-        ensures { result.own.now ≡ own.now }
-    {
-        Declared { own, table }
-    }
-
-    /// Where an object is declared; none for a predeclared one. An error is want of memory.
-    pub fn at(&self, d: ObjId) -> Result<Option<At>, NoMemory>
-        ensures { IfOk result (λ at. at ≡ spec.declared_at (module_view self.now.own.now) d) }
-    {
-        match self.table.get(&d) {
-            Some(at) => Ok(Some(copy_at(at)?)),
-            None => Ok(None),
-        }
-    }
-
-    /// The path of the package at a place of the module. An error is want of memory.
-    pub fn path_at(&self, alloc: Global, place: usize) -> Result<Name, NoMemory>
-        ensures { IfOk result (λ path. path ≡ package_lines.path_at (module_view self.now.own.now) place) }
-    {
-        match self.own.packages.get(place) {
-            Some(named) => Ok(named.path.clone()?),
-            None => Ok(Name::new(String::new(alloc))),
-        }
-    }
-}
-
-fn copy_at(at: &At) -> Result<At, NoMemory>
-    ensures { IfOk result (λ copy. copy ≡ at.now) }
-{
-    Ok(At {
-        stub: at.stub,
-        file: at.file.clone()?,
-        line: at.line,
-        col: at.col,
-    })
-}
 
 /// The place of each declaration of a module, by the number of the object. An error is want of memory.
 pub fn declarations(alloc: Global, module: &Module) -> Result<IndexMap<ObjId, At>, NoMemory>

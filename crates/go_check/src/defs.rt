@@ -12,12 +12,12 @@ ghost use Rattle.go_model.specs.Places.{at_offset};
 ghost use Rattle.go_scope.specs.Blocks.{trees_at};
 ghost use Rattle.go_check.specs.Table.{slot_of};
 ghost use Rattle.go_check.specs.Texts.{defs_by, files_of, import_defs_by, is_in};
-ghost use Rattle.go_check.specs.TextView.{file_of, module_of, text_view, texts_view};
+ghost use Rattle.go_check.specs.TextView.{file_of, outline_view, text_view, texts_view};
 ghost use Rattle.go_check.specs.View.{constant_view, constants_view, means_by};
 
 use crate::around::Around;
 use crate::constants::Constant;
-use crate::declarations::Declared;
+use crate::outline::Outline;
 use crate::places::Text;
 use crate::record::value_over;
 use go_base::NoMemory;
@@ -32,7 +32,7 @@ use std::alloc::Global;
 /// file after file, and these are the constants of the files. An error is want of memory.
 pub fn push_defs(
     alloc: Global,
-    declared: &Declared,
+    outline: &Outline,
     texts: &[Text],
     packages: &[usize],
     around: &Around,
@@ -41,7 +41,7 @@ pub fn push_defs(
     lines: &mut Vec<Line>,
 ) -> Result<(), NoMemory>
     requires { constants_view constants.now ≡ constants_from 0 (files_of (texts_view texts.now)) }
-    ensures { OnOk result (lines.new.items ≡ lines.old.items ++ defs_by (module_of declared.now)
+    ensures { OnOk result (lines.new.items ≡ lines.old.items ++ defs_by (outline_view outline.now)
         (means_by around.now) (slot_of table.now) 0 (texts_view texts.now) packages.now) }
 {
     let mut named = packages;
@@ -49,7 +49,7 @@ pub fn push_defs(
     for (file, text) in texts.iter().enumerate() {
         let specs = import_specs(alloc, text.root())?;
         let count = specs.len();
-        push_imports(alloc, declared, text, &specs, front(named, count), lines)?;
+        push_imports(alloc, outline, text, &specs, front(named, count), lines)?;
         named = behind(named, count);
         let rest = &constants[start..];
         let run = run_length(rest, file);
@@ -73,17 +73,17 @@ fn run_length(constants: &[Constant], file: usize) -> usize
 // Pushes the line of each import of a file with a name that is written.
 fn push_imports(
     alloc: Global,
-    declared: &Declared,
+    outline: &Outline,
     text: &Text,
     specs: &[&Node],
     packages: &[usize],
     lines: &mut Vec<Line>,
 ) -> Result<(), NoMemory>
     ensures { OnOk result (lines.new.items ≡ lines.old.items
-        ++ import_defs_by (module_of declared.now) (text_view text.now) (zip (trees_at specs.now) packages.now)) }
+        ++ import_defs_by (outline_view outline.now) (text_view text.now) (zip (trees_at specs.now) packages.now)) }
 {
     for i in 0..specs.len().min(packages.len()) {
-        push_import(alloc, declared, text, specs[i], packages[i], lines)?;
+        push_import(alloc, outline, text, specs[i], packages[i], lines)?;
     }
     Ok(())
 }
@@ -91,17 +91,17 @@ fn push_imports(
 // Pushes the line of an import, if a name is written.
 fn push_import(
     alloc: Global,
-    declared: &Declared,
+    outline: &Outline,
     text: &Text,
     import: &Node,
     imported: usize,
     lines: &mut Vec<Line>,
 ) -> Result<(), NoMemory>
     ensures { OnOk result (lines.new.items ≡ lines.old.items ++ spec.import_defs_in
-        (module_of declared.now) text.now.stub (file_of text.now) imported (parts_of (tree_of import.now))) }
+        (outline_view outline.now) text.now.stub (file_of text.now) imported (parts_of (tree_of import.now))) }
 {
     match import.both_parts() {
-        Some((name, _)) => push_named(alloc, declared, text, name, imported, lines),
+        Some((name, _)) => push_named(alloc, outline, text, name, imported, lines),
         None => Ok(()),
     }
 }
@@ -109,17 +109,17 @@ fn push_import(
 // Pushes the line of an import with that before its string.
 fn push_named(
     alloc: Global,
-    declared: &Declared,
+    outline: &Outline,
     text: &Text,
     name: &Node,
     imported: usize,
     lines: &mut Vec<Line>,
 ) -> Result<(), NoMemory>
     ensures { OnOk result (lines.new.items ≡ lines.old.items ++ spec.import_def
-        (module_of declared.now) text.now.stub (file_of text.now) imported (tree_of name.now)) }
+        (outline_view outline.now) text.now.stub (file_of text.now) imported (tree_of name.now)) }
 {
     if !is_dot(name) {
-        let kind = DefKind::Package(declared.path_at(alloc, imported)?);
+        let kind = DefKind::Package(outline.path_at(alloc, imported)?);
         lines.push(def_line(alloc, text, name, kind)?)?;
     }
     Ok(())

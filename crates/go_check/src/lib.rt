@@ -25,12 +25,14 @@ mod waits;
 
 // Places.
 mod declarations;
+mod outline;
 mod places;
 
 // Lines.
 mod defs;
 mod exprs;
 mod lines;
+mod room;
 mod uses;
 
 // Reports.

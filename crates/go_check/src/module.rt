@@ -1,99 +1,138 @@
 // The check of a module (Go specification, "Package initialization", "Packages").
-ghost use Rattle.std.specs.Prelude.{◌≡◌, ◌∷◌, ◌++◌, ◌+◌, ◌<◌, [], IfOk, OnOk, length, map};
+ghost use Rattle.std.specs.Prelude.{◌≡◌, ◌∷◌, ◌++◌, ◌+◌, [], Some, IfOk, OnOk, length, map, slice_get};
 ghost use Rattle.std.specs.List.{list_all};
-ghost use Rattle.go_model.specs.Module.{module_view, package_view};
+ghost use Rattle.go_model.specs.Module.{ModuleData, module_view, package_view};
+ghost use Rattle.go_model.specs.PackageLines.{outline_of};
 ghost use Rattle.go_model.specs.Packages as packages;
 ghost use Rattle.go_model.specs.Phases as phases;
-ghost use Rattle.go_model.specs.Places.{declarations};
 ghost use Rattle.go_model.specs.Report.{report_view, verdict_view};
 ghost use Rattle.go_model.specs.Report as reports;
 ghost use Rattle.go_check.specs.State.{IsState};
+ghost use Rattle.go_check.specs.TextView.{outline_view};
 
 use crate::declarations::declarations;
-use crate::package::check_package;
-use go_base::{NoMemory, Steps};
-use go_model::{At, Module, ObjId, Package, PackageReport, Report, Scopes, Verdict};
+use crate::outline::Outline;
+use crate::package::{Checked, check_package, unknown};
+use go_base::{Name, NoMemory, Steps};
+use go_model::{Module, ObjId, Package, PackageReport, Report, Verdict};
+use go_scope::KnownPackage;
 use indexmap::IndexMap;
 use std::alloc::Global;
 use std::sync::ledger::Ledger;
 
-/// The packages that are checked: which of them are accepted, their scopes, the values of the constants of those
-/// that are accepted, and their reports.
+/// The packages that are checked: which of them are accepted, what they are known by, the values of the constants
+/// of those that are accepted, and their reports.
 #[derive(Drop)]
 pub struct State {
     pub marks: Vec<bool>,
-    pub scopes: Vec<Scopes>,
+    pub known: Vec<KnownPackage>,
     pub before: IndexMap<ObjId, i128>,
     pub reports: Vec<PackageReport>,
 }
 
 /// The report of a module, package after package in import order: what its names break, else what its values
-/// break, else its lines; a package is skipped where one that it imports is not accepted. An error is want of
-/// memory. The count of steps stays as it is.
+/// break, else its lines; a package is skipped where one that it imports is not accepted. Each package is dropped
+/// once it is checked. An error is want of memory. The count of steps stays as it is.
 pub fn check_module<L: Ledger>(
     alloc: Global,
-    module: &Module,
+    module: Module,
     _steps: &mut Steps<L>,
 ) -> Result<Report, NoMemory>
-    ensures { IfOk result (λ report. phases.ReportOf (module_view «module».now) (report_view report)) }
+    ensures { IfOk result (λ report. phases.ReportOf (module_view «module») (report_view report)) }
 {
-    let declared = declarations(alloc, module)?;
+    let declared = declarations(alloc, &module)?;
+    let paths = paths_of(alloc, &module.packages)?;
+    let Module {
+        path,
+        version,
+        packages,
+    } = module;
+    let outline = Outline {
+        paths: &paths,
+        declared: &declared,
+    };
+    let reports = check_packages(alloc, packages, &outline)?;
+    Ok(Report {
+        path,
+        version,
+        first: Vec::new(alloc),
+        packages: reports,
+    })
+}
+
+// The paths of packages.
+fn paths_of(alloc: Global, list: &[Package]) -> Result<Vec<Name>, NoMemory>
+    ensures { IfOk result (λ paths. paths.items ≡ map (λ p. p.path) (map package_view list.now)) }
+{
+    let mut paths = Vec::new(alloc);
+    for own in list {
+        paths.push(own.path.clone()?)?;
+    }
+    Ok(paths)
+}
+
+// The reports of the packages of a module.
+fn check_packages(
+    alloc: Global,
+    list: Vec<Package>,
+    outline: &Outline,
+) -> Result<Vec<PackageReport>, NoMemory>
+    ensures { IfOk result (λ made. (m : ModuleData) → m.packages ≡ map package_view list.items
+        → outline_view outline.now ≡ outline_of m
+        → phases.AreReports m 0 [] [] m.packages (map reports.package_view made.items)) }
+{
     let mut state = State {
         marks: Vec::new(alloc),
-        scopes: Vec::new(alloc),
+        known: Vec::new(alloc),
         before: IndexMap::new(alloc),
         reports: Vec::new(alloc),
     };
-    for place in 0..module.packages.len() {
-        check_next(alloc, module, &declared, place, &mut state)?;
+    for own in list {
+        check_next(alloc, &own, outline, &mut state)?;
     }
-    Ok(Report {
-        path: module.path.clone()?,
-        version: module.version,
-        first: Vec::new(alloc),
-        packages: state.reports,
-    })
+    Ok(state.reports)
 }
 
 // Checks one more package.
 fn check_next(
     alloc: Global,
-    module: &Module,
-    declared: &IndexMap<ObjId, At>,
-    place: usize,
+    own: &Package,
+    outline: &Outline,
     state: &mut State,
 ) -> Result<(), NoMemory>
-    requires within { place < length «module».now.packages.items }
-    requires declared { declared.now.entries ≡ declarations (module_view «module».now) }
-    requires state { IsState (module_view «module».now) place state.old }
-    ensures { OnOk result (IsState (module_view «module».now) (place + 1) state.new) }
+    ensures { OnOk result ((m : ModuleData)
+        → slice_get m.packages (length state.old.marks.items) ≡ Some (package_view own.now)
+        → outline_view outline.now ≡ outline_of m
+        → IsState m (length state.old.marks.items) state.old
+        → IsState m (length state.old.marks.items + 1) state.new) }
 {
-    let own = &module.packages[place];
     if imports_accepted(&state.marks, &own.imports) {
-        let scopes = &mut state.scopes;
+        let place = state.marks.len();
         let before = &mut state.before;
-        let verdict = check_package(alloc, module, declared, place, scopes, before)?;
-        add_report(own, verdict, &mut state.marks, &mut state.reports)
+        let checked = check_package(alloc, place, own, outline, &state.known, before)?;
+        add_checked(own, checked, state)
     } else {
-        state.scopes.push(Scopes::empty(alloc)?)?;
-        add_report(own, Verdict::Skipped, &mut state.marks, &mut state.reports)
+        let verdict = Verdict::Skipped;
+        let known = unknown(alloc);
+        add_checked(own, Checked { verdict, known }, state)
     }
 }
 
-// Adds the report of a package, and the mark of an accepted one.
-fn add_report(
-    own: &Package,
-    verdict: Verdict,
-    marks: &mut Vec<bool>,
-    list: &mut Vec<PackageReport>,
-) -> Result<(), NoMemory>
-    ensures marks { OnOk result (marks.new.items
-        ≡ marks.old.items ++ phases.is_accepted (verdict_view verdict) ∷ []) }
-    ensures list { OnOk result (map reports.package_view list.new.items ≡ map reports.package_view list.old.items
-        ++ phases.package_report (package_view own.now) (verdict_view verdict) ∷ []) }
+// Adds the report of a package, the mark of an accepted one, and what it is known by.
+fn add_checked(own: &Package, checked: Checked, state: &mut State) -> Result<(), NoMemory>
+    ensures marks { OnOk result (state.new.marks.items
+        ≡ state.old.marks.items ++ phases.is_accepted (verdict_view checked.verdict) ∷ []) }
+    ensures known { OnOk result (state.new.known.items
+        ≡ state.old.known.items ++ checked.known ∷ []) }
+    ensures before { OnOk result (state.new.before ≡ state.old.before) }
+    ensures reports { OnOk result (map reports.package_view state.new.reports.items
+        ≡ map reports.package_view state.old.reports.items
+        ++ phases.package_report (package_view own.now) (verdict_view checked.verdict) ∷ []) }
 {
-    marks.push(is_accepted(&verdict))?;
-    list.push(package_report(own, verdict)?)?;
+    let Checked { verdict, known } = checked;
+    state.marks.push(is_accepted(&verdict))?;
+    state.known.push(known)?;
+    state.reports.push(package_report(own, verdict)?)?;
     Ok(())
 }
 

@@ -5,13 +5,13 @@ ghost use Rattle.std.specs.List.{flat_map};
 ghost use Rattle.go_model.specs.declared.records.Line.{Line};
 ghost use Rattle.go_model.specs.declared.records.What.TheVariants as what;
 ghost use Rattle.go_model.specs.PackageLines as spec;
-ghost use Rattle.go_model.specs.Places.{at_offset, declared_at};
+ghost use Rattle.go_model.specs.Places.{at_offset};
 ghost use Rattle.go_check.specs.Texts.{uses_by};
-ghost use Rattle.go_check.specs.TextView.{file_of, module_of, texts_view};
+ghost use Rattle.go_check.specs.TextView.{file_of, outline_view, texts_view};
 ghost use Rattle.go_check.specs.View.{denotes_by};
 
 use crate::around::Around;
-use crate::declarations::Declared;
+use crate::outline::Outline;
 use crate::places::Text;
 use go_base::{Name, NoMemory};
 use go_model::{Line, ObjId, Occurrence, Selected, What};
@@ -22,53 +22,53 @@ use std::alloc::Global;
 /// Pushes the line of each use in the files of a package. An error is want of memory.
 pub fn push_uses(
     alloc: Global,
-    declared: &Declared,
+    outline: &Outline,
     texts: &[Text],
     around: &Around,
     lines: &mut Vec<Line>,
 ) -> Result<(), NoMemory>
     ensures { OnOk result (lines.new.items
-        ≡ lines.old.items ++ uses_by (module_of declared.now) (denotes_by around.now) 0 (texts_view texts.now)) }
+        ≡ lines.old.items ++ uses_by (outline_view outline.now) (denotes_by around.now) 0 (texts_view texts.now)) }
 {
     for (file, text) in texts.iter().enumerate() {
         let found = occurrences_in_file(alloc, file, text.root())?;
-        push_occurrences(declared, text, around, &found, lines)?;
+        push_occurrences(outline, text, around, &found, lines)?;
     }
     Ok(())
 }
 
 // Pushes the lines of the uses that occur in a file.
 fn push_occurrences(
-    declared: &Declared,
+    outline: &Outline,
     text: &Text,
     around: &Around,
     found: &[Occurrence],
     lines: &mut Vec<Line>,
 ) -> Result<(), NoMemory>
     ensures { OnOk result (lines.new.items ≡ lines.old.items
-        ++ flat_map (spec.occurrence_uses (module_of declared.now)
+        ++ flat_map (spec.occurrence_uses (outline_view outline.now)
         text.now.stub (file_of text.now) (denotes_by around.now)) found.now) }
 {
     for occurrence in found {
-        push_occurrence(declared, text, around, occurrence, lines)?;
+        push_occurrence(outline, text, around, occurrence, lines)?;
     }
     Ok(())
 }
 
 // Pushes the line of an identifier, and that of the name behind its `.`.
 fn push_occurrence(
-    declared: &Declared,
+    outline: &Outline,
     text: &Text,
     around: &Around,
     occurrence: &Occurrence,
     lines: &mut Vec<Line>,
 ) -> Result<(), NoMemory>
     ensures { OnOk result (lines.new.items ≡ lines.old.items
-        ++ spec.occurrence_uses (module_of declared.now)
+        ++ spec.occurrence_uses (outline_view outline.now)
         text.now.stub (file_of text.now) (denotes_by around.now) occurrence.now) }
 {
     push_use(
-        declared,
+        outline,
         text,
         around,
         occurrence.id,
@@ -76,29 +76,29 @@ fn push_occurrence(
         &occurrence.name,
         lines,
     )?;
-    push_selected(declared, text, around, &occurrence.selected, lines)
+    push_selected(outline, text, around, &occurrence.selected, lines)
 }
 
 fn push_selected(
-    declared: &Declared,
+    outline: &Outline,
     text: &Text,
     around: &Around,
     selected: &Option<Selected>,
     lines: &mut Vec<Line>,
 ) -> Result<(), NoMemory>
     ensures { OnOk result (lines.new.items ≡ lines.old.items
-        ++ spec.selected_use (module_of declared.now)
+        ++ spec.selected_use (outline_view outline.now)
         text.now.stub (file_of text.now) (denotes_by around.now) selected.now) }
 {
     match selected {
-        Some(name) => push_use(declared, text, around, name.id, name.at, &name.name, lines),
+        Some(name) => push_use(outline, text, around, name.id, name.at, &name.name, lines),
         None => Ok(()),
     }
 }
 
 // Pushes the line of an identifier, where it denotes an object.
 fn push_use(
-    declared: &Declared,
+    outline: &Outline,
     text: &Text,
     around: &Around,
     id: NodeId,
@@ -107,18 +107,18 @@ fn push_use(
     lines: &mut Vec<Line>,
 ) -> Result<(), NoMemory>
     ensures { OnOk result (lines.new.items ≡ lines.old.items
-        ++ spec.use_at (module_of declared.now)
+        ++ spec.use_at (outline_view outline.now)
         text.now.stub (file_of text.now) (denotes_by around.now) id from name.now) }
 {
     if let Some(d) = around.scopes.resolve(id) {
-        lines.push(use_line(declared, text, d, from, name)?)?;
+        lines.push(use_line(outline, text, d, from, name)?)?;
     }
     Ok(())
 }
 
 // The line of a name that denotes this object.
 fn use_line(
-    declared: &Declared,
+    outline: &Outline,
     text: &Text,
     d: ObjId,
     from: usize,
@@ -126,11 +126,11 @@ fn use_line(
 ) -> Result<Line, NoMemory>
     ensures { IfOk result (λ line. line ≡ record {
       at = at_offset text.now.stub (file_of text.now) from;
-      what = what.Used name.now (declared_at (module_of declared.now) d);
+      what = what.Used name.now (spec.declared_at (outline_view outline.now) d);
     }) }
 {
     Ok(Line {
         at: text.at(from)?,
-        what: What::Used(name.clone()?, declared.at(d)?),
+        what: What::Used(name.clone()?, outline.at(d)?),
     })
 }

@@ -2,8 +2,9 @@
 -- Decides which lines it has: one for each declared name, one for each use of a name, and one for each
 -- expression. How a line reads: `Text`. The lines of a kind stand by their places, and of two expressions that
 -- start at one place the longer one stands first.
-use Rattle.std.specs.Prelude.{ℕ, ℤ, ◌+◌, Bool, if◌then◌else◌, List, [], ◌∷◌, ◌++◌, Option, Some, None, slice_get}
+use Rattle.std.specs.Prelude.{ℕ, ℤ, ◌+◌, Bool, if◌then◌else◌, List, [], ◌∷◌, ◌++◌, Option, Some, None, map, slice_get, unwrap_or}
 use Rattle.std.specs.List.{flat_map}
+use Rattle.std.specs.Map.{lookup}
 use Rattle.std.specs.Option.{option_map_or}
 use Rattle.go_base.specs.Place.{line_of, column_of}
 use Rattle.go_num.specs.declared.value.Value.TheVariants.{Int}
@@ -21,10 +22,12 @@ use Rattle.go_model.specs.declared.rec.Mode.TheVariants.{Const as ConstMode}
 use Rattle.go_model.specs.declared.records.DefKind.TheVariants.{Const, Package}
 use Rattle.go_model.specs.declared.records.Line.{Line}
 use Rattle.go_model.specs.declared.records.What.TheVariants.{Def, Used, Expr}
+use Rattle.go_model.specs.declared.report.At.{At}
 use Rattle.go_model.specs.Constants.{Constant, constants_in_file, values_in_spec}
 use Rattle.go_model.specs.Module.{FileData, PackageData, ModuleData}
-use Rattle.go_model.specs.Places.{at_offset, declared_at}
+use Rattle.go_model.specs.Places.{at_offset, declarations}
 use Rattle.go_model.specs.Records.{Headers, record_of, value_over}
+use Rattle.go_model.specs.Scopes.{same_object}
 use Rattle.go_model.specs.Names.Constants.{const_specs, name_text}
 use Rattle.go_model.specs.Names.Imports.{Importing, imports_of, is_dot}
 use Rattle.go_model.specs.Names.Occurrences.{occurrences_in_file}
@@ -33,21 +36,34 @@ use Rattle.go_model.specs.Names.Occurrences.{occurrences_in_file}
 abbrev pub untyped_int : Term
 untyped_int = Basic UntypedInt
 
+-- what the lines of a package need of the module around it: the paths of its packages, and where its objects
+-- are declared
+pub record Outline : Type 0 where
+  pub paths : List (List ℕ)
+  pub declared : List (ObjId × At)
+
+abbrev pub outline_of : ModuleData → Outline
+outline_of m = record { paths = map (λ p. p.path) m.packages; declared = declarations m }
+
+abbrev pub path_at : Outline → ℕ → List ℕ
+path_at outline place = unwrap_or (slice_get outline.paths place) []
+
+-- where an object is declared; none for a predeclared one
+abbrev pub declared_at : Outline → ObjId → Option At
+declared_at outline d = lookup (same_object d) outline.declared
+
 -- an import with a name that is written: the name, and the path of the package
-abbrev pub path_at : ModuleData → ℕ → List ℕ
-path_at m place = option_map_or (λ p. p.path) (slice_get m.packages place) []
-
-abbrev pub import_def : ModuleData → Bool → FileData → ℕ → Tree → List Line
-import_def m stub f imported name =
+abbrev pub import_def : Outline → Bool → FileData → ℕ → Tree → List Line
+import_def outline stub f imported name =
     if is_dot name then []
-    else record { at = at_offset stub f (start_of name); what = Def (name_text name) (Package (path_at m imported)) } ∷ []
+    else record { at = at_offset stub f (start_of name); what = Def (name_text name) (Package (path_at outline imported)) } ∷ []
 
-abbrev pub import_defs_in : ModuleData → Bool → FileData → ℕ → Trees → List Line
-import_defs_in m stub f imported (more_trees name (more_trees string no_trees)) = import_def m stub f imported name
-import_defs_in m stub f imported parts = []
+abbrev pub import_defs_in : Outline → Bool → FileData → ℕ → Trees → List Line
+import_defs_in outline stub f imported (more_trees name (more_trees string no_trees)) = import_def outline stub f imported name
+import_defs_in outline stub f imported parts = []
 
-abbrev pub import_defs : ModuleData → Bool → FileData → Importing → List Line
-import_defs m stub f i = import_defs_in m stub f i.imported (parts_of i.spec)
+abbrev pub import_defs : Outline → Bool → FileData → Importing → List Line
+import_defs outline stub f i = import_defs_in outline stub f i.imported (parts_of i.spec)
 
 -- a constant, with its value
 abbrev pub constant_defs : Bool → FileData → (ℕ → Meaning) → Headers → Constant → List Line
@@ -55,29 +71,29 @@ constant_defs stub f means headers constant =
     option_map_or (λ v. record { at = at_offset stub f (start_of constant.name); what = Def (name_text constant.name) (Const untyped_int (Int v)) } ∷ [])
     (value_over means headers constant) []
 
-abbrev pub defs_in : ModuleData → Bool → (ℕ → Meaning) → Headers → ℕ → FileData → List Importing → List Line
-defs_in m stub means headers file f imports = flat_map (import_defs m stub f) imports ++ flat_map (constant_defs stub f means headers) (constants_in_file file f.tree)
+abbrev pub defs_in : Outline → Bool → (ℕ → Meaning) → Headers → ℕ → FileData → List Importing → List Line
+defs_in outline stub means headers file f imports = flat_map (import_defs outline stub f) imports ++ flat_map (constant_defs stub f means headers) (constants_in_file file f.tree)
 
 -- those of these files, of which the first has this place
-abbrev pub defs_from : ModuleData → Bool → (ℕ → Meaning) → Headers → ℕ → List FileData → List (List Importing) → List Line
-defs_from m stub means headers file (f ∷ files) (imports ∷ others) = defs_in m stub means headers file f imports ++ defs_from m stub means headers (file + 1) files others
-defs_from m stub means headers file files imports = []
+abbrev pub defs_from : Outline → Bool → (ℕ → Meaning) → Headers → ℕ → List FileData → List (List Importing) → List Line
+defs_from outline stub means headers file (f ∷ files) (imports ∷ others) = defs_in outline stub means headers file f imports ++ defs_from outline stub means headers (file + 1) files others
+defs_from outline stub means headers file files imports = []
 
 -- an identifier that denotes an object: its name, and where that is declared
-abbrev pub use_at : ModuleData → Bool → FileData → (NodeId → Option ObjId) → NodeId → ℕ → List ℕ → List Line
-use_at m stub f denotes id from name =
-    option_map_or (λ d. record { at = at_offset stub f from; what = Used name (declared_at m d) } ∷ []) (denotes id) []
+abbrev pub use_at : Outline → Bool → FileData → (NodeId → Option ObjId) → NodeId → ℕ → List ℕ → List Line
+use_at outline stub f denotes id from name =
+    option_map_or (λ d. record { at = at_offset stub f from; what = Used name (declared_at outline d) } ∷ []) (denotes id) []
 
-abbrev pub selected_use : ModuleData → Bool → FileData → (NodeId → Option ObjId) → Option Selected → List Line
-selected_use m stub f denotes None = []
-selected_use m stub f denotes (Some s) = use_at m stub f denotes s.id s.at s.name
+abbrev pub selected_use : Outline → Bool → FileData → (NodeId → Option ObjId) → Option Selected → List Line
+selected_use outline stub f denotes None = []
+selected_use outline stub f denotes (Some s) = use_at outline stub f denotes s.id s.at s.name
 
-abbrev pub occurrence_uses : ModuleData → Bool → FileData → (NodeId → Option ObjId) → Occurrence → List Line
-occurrence_uses m stub f denotes o = use_at m stub f denotes o.id o.at o.name ++ selected_use m stub f denotes o.selected
+abbrev pub occurrence_uses : Outline → Bool → FileData → (NodeId → Option ObjId) → Occurrence → List Line
+occurrence_uses outline stub f denotes o = use_at outline stub f denotes o.id o.at o.name ++ selected_use outline stub f denotes o.selected
 
-abbrev pub uses_from : ModuleData → Bool → (NodeId → Option ObjId) → ℕ → List FileData → List Line
-uses_from m stub denotes file [] = []
-uses_from m stub denotes file (f ∷ files) = flat_map (occurrence_uses m stub f denotes) (occurrences_in_file file f.tree) ++ uses_from m stub denotes (file + 1) files
+abbrev pub uses_from : Outline → Bool → (NodeId → Option ObjId) → ℕ → List FileData → List Line
+uses_from outline stub denotes file [] = []
+uses_from outline stub denotes file (f ∷ files) = flat_map (occurrence_uses outline stub f denotes) (occurrences_in_file file f.tree) ++ uses_from outline stub denotes (file + 1) files
 
 -- a node of an expression, where it has a record: the place of its end, and its record
 abbrev pub expr_at : Bool → FileData → ℕ → ℕ → Option ℤ → List Line
@@ -103,7 +119,7 @@ abbrev pub exprs_in_file : Bool → (ℕ → Meaning) → Headers → FileData �
 exprs_in_file stub means headers f = flat_map (λ spec. flat_map (exprs_in stub f means headers) (values_in_spec spec)) (const_specs f.tree)
 
 -- the lines of the package at a place of the module
-abbrev pub lines_of : ModuleData → ℕ → PackageData → (NodeId → Option ObjId) → (ℕ → Meaning) → Headers → List Line
-lines_of m k p denotes means headers =
-    defs_from m p.stub means headers 0 p.files (imports_of k p)
-    ++ (uses_from m p.stub denotes 0 p.files ++ flat_map (exprs_in_file p.stub means headers) p.files)
+abbrev pub lines_of : Outline → ℕ → PackageData → (NodeId → Option ObjId) → (ℕ → Meaning) → Headers → List Line
+lines_of outline k p denotes means headers =
+    defs_from outline p.stub means headers 0 p.files (imports_of k p)
+    ++ (uses_from outline p.stub denotes 0 p.files ++ flat_map (exprs_in_file p.stub means headers) p.files)

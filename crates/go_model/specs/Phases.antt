@@ -16,7 +16,7 @@ use Rattle.go_model.specs.FormRules.Order.{IsListOf}
 use Rattle.go_model.specs.Headers.{Known}
 use Rattle.go_model.specs.Meaning.{KnownValues, meaning_in, uses_table}
 use Rattle.go_model.specs.Module.{ModuleData, PackageData}
-use Rattle.go_model.specs.PackageLines.{lines_of}
+use Rattle.go_model.specs.PackageLines.{lines_of, outline_of}
 use Rattle.go_model.specs.Packages.{is_marked}
 use Rattle.go_model.specs.Places.{placed_by}
 use Rattle.go_model.specs.Records.{Headers, value_over}
@@ -48,7 +48,7 @@ pub record BreaksValues (m : ModuleData) (k : ℕ) (p : PackageData) (before : K
 
 -- the lines of the package at a place, over these headers
 abbrev pub package_lines : ModuleData → ℕ → PackageData → KnownValues → Headers → List Line
-package_lines m k p before headers = lines_of m k p (λ id. lookup (same_node id) (uses_table m k p)) (meaning_in m k p before) headers
+package_lines m k p before headers = lines_of (outline_of m) k p (λ id. lookup (same_node id) (uses_table m k p)) (meaning_in m k p before) headers
 
 -- the verdict on the package at a place, whose imports are accepted, and what is known behind it
 pub data IsVerdict (m : ModuleData) (k : ℕ) (p : PackageData) (before : KnownValues) : VerdictData → KnownValues → Type 0 where

@@ -1,8 +1,7 @@
 -- Source code representation (Go specification).
 -- Decides the places of a package's text as a report has them, and where objects are declared.
-use Rattle.std.specs.Prelude.{ℕ, List, [], ◌++◌, Bool, Option, map}
+use Rattle.std.specs.Prelude.{ℕ, List, [], ◌++◌, Bool, map}
 use Rattle.std.specs.List.{flat_map}
-use Rattle.std.specs.Map.{lookup}
 use Rattle.indexmap.specs.IndexMap.{insert_all}
 use Rattle.go_base.specs.Place.{line_of, column_of}
 use Rattle.go_base.specs.declared.rule.Broken.{Broken}
@@ -46,7 +45,3 @@ declarations_of p = flat_map (declarations_in p.stub) p.files
 -- where each object of a module is declared
 abbrev pub declarations : ModuleData → List (ObjId × At)
 declarations m = insert_all same_object [] (flat_map declarations_of m.packages)
-
--- where an object is declared; none for a predeclared one
-abbrev pub declared_at : ModuleData → ObjId → Option At
-declared_at m d = lookup (same_object d) (declarations m)

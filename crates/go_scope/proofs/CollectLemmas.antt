@@ -1,32 +1,28 @@
 -- The whole call: what is found is what the names of the package break, and the tables are those of its
 -- names.
-use Rattle.std.proofs.Common.{◌≡◌, ℕ, ◌==◌, true, false, Option, Some, None, List, [], ◌∷◌, ◌++◌, length, map, refl, sym, ap, ◌∙◌, subst, arith}
-use Rattle.std.specs.Prelude.{slice_get}
+use Rattle.std.proofs.Common.{◌≡◌, ℕ, ◌==◌, true, false, List, [], ◌∷◌, ◌++◌, length, map, refl, sym, ap, ◌∙◌, subst, arith}
 use Rattle.std.specs.List.{Contains, flat_map}
-use Rattle.std.specs.Option.{option_map, option_map_or}
 use Rattle.std.proofs.lemmas.Bool.Decides.{nat_tests}
 use Rattle.std.proofs.lemmas.List.{length-map}
-use Rattle.std.proofs.lemmas.Option.{slice_get-map}
 use Rattle.go_base.specs.declared.rule.Broken.{Broken}
 use Rattle.go_model.specs.declared.block.Region.{Region}
 use Rattle.go_model.specs.declared.module.Package.{Package}
-use Rattle.go_model.specs.declared.scopes.Scopes.{Scopes}
 use Rattle.go_model.specs.FormRules.Order.{IsListOf}
-use Rattle.go_model.specs.Module.{FileData, PackageData, package_view, module_view}
+use Rattle.go_model.specs.Module.{FileData, ModuleData, package_view}
 use Rattle.go_model.specs.Names.BlockRules.{is_main_name}
 use Rattle.go_model.specs.Names.BrokenNames.{broken_block, broken_names}
-use Rattle.go_model.specs.Names.Constants.{package_block, package_names}
+use Rattle.go_model.specs.Names.Constants.{package_block}
 use Rattle.go_model.specs.Names.Imports.{PackageNames, Importing, known_in, file_block, imports_from, imports_of}
 use Rattle.go_model.specs.Names.Regions.{regions_of}
 use Rattle.go_model.specs.Names.Tables.{region_entries, objects_of, uses_of, occurrences_from}
 use Rattle.go_model.specs.Names.Universe.{universe}
 use Rattle.go_model.proofs.MemberLemmas.{contains_head, contains_none}
 use Rattle.go_scope.specs.declared.file_block.FileBlock.{FileBlock}
-use Rattle.go_scope.specs.declared.known.Known.{Known}
+use Rattle.go_scope.specs.declared.known.KnownPackage.{KnownPackage}
 use Rattle.go_scope.specs.declared.resolved.Resolved.{Resolved}
 use Rattle.go_scope.specs.Blocks.{BlockData, block_of, block_data}
 use Rattle.go_scope.specs.Checked.{all_of, broken_from, resolved_from}
-use Rattle.go_scope.specs.Collecting.{HasImported}
+use Rattle.go_scope.specs.Collecting.{StandsIn}
 use Rattle.go_scope.specs.Known.{known_by}
 use Rattle.go_scope.specs.Resolved.{member_entry, members_by, pairs_by}
 use Rattle.go_scope.proofs.CheckedLemmas.{imports_long, package_breaks, package_resolves, resolved_of, all_pairs, all_members}
@@ -49,37 +45,17 @@ regions_made : (known : ℕ → PackageNames) (lists : List (List Importing)) �
 regions_made known [] = refl
 regions_made known (imports ∷ lists) = ap (λ rest. file_block known imports ++ rest) (regions_made known lists)
 
-name_is : (o : Option Package) → option_map_or (λ (p : Package). p.name) o [] ≡ option_map_or (λ (p : PackageData). p.name) (option_map package_view o) []
-name_is None = refl
-name_is (Some p) = refl
-
-module _ (K : Known) (k : ℕ) (own : Package) (at : slice_get K.module.now.packages.items k ≡ Some own) (imported : HasImported (module_view K.module.now) k K.before.now) where
-  -- the package stands at its place in the module
-  pub stands : slice_get (module_view K.module.now).packages k ≡ Some (package_view own)
-  stands = slice_get-map package_view K.module.now.packages.items k ∙ ap (option_map package_view) at
-
-  -- imported packages are known by their scopes
-  known_alike : (q : ℕ) → Contains (package_view own).imports q → known_by K q ≡ known_in (module_view K.module.now) q
-  known_alike q here =
-      let has = imported.imported (package_view own) stands q here in
-      let scopes = has.2 in
-      let clause = name_is (slice_get K.module.now.packages.items q) ∙ ap (λ o. option_map_or (λ (p : PackageData). p.name) o []) (sym (slice_get-map package_view K.module.now.packages.items q)) in
-      let names =
-      ap (λ o. option_map_or (λ (s : Scopes). s.names.entries) o []) has.1
-      ∙ scopes.tables.names
-      ∙ sym (ap (λ o. option_map_or (package_names q) o []) scopes.at) in
-      (λ j. record { clause = clause j; names = names j })
-
+module _ (m : ModuleData) (K : List KnownPackage) (k : ℕ) (own : Package) (stands : StandsIn m k own K) where
   module _ (outer block : List Region) (blocks : List FileBlock) (outer_is : outer ≡ universe) (block_is : block ≡ package_block k 0 (package_view own).files) (blocks_are : map block_of blocks ≡ map (block_data (known_by K)) (imports_of k (package_view own))) where
     -- what is found is what the names break
-    pub found_is : (found : List Broken) → found ≡ broken_block (is_main_name own.name) block ++ broken_from (known_by K) (is_main_name own.name) outer block 0 (map block_of blocks) (package_view own).files → found ≡ broken_names (known_in (module_view K.module.now)) k (package_view own)
+    pub found_is : (found : List Broken) → found ≡ broken_block (is_main_name own.name) block ++ broken_from (known_by K) (is_main_name own.name) outer block 0 (map block_of blocks) (package_view own).files → found ≡ broken_names (known_in m) k (package_view own)
     found_is found is =
         is
         ∙ (λ j. broken_block (is_main_name own.name) (block_is j) ++ broken_from (known_by K) (is_main_name own.name) (outer_is j) (block_is j) 0 (blocks_are j) (package_view own).files)
         ∙ ap (λ rest. broken_block (is_main_name own.name) (package_block k 0 (package_view own).files) ++ rest) (package_breaks (known_by K) k (package_view own) (is_main_name own.name))
-        ∙ names_alike (known_by K) (known_in (module_view K.module.now)) k (package_view own) known_alike
+        ∙ names_alike (known_by K) (known_in m) k (package_view own) stands.imported
 
-    pub found_from : (start found : List Broken) → start ≡ [] → found ≡ start ++ (broken_block (is_main_name own.name) block ++ broken_from (known_by K) (is_main_name own.name) outer block 0 (map block_of blocks) (package_view own).files) → found ≡ broken_names (known_in (module_view K.module.now)) k (package_view own)
+    pub found_from : (start found : List Broken) → start ≡ [] → found ≡ start ++ (broken_block (is_main_name own.name) block ++ broken_from (known_by K) (is_main_name own.name) outer block 0 (map block_of blocks) (package_view own).files) → found ≡ broken_names (known_in m) k (package_view own)
     found_from start found none is = found_is found (is ∙ ap (λ s. s ++ (broken_block (is_main_name own.name) block ++ broken_from (known_by K) (is_main_name own.name) outer block 0 (map block_of blocks) (package_view own).files)) none)
 
     module _ (lists : List (List Resolved)) (lists_are : lists ≡ resolved_from outer block 0 (map block_of blocks) (package_view own).files) where
@@ -94,17 +70,17 @@ module _ (K : Known) (k : ℕ) (own : Package) (at : slice_get K.module.now.pack
           (λ j. outer_is j ++ (block_is j ++ regions_in blocks j))
           ∙ ap (λ rest. universe ++ (package_block k 0 (package_view own).files ++ rest)) (ap (flat_map (λ (d : BlockData). d.regions)) blocks_are ∙ regions_made (known_by K) (imports_of k (package_view own)))
 
-      pub uses_are : flat_map (pairs_by (known_by K)) (all_of lists) ≡ uses_of (known_in (module_view K.module.now)) k (package_view own)
+      pub uses_are : flat_map (pairs_by (known_by K)) (all_of lists) ≡ uses_of (known_in m) k (package_view own)
       uses_are =
           ap (flat_map (pairs_by (known_by K))) all_resolved
           ∙ all_pairs (known_by K) (regions_of (known_by K) k (package_view own)) (occurrences_from 0 (package_view own).files)
-          ∙ uses_alike (known_by K) (known_in (module_view K.module.now)) k (package_view own) known_alike
+          ∙ uses_alike (known_by K) (known_in m) k (package_view own) stands.imported
 
-      pub objects_are : region_entries (outer ++ (block ++ flat_map (λ b. b.regions.items) blocks)) ++ map member_entry (flat_map (members_by (known_by K)) (all_of lists)) ≡ objects_of (known_in (module_view K.module.now)) k (package_view own)
+      pub objects_are : region_entries (outer ++ (block ++ flat_map (λ b. b.regions.items) blocks)) ++ map member_entry (flat_map (members_by (known_by K)) (all_of lists)) ≡ objects_of (known_in m) k (package_view own)
       objects_are =
           (λ j. region_entries (regions_are j) ++ map member_entry (flat_map (members_by (known_by K)) (all_resolved j)))
           ∙ ap (λ members. region_entries (regions_of (known_by K) k (package_view own)) ++ map member_entry members) (all_members (known_by K) (regions_of (known_by K) k (package_view own)) (occurrences_from 0 (package_view own).files))
-          ∙ objects_alike (known_by K) (known_in (module_view K.module.now)) k (package_view own) known_alike
+          ∙ objects_alike (known_by K) (known_in m) k (package_view own) stands.imported
 
 -- a list of something is not empty
 pub some_told : (found list : List Broken) → IsListOf found list → (found ≡ [] → ⊥) → list ≡ [] → ⊥

@@ -1,18 +1,21 @@
--- What is asked of the scopes of the packages before, and what there is in the place of scopes.
+-- What is asked of what packages are known by, and what there is in the place of scopes.
 use Rattle.std.specs.Prelude.{◌≡◌, ◌≢◌, ℕ, List, [], Some, Contains, slice_get}
 use Rattle.go_base.specs.declared.rule.Broken.{Broken as BrokenRule}
-use Rattle.go_model.specs.declared.scopes.Scopes.{Scopes}
+use Rattle.go_model.specs.declared.module.Package.{Package}
 use Rattle.go_model.specs.FormRules.Order.{IsListOf}
-use Rattle.go_model.specs.Module.{PackageData, ModuleData}
+use Rattle.go_model.specs.Module.{PackageData, ModuleData, package_view}
 use Rattle.go_model.specs.Names.BrokenNames.{broken_names}
 use Rattle.go_model.specs.Names.Imports.{known_in}
-use Rattle.go_model.specs.Names.Tables.{IsScopesOf}
+use Rattle.go_scope.specs.declared.known.KnownPackage.{KnownPackage}
 use Rattle.go_scope.specs.declared.scope_fault.ScopeFault.{ScopeFault}
 use Rattle.go_scope.specs.declared.scope_fault.ScopeFault.TheVariants.{Broken, NoMemory}
+use Rattle.go_scope.specs.Known.{known_by}
 
--- for each package that the package at a place imports, its scopes stand at its place
-pub record HasImported (m : ModuleData) (k : ℕ) (before : List Scopes) : Type 0 where
-  pub imported : (p : PackageData) → slice_get m.packages k ≡ Some p → (q : ℕ) → Contains p.imports q → (scopes : Scopes) × (slice_get before q ≡ Some scopes) × IsScopesOf m q scopes
+-- the package stands at that place of the module, and each that it imports is known by its name and the names
+-- of its block
+pub record StandsIn (m : ModuleData) (k : ℕ) (own : Package) (known : List KnownPackage) : Type 0 where
+  pub at : slice_get m.packages k ≡ Some (package_view own)
+  pub imported : (q : ℕ) → Contains own.imports.items q → known_by known q ≡ known_in m q
 
 -- all that the names of the package break, which is something
 pub record IsBrokenNames (m : ModuleData) (k : ℕ) (list : List BrokenRule) : Type 0 where

@@ -14,7 +14,7 @@ use crate::block_rules::{add_missing_main, add_repeated, add_reserved};
 use crate::file_block::FileBlock;
 use crate::held::Declared;
 use crate::import_rules::{add_conflicting, add_unused};
-use crate::known::Known;
+use crate::known::KnownPackage;
 use crate::occurrence_rules::add_broken_occurrences;
 use crate::occurrences::occurrences_in_file;
 use crate::resolved::{Around, Resolved, resolve_all};
@@ -26,7 +26,7 @@ use std::alloc::Global;
 /// Each file has its block. An error is want of memory.
 pub fn check_files(
     alloc: Global,
-    known: &Known,
+    known: &[KnownPackage],
     is_main: bool,
     around: &Around,
     files: &[SourceFile],
@@ -53,7 +53,7 @@ pub fn check_files(
 // Adds what a file breaks, and gives what its occurrences denote.
 fn check_file(
     alloc: Global,
-    known: &Known,
+    known: &[KnownPackage],
     is_main: bool,
     around: &Around,
     place: usize,

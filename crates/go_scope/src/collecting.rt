@@ -1,8 +1,8 @@
 // The scopes of a package (Go specification, "Declarations and scope").
-ghost use Rattle.std.specs.Prelude.{◌≡◌, ◌<◌, ◌++◌, [], IfOk, IfErr, OnOk, length, map};
+ghost use Rattle.std.specs.Prelude.{◌≡◌, ◌++◌, [], IfOk, IfErr, OnOk, length, map};
 ghost use Rattle.std.specs.List.{flat_map};
 ghost use Rattle.indexmap.specs.IndexMap.{insert_all};
-ghost use Rattle.go_model.specs.Module.{file_view, module_view};
+ghost use Rattle.go_model.specs.Module.{ModuleData, file_view};
 ghost use Rattle.go_model.specs.Names.BlockRules as rule;
 ghost use Rattle.go_model.specs.Names.BrokenNames.{broken_block};
 ghost use Rattle.go_model.specs.Names.Constants as constants;
@@ -10,7 +10,7 @@ ghost use Rattle.go_model.specs.Names.Tables.{IsScopesOf, region_entries};
 ghost use Rattle.go_model.specs.Scopes.{same_node, same_object};
 ghost use Rattle.go_scope.specs.Blocks.{block_of};
 ghost use Rattle.go_scope.specs.Checked.{all_of, broken_from, resolved_from};
-ghost use Rattle.go_scope.specs.Collecting.{HasImported, IsScopeFault};
+ghost use Rattle.go_scope.specs.Collecting.{IsScopeFault, StandsIn};
 ghost use Rattle.go_scope.specs.Known.{known_by};
 ghost use Rattle.go_scope.specs.Resolved.{member_entry, members_by, pairs_by};
 
@@ -19,51 +19,47 @@ use crate::check::check_files;
 use crate::constants::package_block;
 use crate::file_block::{FileBlock, file_blocks};
 use crate::held::Declared;
-use crate::known::Known;
+use crate::known::KnownPackage;
 use crate::resolved::{Around, Resolved};
 use crate::scope_fault::ScopeFault;
 use crate::tables::{add_members, add_uses, names_of};
 use go_base::{Broken, NoMemory};
-use go_model::{Module, ObjId, Object, Package, Region, Scopes, add_objects, ordered, universe};
+use go_model::{ObjId, Object, Package, Region, Scopes, add_objects, ordered, universe};
 use go_tree::NodeId;
 use indexmap::IndexMap;
 use std::alloc::Global;
 
-/// The scopes of the package at a place of the module: what its names denote. `before` has the scopes of
-/// each package that it imports at that package's place. Broken comes exactly where the names of the package
+/// The scopes of a package of a module, by its place there: what its names denote. `known` has what each package
+/// that it imports is known by, at that package's place. Broken comes exactly where the names of the package
 /// break a rule, with all that they break.
 pub fn collect(
     alloc: Global,
-    package: usize,
-    module: &Module,
-    before: &[Scopes],
+    place: usize,
+    own: &Package,
+    known: &[KnownPackage],
 ) -> Result<Scopes, ScopeFault>
-    requires place { «package» < length «module».now.packages.items }
-    requires imported { HasImported (module_view «module».now) «package» before.now }
-    ensures ok { IfOk result (IsScopesOf (module_view «module».now) «package») }
-    ensures err { IfErr result (IsScopeFault (module_view «module».now) «package») }
+    ensures ok { IfOk result (λ scopes. (m : ModuleData) → StandsIn m place own.now known.now → IsScopesOf m place scopes) }
+    ensures err { IfErr result (λ fault. (m : ModuleData) → StandsIn m place own.now known.now → IsScopeFault m place fault) }
 {
-    let known = Known { module, before };
-    let own = &module.packages[package];
     let predeclared = universe(alloc)?;
-    let declared = package_block(alloc, package, &own.files)?;
-    let imported = file_blocks(alloc, &known, package, &own.files, &own.imports)?;
+    let declared = package_block(alloc, place, &own.files)?;
+    let imported = file_blocks(alloc, known, place, &own.files, &own.imports)?;
     let outer = predeclared.as_slice();
     let block = declared.as_slice();
     let blocks = imported.as_slice();
     let mut found = Vec::new(alloc);
-    let lists = check_names(alloc, &known, own, outer, block, blocks, &mut found)?;
+    let lists = check_names(alloc, known, own, outer, block, blocks, &mut found)?;
     if !found.is_empty() {
         return Err(ScopeFault::Broken(ordered(found)));
     }
-    let scopes = scopes_of(alloc, &known, outer, block, blocks, &lists)?;
+    let scopes = scopes_of(alloc, known, outer, block, blocks, &lists)?;
     Ok(scopes)
 }
 
 // Adds what the names of a package break, and gives what the occurrences in its files denote.
 fn check_names(
     alloc: Global,
-    known: &Known,
+    known: &[KnownPackage],
     own: &Package,
     outer: &[Region],
     block: &[Region],
@@ -92,7 +88,7 @@ fn check_names(
 // The tables of these regions and of what the occurrences denote.
 fn scopes_of(
     alloc: Global,
-    known: &Known,
+    known: &[KnownPackage],
     outer: &[Region],
     block: &[Region],
     blocks: &[FileBlock],
@@ -135,7 +131,7 @@ fn add_block_objects(
 
 // Adds the objects of qualified identifiers.
 fn add_all_members(
-    known: &Known,
+    known: &[KnownPackage],
     lists: &[Vec<Resolved>],
     objects: &mut IndexMap<ObjId, Object>,
 ) -> Result<(), NoMemory>
@@ -151,7 +147,7 @@ fn add_all_members(
 // What the occurrences denote, by their nodes.
 fn uses_of(
     alloc: Global,
-    known: &Known,
+    known: &[KnownPackage],
     lists: &[Vec<Resolved>],
 ) -> Result<IndexMap<NodeId, ObjId>, NoMemory>
     ensures { IfOk result (λ uses. uses.entries ≡ insert_all same_node []

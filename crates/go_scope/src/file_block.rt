@@ -7,7 +7,7 @@ ghost use Rattle.go_scope.specs.Blocks.{block_data, block_of, trees_at};
 ghost use Rattle.go_scope.specs.Known.{known_by};
 
 use crate::imports::{ImportAt, add_import, add_import_regions};
-use crate::known::Known;
+use crate::known::KnownPackage;
 use crate::spec_lists::import_specs;
 use go_base::NoMemory;
 use go_model::{Import, Region, SourceFile};
@@ -25,7 +25,7 @@ pub struct FileBlock {
 /// of the files name, file after file. An error is want of memory.
 pub fn file_blocks(
     alloc: Global,
-    known: &Known,
+    known: &[KnownPackage],
     importer: usize,
     files: &[SourceFile],
     packages: &[usize],
@@ -47,7 +47,7 @@ pub fn file_blocks(
 // The block of a file with these import specs, which name these packages.
 fn file_block(
     alloc: Global,
-    known: &Known,
+    known: &[KnownPackage],
     importer: usize,
     file: usize,
     specs: &[&Node],

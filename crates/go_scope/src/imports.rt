@@ -7,7 +7,7 @@ ghost use Rattle.go_model.specs.Names.Imports as rule;
 ghost use Rattle.go_scope.specs.Known.{known_by, importing};
 
 use crate::constants::constant_object;
-use crate::known::{Known, clause_name};
+use crate::known::{KnownPackage, clause_name};
 use crate::words::{is_blank, is_exported, name_of};
 use go_base::{Name, NoMemory};
 use go_model::{Block, Import, ObjId, ObjKind, Object, Region};
@@ -27,7 +27,7 @@ pub struct ImportAt<'a> {
 /// Adds the regions of the names that an import declares.
 pub fn add_import_regions(
     alloc: Global,
-    known: &Known,
+    known: &[KnownPackage],
     import: &ImportAt,
     regions: &mut Vec<Region>,
 ) -> Result<(), NoMemory>
@@ -46,7 +46,7 @@ pub fn add_import_regions(
 // Adds the regions of an import before whose string something stands.
 fn add_named(
     alloc: Global,
-    known: &Known,
+    known: &[KnownPackage],
     import: &ImportAt,
     name: &Node,
     string: &Node,
@@ -74,7 +74,7 @@ fn is_dot(name: &Node) -> bool
 
 // Adds the exported names of the imported package.
 fn add_exports(
-    known: &Known,
+    known: &[KnownPackage],
     import: &ImportAt,
     string: &Node,
     regions: &mut Vec<Region>,
@@ -83,8 +83,8 @@ fn add_exports(
         ++ map (rule.dot_region (importing import.now) (tree_of string.now))
         (rule.exports_of (known_by known.now import.now.imported))) }
 {
-    if let Some(scopes) = known.before.get(import.imported) {
-        for (name, id) in scopes.names.iter() {
+    if let Some(found) = known.get(import.imported) {
+        for (name, id) in found.names.iter() {
             add_export(import, string, name, *id, regions)?;
         }
     }

@@ -35,6 +35,7 @@ mod tables;
 pub use collecting::collect;
 pub use file_block::{behind, front};
 pub use go_model::{ObjId, ObjKind, Object, Scopes};
+pub use known::KnownPackage;
 pub use laws::{denotes_innermost, each_spec_is_named, resolves_exactly};
 pub use occurrences::occurrences_in_file;
 pub use rules::{

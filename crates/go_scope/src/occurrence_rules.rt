@@ -6,7 +6,7 @@ ghost use Rattle.go_model.specs.Names.OccurrenceRules as rule;
 ghost use Rattle.go_scope.specs.Known.{known_by};
 ghost use Rattle.go_scope.specs.Resolved as spec;
 
-use crate::known::{Known, exported};
+use crate::known::{KnownPackage, exported};
 use crate::resolved::Resolved;
 use crate::rules::{BLANK_VALUE, COMPLEX_NAME, MISPLACED_PACKAGE, MISSING_MEMBER};
 use crate::words::is_blank;
@@ -15,7 +15,7 @@ use go_model::{add_if, broken_at};
 
 /// Adds what these occurrences break, one after another.
 pub fn add_broken_occurrences(
-    known: &Known,
+    known: &[KnownPackage],
     resolved: &[Resolved],
     found: &mut Vec<Broken>,
 ) -> Result<(), NoMemory>
@@ -30,7 +30,7 @@ pub fn add_broken_occurrences(
 
 // Adds what an occurrence breaks, in the order of the table.
 fn add_broken_occurrence(
-    known: &Known,
+    known: &[KnownPackage],
     r: &Resolved,
     found: &mut Vec<Broken>,
 ) -> Result<(), NoMemory>
@@ -80,7 +80,11 @@ fn add_misplaced(r: &Resolved, found: &mut Vec<Broken>) -> Result<(), NoMemory>
 }
 
 // P14
-fn add_missing(known: &Known, r: &Resolved, found: &mut Vec<Broken>) -> Result<(), NoMemory>
+fn add_missing(
+    known: &[KnownPackage],
+    r: &Resolved,
+    found: &mut Vec<Broken>,
+) -> Result<(), NoMemory>
     ensures { OnOk result (found.new.items ≡ found.old.items ++ spec.missing_by (known_by known.now) r.now) }
 {
     let Some(package) = package_of(r) else {

@@ -9,7 +9,7 @@ ghost use Rattle.go_scope.specs.Resolved.{member_entry, member_pair, members_by,
 ghost use Rattle.go_model.specs.Names.Tables.{member_of};
 
 use crate::constants::constant_object;
-use crate::known::{Known, exported};
+use crate::known::{KnownPackage, exported};
 use crate::occurrence_rules::package_of;
 use crate::resolved::Resolved;
 use go_base::{Name, NoMemory};
@@ -31,7 +31,7 @@ pub fn names_of(alloc: Global, block: &[Region]) -> Result<IndexMap<Name, ObjId>
 
 /// Adds what each of these occurrences denotes, and what the qualified identifiers do that they begin.
 pub fn add_uses(
-    known: &Known,
+    known: &[KnownPackage],
     resolved: &[Resolved],
     uses: &mut IndexMap<NodeId, ObjId>,
 ) -> Result<(), NoMemory>
@@ -45,7 +45,7 @@ pub fn add_uses(
 }
 
 fn add_pairs(
-    known: &Known,
+    known: &[KnownPackage],
     r: &Resolved,
     uses: &mut IndexMap<NodeId, ObjId>,
 ) -> Result<(), NoMemory>
@@ -62,7 +62,7 @@ fn add_pairs(
 }
 
 fn add_member_use(
-    known: &Known,
+    known: &[KnownPackage],
     place: usize,
     r: &Resolved,
     uses: &mut IndexMap<NodeId, ObjId>,
@@ -80,7 +80,7 @@ fn add_member_use(
 
 /// Adds the objects of the qualified identifiers that these occurrences begin.
 pub fn add_members(
-    known: &Known,
+    known: &[KnownPackage],
     resolved: &[Resolved],
     objects: &mut IndexMap<ObjId, Object>,
 ) -> Result<(), NoMemory>
@@ -94,7 +94,7 @@ pub fn add_members(
 }
 
 fn add_member_of(
-    known: &Known,
+    known: &[KnownPackage],
     r: &Resolved,
     objects: &mut IndexMap<ObjId, Object>,
 ) -> Result<(), NoMemory>
@@ -108,7 +108,7 @@ fn add_member_of(
 }
 
 fn add_member(
-    known: &Known,
+    known: &[KnownPackage],
     place: usize,
     r: &Resolved,
     objects: &mut IndexMap<ObjId, Object>,
@@ -123,7 +123,7 @@ fn add_member(
 }
 
 fn add_selected(
-    known: &Known,
+    known: &[KnownPackage],
     place: usize,
     selected: &Selected,
     objects: &mut IndexMap<ObjId, Object>,

@@ -1,5 +1,4 @@
 pub mod FieldLemmas
 pub mod RunLemmas
-pub mod ScopeLemmas
 pub mod TextLemmas
 pub mod VerdictLemmas

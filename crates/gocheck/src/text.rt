@@ -14,10 +14,23 @@ use std::alloc::{AllocError, Global};
 pub fn report_text(alloc: Global, report: &Report) -> Result<Vec<u8>, NoMemory>
     ensures { IfOk result (λ text. text.items ≡ report_text (report_view report.now)) }
 {
-    let mut out = Vec::new(alloc);
+    let mut out = Vec::with_capacity(alloc, byte_count(report))?;
     put_module(alloc, &mut out, report)?;
     put_packages(alloc, &mut out, &report.packages)?;
     Ok(out)
+}
+
+// About how many bytes the text of a report has: a line has some 50. Room that is taken at once is not moved as
+// the text grows.
+fn byte_count(report: &Report) -> usize {
+    let mut lines: usize = 1;
+    for own in &report.packages {
+        lines = lines.saturating_add(1);
+        if let Verdict::Accepted(records) = &own.verdict {
+            lines = lines.saturating_add(records.lines.len());
+        }
+    }
+    lines.saturating_mul(64)
 }
 
 /// The text of the rules that are broken before packages are checked.

@@ -1,5 +1,4 @@
 // Scopes of modules in memory: the helpers of the tables of names.
-ghost use Rattle.std.specs.Prelude.{ℕ, ◌<◌, Contains, IsTrue};
 
 mod calls;
 mod conflicts;
@@ -17,8 +16,9 @@ use super::{File, module_files, word};
 use go_base::{Broken, LineCol, SureTree, place};
 use go_load::load;
 use go_model::{Module, Package, Scopes, SourceFile};
-use go_scope::{ScopeFault, collect};
+use go_scope::{KnownPackage, ScopeFault, collect};
 use go_tree::{NodeId, find};
+use indexmap::IndexMap;
 use std::alloc::Global;
 use std::test::Fail;
 
@@ -35,28 +35,32 @@ fn loaded(alloc: Global, files: &[File]) -> Result<Module, Fail> {
     Ok(load(alloc, &mut tree, &root, Some(&stubs))?)
 }
 
-// Whether each of these places is below that one.
-fn are_below(places: &[usize], end: usize) -> bool
-    ensures { IsTrue result → (q : ℕ) → Contains places.now q → q < end }
-{
-    places.iter().all(|place| *place < end)
+// What a package with these scopes is known by.
+fn known_by(alloc: Global, own: &Package, scopes: &Scopes) -> Result<KnownPackage, Fail> {
+    let mut names = IndexMap::new(alloc);
+    for (name, id) in scopes.names.iter() {
+        names.insert(name.clone()?, *id)?;
+    }
+    let clause = own.name.clone()?;
+    Ok(KnownPackage { clause, names })
 }
 
 /// The scopes of the packages of a module, in import order, up to the first whose names break a rule, and
 /// all that its names break.
 fn collected(alloc: Global, module: &Module) -> Result<(Vec<Scopes>, Vec<Broken>), Fail> {
-    let mut before = Vec::new(alloc);
-    for k in 0..module.packages.len() {
-        if !are_below(&module.packages[k].imports, k) {
-            return Err(Fail::from("an import stands behind its package"));
-        }
-        match collect(alloc, k, module, &before) {
-            Ok(scopes) => before.push(scopes)?,
-            Err(ScopeFault::Broken(list)) => return Ok((before, list)),
+    let mut known = Vec::new(alloc);
+    let mut all = Vec::new(alloc);
+    for (place, own) in module.packages.iter().enumerate() {
+        match collect(alloc, place, own, &known) {
+            Ok(scopes) => {
+                known.push(known_by(alloc, own, &scopes)?)?;
+                all.push(scopes)?;
+            }
+            Err(ScopeFault::Broken(list)) => return Ok((all, list)),
             Err(ScopeFault::NoMemory) => return Err(Fail::from("no memory")),
         }
     }
-    Ok((before, Vec::new(alloc)))
+    Ok((all, Vec::new(alloc)))
 }
 
 /// What the names of the module of these files denote, package by package, or all that they break.

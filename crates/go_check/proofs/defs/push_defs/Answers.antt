@@ -4,7 +4,7 @@ use Rattle.go_model.specs.Constants.{constants_from}
 use Rattle.go_model.specs.Heads.{import_specs}
 use Rattle.go_scope.specs.Blocks.{trees_at}
 use Rattle.go_check.specs.Table.{slot_of}
-use Rattle.go_check.specs.TextView.{file_of, module_of, text_view, texts_view}
+use Rattle.go_check.specs.TextView.{file_of, outline_view, text_view, texts_view}
 use Rattle.go_check.specs.Texts.{files_of}
 use Rattle.go_check.specs.View.{means_by}
 use Rattle.go_check.proofs.LineLemmas.{file_done, run_taken, specs_counted}
@@ -24,7 +24,7 @@ loop-file-preserved c =
     let count : c.len-count.result ≡ length (trees_at c.deref.result.now) = omega (arith, c.len-count.ensures, ap length c.deref.ensures.value, specs_counted c.deref.result.now) in
     record {
       within = omega (arith, length-drop c.loop-file.start list, c.run_length-run.ensures.within);
-      pushed = file_done (module_of c.args.declared.now) (means_by c.args.around.now) (slot_of c.args.table.now) i c.len-count.result (texts_view (drop i texts)) others (text_view t)
+      pushed = file_done (outline_view c.args.outline.now) (means_by c.args.around.now) (slot_of c.args.table.now) i c.len-count.result (texts_view (drop i texts)) others (text_view t)
           c.loop-file.named.now c.front.result.now c.behind-named.result.now (trees_at c.deref.result.now) _ c.loop-file.lines.items c.push_imports.new.lines.items c.push_constants.new.lines.items _
           left specs count c.front.ensures c.behind-named.ensures c.in_ok-push_imports.ensures run.0 c.in_ok-push_constants.ensures c.loop-file.invariant.pushed;
       constants_left = run.1;

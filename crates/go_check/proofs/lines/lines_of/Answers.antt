@@ -1,30 +1,34 @@
-use Rattle.std.proofs.Common.{◌≡◌, Some, map, sym, ap, ◌∙◌, arith}
-use Rattle.std.specs.Prelude.{slice_get}
-use Rattle.std.proofs.lemmas.Result.{IfOk-weaker}
-use Rattle.go_model.specs.Module.{module_view, package_view}
-use Rattle.go_model.specs.PackageLines as spec
+use Rattle.std.proofs.Common.{◌≡◌, ◌++◌, sym, ap, ◌∙◌}
+use Rattle.go_model.specs.Constants.{constants_from}
+use Rattle.go_model.specs.Module.{package_view}
 use Rattle.go_check.specs.Table.{slot_of}
+use Rattle.go_check.specs.TextView.{outline_view, texts_view}
+use Rattle.go_check.specs.Texts.{texts_in, files_of, defs_by, uses_by, exprs_by}
 use Rattle.go_check.specs.View.{denotes_by, means_by}
-use Rattle.go_check.proofs.LineLemmas.{lines_at}
-use Rattle.go_check.proofs.TextLemmas.{got_none, got_view}
+use Rattle.go_check.proofs.LineLemmas.{three_groups}
+use Rattle.go_check.proofs.TextLemmas.{files_are}
 use Rattle.go_check.proofs.lines.lines_of.Goals as goal
 
-pub package_lines-requires : goal.package_lines-requires
-package_lines-requires c =
-    let read = c.in-Some.ensures.lookup in
-    c.requires.constants (package_view c.in-Some.own.now)
-    (ap (λ l. slice_get l c.args.place) (sym (ap (map package_view) c.deref.ensures.value)) ∙ got_view package_view c.deref.result.now c.args.place c.in-Some.own.now read.3.0 read.1)
+pub push_defs-requires : goal.push_defs-requires
+push_defs-requires c =
+    let p = package_view c.args.own.now in
+    let are : texts_view c.deref.result.now ≡ texts_in p = ap texts_view c.deref.ensures.value ∙ c.in_ok-texts.ensures in
+    c.requires ∙ ap (constants_from 0) (sym (ap files_of are ∙ files_are p.stub p.files))
 
-pub returns-in-Some : goal.returns-in-Some
-returns-in-Some c =
-    let read = c.in-Some.ensures.lookup in
-    let own : slice_get (map package_view c.args.module.now.packages.items) c.args.place ≡ Some (package_view c.in-Some.own.now) =
-    ap (λ l. slice_get l c.args.place) (sym (ap (map package_view) c.deref.ensures.value)) ∙ got_view package_view c.deref.result.now c.args.place c.in-Some.own.now read.3.0 read.1 in
-    IfOk-weaker c.package_lines.result _ _ (λ lines now p is. lines_at (module_view c.args.module.now) c.args.place (package_view c.in-Some.own.now) p (denotes_by c.args.around.now) (means_by c.args.around.now) (slot_of c.args.table.now) lines.items own is (now ∙ ap (λ m. spec.lines_of (module_view m) c.args.place (package_view c.in-Some.own.now) (denotes_by c.args.around.now) (means_by c.args.around.now) (slot_of c.args.table.now)) c.new-known.ensures))
-    (c.package_lines.ensures c.args.place)
-
-pub returns-in-None : goal.returns-in-None
-returns-in-None c p is =
-    let none = ap (λ l. slice_get l c.args.place) (ap (map package_view) c.deref.ensures.value) in
-    let past = got_none package_view c.deref.result.now c.args.place (omega (arith, c.in-None.ensures.lookup)) in
-    absurd (cc)
+pub returns : goal.returns
+returns c k =
+    let outline = outline_view c.args.outline.now in
+    let denotes = denotes_by c.args.around.now in
+    let means = means_by c.args.around.now in
+    let headers = slot_of c.args.table.now in
+    let start = c.in_ok-lines.lines.items in
+    let defs = c.push_defs.new.lines.items in
+    let uses = c.push_uses.new.lines.items in
+    let texts = texts_view c.in_ok-texts.texts.items in
+    three_groups outline k (package_view c.args.own.now) denotes means headers texts start defs uses c.shrink_to_fit.new.self.items
+    c.in_ok-texts.ensures c.in_ok-lines.ensures.items
+    (c.in_ok-push_defs.ensures
+    ∙ ap (λ l. start ++ defs_by outline means headers 0 (texts_view l) c.deref-2.result.now) c.deref.ensures.value
+    ∙ ap (λ l. start ++ defs_by outline means headers 0 texts l) c.deref-2.ensures.value)
+    (c.in_ok-push_uses.ensures ∙ ap (λ l. defs ++ uses_by outline denotes 0 (texts_view l)) c.deref-3.ensures.value)
+    (c.shrink_to_fit.ensures.items ∙ c.in_ok-push_exprs.ensures ∙ ap (λ l. uses ++ exprs_by means headers (texts_view l)) c.deref-4.ensures.value)

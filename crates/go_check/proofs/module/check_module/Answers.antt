@@ -1,18 +1,14 @@
-use Rattle.std.proofs.Common.{◌≤◌, length, refl, arith}
-use Rattle.std.proofs.lemmas.List.{length-map}
+use Rattle.std.proofs.Common.{map, refl, ap, ◌∙◌}
 use Rattle.go_model.specs.Module.{module_view, package_view}
-use Rattle.go_check.specs.State.{state_view}
-use Rattle.go_check.proofs.StateLemmas.{all_reports}
 use Rattle.go_check.proofs.module.check_module.Goals as goal
 
 pub returns : goal.returns
 returns g c =
-    let m = module_view c.args.module.now in
-    let long = length-map c.args.module.now.packages.items package_view in
-    let past : length m.packages ≤ c.loop-place.place = omega (arith, long) in
+    let m = module_view c.args.module in
+    let paths = c.deref-2.ensures.value ∙ c.in_ok-paths.ensures ∙ ap (λ list. map (λ p. p.path) (map package_view list)) c.deref.ensures.value in
     record {
-      path_is = c.in_ok-clone.ensures.cases;
+      path_is = refl;
       version_is = refl;
-      first_is = c.new-5.ensures.items;
-      packages = all_reports m c.loop-place.place (state_view c.loop-place.state) past c.loop-place.invariant.front;
+      first_is = c.new.ensures.items;
+      packages = c.in_ok-reports.ensures m refl (λ j. record { paths = paths j; declared = c.in_ok-declared.ensures j });
     }

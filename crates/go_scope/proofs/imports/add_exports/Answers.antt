@@ -17,5 +17,5 @@ loop-name-preserved c =
 
 pub returns-in_default : goal.returns-in_default
 returns-in_default c =
-    let none : slice_get c.args.known.now.before.now c.args.import.now.imported ≡ None = slice_get_past c.args.known.now.before.now c.args.import.now.imported (omega (arith, c.in_default.ensures.lookup)) in
+    let none : slice_get c.args.known.now c.args.import.now.imported ≡ None = slice_get_past c.args.known.now c.args.import.now.imported (omega (arith, c.in_default.ensures.lookup)) in
     rw none (sym (append-nil c.args.regions.now.items))

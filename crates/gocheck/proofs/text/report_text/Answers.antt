@@ -7,4 +7,4 @@ pub returns : goal.returns
 returns c =
     let report = c.args.report.now in
     behind_lines line_text (λ (p : PackageReportData). verdict_fields p p.verdict) package_view (module_fields report.path report.version) report.packages.items c.deref.result.now
-    c.new-out.result.items c.put_module.new.out.items c.put_packages.new.out.items c.deref.ensures.value c.new-out.ensures.items c.in_ok-put_module.ensures c.in_ok-put_packages.ensures
+    c.in_ok-out.out.items c.put_module.new.out.items c.put_packages.new.out.items c.deref.ensures.value c.in_ok-out.ensures.items c.in_ok-put_module.ensures c.in_ok-put_packages.ensures
