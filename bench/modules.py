@@ -3,13 +3,14 @@
 
 usage: bench/modules.py [PROGRAM]    (crates/gocheck/out/gocheck if left out)
 
-Needs Debian's golang-1.19-go. Each package has ten constants and imports the one before. Prints for each module
+Needs Debian's golang-1.19-go and time. Each package has ten constants and imports the one before. Prints for each module
 its packages, the bytes of the report, the seconds of both programs (user and system, the least of several runs) and
 their peak memory in MiB. Ends with status 1 where the reports differ.
 """
 import os, subprocess, sys, tempfile
 
 GO = '/usr/lib/go-1.19/bin/go'
+TIME = '/usr/bin/time'
 CONSTANTS = 10
 
 
@@ -34,10 +35,12 @@ def write_module(root, packages):
 
 
 def run(words, path):
+    """Runs a program under time, since the peak memory of a child of this script would begin at the script's own."""
     with open(path, 'wb') as out:
-        child = subprocess.Popen(words, stdout=out)
+        child = subprocess.Popen([TIME, '-q', '-f', '%M', '-o', path + '.peak', *words], stdout=out)
         _, status, usage = os.wait4(child.pid, 0)
-    return os.waitstatus_to_exitcode(status), usage.ru_utime + usage.ru_stime, usage.ru_maxrss / 1024
+    peak = int(read(path + '.peak'))
+    return os.waitstatus_to_exitcode(status), usage.ru_utime + usage.ru_stime, peak / 1024
 
 
 def measure(words, path, times):
