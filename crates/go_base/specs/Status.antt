@@ -2,8 +2,7 @@
 -- Decides the exit status and the message of each, and after which a report was written whole.
 use Rattle.std.specs.Prelude.{ℕ, List, [], codes, ⊤}
 use Rattle.go_base.specs.declared.status.Status.{Status}
-use Rattle.go_base.specs.declared.status.Status.TheVariants.{Accepted, Refused, Usage, Beyond}
-use Rattle.go_base.specs.declared.status.Status.TheVariants.{ReadFault, WriteFault, NoMemory}
+use Rattle.go_base.specs.declared.status.Status.TheVariants.{Accepted, Refused, Usage, Beyond, ReadFault, WriteFault, NoMemory}
 
 abbrev pub status_code : Status → ℕ
 status_code Accepted = 0
@@ -17,7 +16,7 @@ status_code NoMemory = 6
 abbrev pub status_message : Status → List ℕ
 status_message Accepted = []
 status_message Refused = []
-status_message Usage = codes "usage: gocheck ROOT"
+status_message Usage = codes "usage: gocheck ROOT [--stubs ROOT2]"
 status_message Beyond = codes "outside the profile or past a limit"
 status_message ReadFault = codes "reading failed"
 status_message WriteFault = codes "writing failed"

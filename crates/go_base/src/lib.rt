@@ -6,7 +6,6 @@
 mod lines;
 mod places;
 mod rule;
-mod rules;
 mod status;
 
 // Bytes and texts.
@@ -15,11 +14,15 @@ mod name;
 mod no_memory;
 mod word;
 
-// Trees and sinks.
+// Trees and sinks: in memory, on real folders and on streams.
 mod files;
+mod folder_list;
+mod folder_paths;
+mod folder_tree;
 mod mem_sink;
 mod mem_tree;
 mod sink;
+mod std_sink;
 mod sure_sink;
 mod sure_tree;
 mod tree;
@@ -29,6 +32,7 @@ mod steps;
 
 pub use bytes::Bytes;
 pub use files::has_distinct_paths;
+pub use folder_tree::FolderTree;
 pub use lines::Lines;
 pub use mem_sink::{FailPut, MemSink};
 pub use mem_tree::MemTree;
@@ -36,16 +40,9 @@ pub use name::Name;
 pub use no_memory::NoMemory;
 pub use places::{LineCol, Pos, place};
 pub use rule::{Broken, Family, Rule};
-pub use rules::{
-    BAD_COMMUNICATION, BAD_DEFINED_NAME, BAD_RECEIVER_LIST, BAD_SWITCH_HEADER, BUILD_CONSTRAINT,
-    CYCLIC_DECLARATION, DEFINING_POST_STATEMENT, FLOAT_LITERAL, FORBIDDEN_BYTE, GENERIC_ALIAS,
-    GENERIC_METHOD, GREAT_HEIGHT, LOCAL_GENERIC_TYPE, MISPLACED_GUARD, MISPLACED_VARIADIC,
-    MISSING_CALL, MISSING_TOKEN, MISSING_VALUES, MIXED_PARAMETERS, OPEN_ARRAY_TYPE,
-    REPEATED_DEFAULT, REPEATED_NAME, SEVERAL_OPERANDS, THIRD_RANGE_VARIABLE, UNBUILT_FORM,
-    UNDECLARED_NAME, UNEXPECTED_TOKEN, WIDE_INTEGER,
-};
 pub use sink::{Sink, SinkFault};
 pub use status::Status;
+pub use std_sink::StdSink;
 pub use steps::Steps;
 pub use sure_sink::SureSink;
 pub use sure_tree::SureTree;

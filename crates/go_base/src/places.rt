@@ -2,7 +2,8 @@
 ghost use Rattle.std.specs.Prelude.{◌≡◌, ◌≤◌, length};
 ghost use Rattle.go_base.specs.Place.{line_of, column_of};
 
-/// A byte of a module's text: the number of its file, and the bytes of that file before it.
+/// A byte of a module's text: the number of its file, and the bytes of that file before it. Files are
+/// numbered from 0 in the order in which they are read; go.mod, which is no file of Go, has 0.
 #[derive(Clone, Copy, Debug, PartialEq, Eq, PartialOrd, Ord)]
 pub struct Pos {
     pub file: usize,

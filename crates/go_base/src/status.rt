@@ -9,7 +9,7 @@ pub enum Status {
     Accepted,
     /// A package is refused, and the report is written.
     Refused,
-    /// The words of the command line are refused.
+    /// The words of the command line are refused. Its message names the words that this version takes.
     Usage,
     /// The module is outside the language that is checked, or past a limit, and the report is
     /// written.
@@ -36,7 +36,7 @@ impl Status {
     {
         match self {
             Status::Accepted | Status::Refused => "",
-            Status::Usage => "usage: gocheck ROOT",
+            Status::Usage => "usage: gocheck ROOT [--stubs ROOT2]",
             Status::Beyond => "outside the profile or past a limit",
             Status::ReadFault => "reading failed",
             Status::WriteFault => "writing failed",

@@ -1,7 +1,7 @@
 // That calls succeed where there is memory, and the values of a few tables.
 use crate::{
     Bytes, FailPut, Family, LineCol, Lines, MemFile, MemSink, MemTree, Name, Rule, Sink, SinkFault,
-    Status, SureSink, SureTree, Tree, TreeFault, UNBUILT_FORM, Word, has_distinct_paths, place,
+    Status, SureSink, SureTree, Tree, TreeFault, Word, has_distinct_paths, place,
 };
 use std::alloc::{AllocError, Global};
 use std::test::Fail;
@@ -39,7 +39,7 @@ fn places(rt: HostRuntime) -> Result<(), Fail> {
 #[test]
 fn rules(rt: HostRuntime) -> Result<(), Fail> {
     let rows = [
-        (UNBUILT_FORM, "U0"),
+        (rule(Family::U, 0), "U0"),
         (rule(Family::S, 1), "S1"),
         (rule(Family::M, 3), "M3"),
         (rule(Family::P, 14), "P14"),
@@ -64,7 +64,7 @@ fn statuses(rt: HostRuntime) {
     let rows = [
         (Status::Accepted, 0, ""),
         (Status::Refused, 1, ""),
-        (Status::Usage, 2, "usage: gocheck ROOT"),
+        (Status::Usage, 2, "usage: gocheck ROOT [--stubs ROOT2]"),
         (Status::Beyond, 3, "outside the profile or past a limit"),
         (Status::ReadFault, 4, "reading failed"),
         (Status::WriteFault, 5, "writing failed"),

@@ -6,7 +6,7 @@ use Rattle.go_tree.specs.declared.node_kind.NodeKind.TheVariants.{SelectorExpr}
 use Rattle.go_tree.specs.Tree.{Tree, branch, Trees, no_trees, more_trees, id_of, kind_of, start_of, parts_of}
 use Rattle.go_model.specs.declared.meaning.Meaning.{Meaning}
 use Rattle.go_model.specs.declared.meaning.Meaning.TheVariants.{Own, Outer, Predeclared, Other}
-use Rattle.go_model.specs.FormRules.RuleNames.{unbuilt_form_rule}
+use Rattle.go_module.specs.Rules.{unbuilt_form}
 use Rattle.go_model.specs.Quests.{run}
 use Rattle.go_model.specs.Records.{Headers, record_of}
 use Rattle.go_model.specs.Rules.{broken_in, broken_among, told_at, rule_at}
@@ -26,9 +26,9 @@ module _ (file : ℕ) (means : ℕ → Meaning) (headers : Headers) where
   broken-parts t s = refl
 
   -- what a selector breaks
-  selector-of : (id from to : ℕ) (text : List ℕ) (parts : Trees) (a b : Tree) → parts ≡ more_trees a (more_trees b no_trees) → broken_in file means headers (branch id from to SelectorExpr text parts) ≡ broken_in file means headers a ++ told_at file from unbuilt_form_rule (option_map (run headers) (selector_test (means (id_of b)) (record_of means headers a)))
+  selector-of : (id from to : ℕ) (text : List ℕ) (parts : Trees) (a b : Tree) → parts ≡ more_trees a (more_trees b no_trees) → broken_in file means headers (branch id from to SelectorExpr text parts) ≡ broken_in file means headers a ++ told_at file from unbuilt_form (option_map (run headers) (selector_test (means (id_of b)) (record_of means headers a)))
   selector-of id from to text parts a b two = ap (λ ts. broken_in file means headers (branch id from to SelectorExpr text ts)) two
 
-  pub broken-selector : (t a b : Tree) → kind_of t ≡ SelectorExpr → parts_of t ≡ more_trees a (more_trees b no_trees) → broken_in file means headers t ≡ broken_in file means headers a ++ told_at file (start_of t) unbuilt_form_rule (option_map (run headers) (selector_test (means (id_of b)) (record_of means headers a)))
+  pub broken-selector : (t a b : Tree) → kind_of t ≡ SelectorExpr → parts_of t ≡ more_trees a (more_trees b no_trees) → broken_in file means headers t ≡ broken_in file means headers a ++ told_at file (start_of t) unbuilt_form (option_map (run headers) (selector_test (means (id_of b)) (record_of means headers a)))
   broken-selector (branch id from to kind text parts) a b is two =
       ap (λ k. broken_in file means headers (branch id from to k text parts)) is ∙ selector-of id from to text parts a b two

@@ -5,7 +5,7 @@ use Rattle.go_tree.specs.declared.node_kind.NodeKind.TheVariants.{AddExpr, Paren
 use Rattle.go_tree.specs.Tree.{Tree, branch, no_trees, more_trees, kind_of, parts_of, start_of, end_of}
 use Rattle.go_model.specs.declared.meaning.Meaning.{Meaning}
 use Rattle.go_model.specs.declared.records.Line.{Line}
-use Rattle.go_model.specs.Module.{FileData}
+use Rattle.go_module.specs.Modules.Module.{FileData}
 use Rattle.go_model.specs.PackageLines.{expr_at, exprs_in, exprs_among}
 use Rattle.go_model.specs.Records.{Headers, record_of}
 use Rattle.go_check.specs.Texts.{exprs_inside}

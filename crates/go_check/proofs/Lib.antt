@@ -1,5 +1,4 @@
 pub mod BrokenLemmas
-pub mod CycleLemmas
 pub mod ExprLemmas
 pub mod LineLemmas
 pub mod PlaceLemmas

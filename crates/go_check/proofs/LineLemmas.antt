@@ -1,24 +1,24 @@
 -- The lines of a report: the names that files declare, and the three groups.
-use Rattle.std.proofs.Common.{◌≡◌, ℕ, suc, ◌+◌, ◌<◌, ◌≤◌, ◌==◌, min, Bool, true, false, cond, Bor, List, [], ◌∷◌, ◌++◌, Option, length, map, take, drop, inl, inr, refl, sym, ap, ◌∙◌, subst, append_assoc, arith}
+use Rattle.std.proofs.Common.{◌≡◌, ℕ, suc, ◌+◌, ◌<◌, ◌≤◌, ◌==◌, min, Bool, true, false, cond, Bor, List, [], ◌∷◌, ◌++◌, Option, length, map, take, drop, refl, sym, ap, ◌∙◌, subst, append_assoc, arith}
 use Rattle.std.specs.List.{flat_map, prefix_len, zip}
-use Rattle.std.proofs.lemmas.Bool.{cases_lt}
 use Rattle.std.proofs.lemmas.Bool.Decides.{nat_tests}
-use Rattle.std.proofs.lemmas.List.{append-nil, drop-drop, drop_all}
+use Rattle.std.proofs.lemmas.List.{append-nil, drop-drop}
 use Rattle.go_tree.specs.declared.node.Node.{Node}
 use Rattle.go_tree.specs.declared.node.NodeId.{NodeId}
 use Rattle.go_tree.specs.Tree.{Tree, parts_of, tree_of}
 use Rattle.go_model.specs.declared.meaning.Meaning.{Meaning}
-use Rattle.go_model.specs.declared.object.ObjId.{ObjId}
+use Rattle.go_module.specs.declared.object.ObjId.{ObjId}
 use Rattle.go_model.specs.declared.records.Line.{Line}
 use Rattle.go_model.specs.Constants.{Constant, bound, unbound, constants_with, constants_in_spec, constants_in_file, constants_from, values_in_spec}
-use Rattle.go_model.specs.Heads.{import_specs}
-use Rattle.go_model.specs.Module.{FileData, PackageData}
-use Rattle.go_model.specs.Names.Constants.{const_specs, names_in_spec}
-use Rattle.go_model.specs.Names.Imports.{imports_in, imports_from, imports_of}
-use Rattle.go_model.specs.Names.Occurrences.{occurrences_in_file}
+use Rattle.go_module.specs.Modules.Heads.{import_specs}
+use Rattle.go_module.specs.Modules.Module.{FileData, PackageData}
+use Rattle.go_module.specs.Names.Constants.{const_specs, names_in_spec}
+use Rattle.go_module.specs.Names.Imports.{imports_in, imports_from, imports_of}
+use Rattle.go_module.specs.Names.Occurrences.{occurrences_in_file}
 use Rattle.go_model.specs.PackageLines.{Outline, import_defs, import_defs_in, constant_defs, defs_in, defs_from, occurrence_uses, uses_from, exprs_in_file, lines_of}
 use Rattle.go_model.specs.Records.{Headers}
 use Rattle.go_scope.specs.Blocks.{trees_at}
+use Rattle.go_scope.proofs.ImportLemmas.{pairs_done}
 use Rattle.go_check.specs.declared.constants.Constant.{Constant as OwnConstant}
 use Rattle.go_check.specs.Texts.{TextData, text_in, texts_in, is_in, import_defs_by, defs_by, uses_by, exprs_by}
 use Rattle.go_check.specs.View.{constant_view, constants_view}
@@ -149,17 +149,6 @@ three_groups outline k p denotes means headers texts start defs uses whole is is
     ∙ ap (λ l. defs_from outline p.stub means headers 0 p.files (imports_of k p) ++ (uses_from outline p.stub denotes 0 p.files ++ l)) (each_text (λ stub f. exprs_in_file stub means headers f) p.stub p.files)
 
 -- behind the last import of a file
-
-no_pairs : {A B : Type 0} (xs : List A) → zip {X = B} xs [] ≡ []
-no_pairs [] = refl
-no_pairs (x ∷ xs) = refl
-
-pairs_done : {A B C : Type 0} (f : A → C) (xs : List A) (ys : List B) (i : ℕ) → min (length xs) (length ys) ≤ i → zip (map f (drop i xs)) (drop i ys) ≡ []
-pairs_done f xs ys i behind =
-    elim (cases_lt i (length xs)) [
-      | inl within ↦ ap (zip (map f (drop i xs))) (drop_all i ys (omega arith)) ∙ no_pairs (map f (drop i xs))
-      | inr past ↦ ap (λ l. zip (map f l) (drop i ys)) (drop_all i xs past)
-    ]
 
 pub imports_done : (outline : Outline) (t : TextData) (specs : List (Bor Node)) (packages : List ℕ) (i : ℕ) (list whole : List Line) → min (length specs) (length packages) ≤ i → list ++ import_defs_by outline t (zip (trees_at (drop i specs)) (drop i packages)) ≡ whole → list ≡ whole
 imports_done outline t specs packages i list whole behind so_far =

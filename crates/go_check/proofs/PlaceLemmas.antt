@@ -6,9 +6,9 @@ use Rattle.std.specs.List.{position_or_len}
 use Rattle.std.specs.Map.{lookup}
 use Rattle.std.specs.Option.{option_map}
 use Rattle.indexmap.specs.IndexMap.{insert_entry}
-use Rattle.go_model.specs.declared.object.ObjId.{ObjId}
+use Rattle.go_module.specs.declared.object.ObjId.{ObjId}
 use Rattle.go_model.specs.Meaning.{place_among}
-use Rattle.go_model.specs.Scopes.{same_object}
+use Rattle.go_module.specs.Scopes.{same_object}
 
 same_is : (a b : ObjId) → same_object a b ≡ true → a ≡ b
 same_is a b e = let at : a.0 ≡ b.0 = grind (arith, nat_tests) in λ i. record { 0 = at i }

@@ -4,18 +4,18 @@ use Rattle.std.specs.Prelude.{slice_get, unwrap_or}
 use Rattle.std.specs.List.{Contains, list_all}
 use Rattle.std.specs.Option.{option_map_or}
 use Rattle.std.proofs.lemmas.List.{append_assoc}
-use Rattle.go_model.specs.declared.module.Package.{Package}
-use Rattle.go_model.specs.declared.scopes.Scopes.{Scopes}
+use Rattle.go_module.specs.declared.module.Package.{Package}
+use Rattle.go_module.specs.declared.scopes.Scopes.{Scopes}
 use Rattle.go_model.specs.Meaning.{KnownValues}
-use Rattle.go_model.specs.Module.{ModuleData, PackageData, package_view}
-use Rattle.go_model.specs.Packages.{is_marked}
+use Rattle.go_module.specs.Modules.Module.{ModuleData, PackageData, package_view}
+use Rattle.go_graph.specs.Graph.{is_marked}
 use Rattle.go_model.specs.Phases.{AreReports, IsVerdict, all_told, skips, checks, imports_accepted, is_accepted, package_report}
 use Rattle.go_model.specs.Report as report
 use Rattle.go_model.specs.Report.{PackageReportData, VerdictData, skipped}
-use Rattle.go_model.specs.Names.Constants.{package_names}
-use Rattle.go_model.specs.Names.Imports.{known_in}
-use Rattle.go_model.specs.Names.Tables.{IsScopesOf}
-use Rattle.go_model.proofs.MemberLemmas.{cons_cases}
+use Rattle.go_module.specs.Names.Constants.{package_names}
+use Rattle.go_module.specs.Names.Imports.{known_in}
+use Rattle.go_module.specs.Names.Tables.{IsScopesOf}
+use Rattle.go_module.proofs.MemberLemmas.{cons_cases}
 use Rattle.go_scope.specs.declared.known.KnownPackage.{KnownPackage}
 use Rattle.go_scope.specs.Known.{known_by, names_of}
 use Rattle.go_check.specs.declared.module.State.{State}

@@ -1,23 +1,22 @@
 -- Files with the tables of their lines: the broken rules in them, and what they declare.
-use Rattle.std.proofs.Common.{◌≡◌, ℕ, zero, suc, ◌+◌, ◌<◌, ◌≤◌, Bool, false, List, [], ◌∷◌, ◌++◌, Option, Some, None, length, map, drop, get_or, refl, sym, ap, ◌∙◌, append_assoc, add-one, arith}
-use Rattle.std.specs.Prelude.{slice_get, unwrap_or}
-use Rattle.std.specs.List.{flat_map}
+use Rattle.std.proofs.Common.{◌≡◌, ℕ, zero, suc, ◌+◌, ◌<◌, ◌==◌, Bool, true, false, cond, List, [], ◌∷◌, ◌++◌, Option, Some, None, length, map, drop, get_or, refl, sym, ap, ◌∙◌, append_assoc, add-one}
+use Rattle.std.specs.List.{find, flat_map}
+use Rattle.std.specs.Option.{option_map_or}
 use Rattle.std.proofs.lemmas.List.Sums.{fold-append}
 use Rattle.std.proofs.Math.Seq.{drop-cons}
 use Rattle.indexmap.specs.IndexMap.{insert_all, insert_entry}
 use Rattle.go_base.specs.declared.rule.Broken.{Broken}
 use Rattle.go_base.specs.Place.{line_of, column_of}
-use Rattle.go_model.specs.declared.object.ObjId.{ObjId}
-use Rattle.go_model.specs.declared.report.At.{At}
-use Rattle.go_model.specs.declared.report.Placed.{Placed}
-use Rattle.go_model.specs.Folders.{SourceText}
-use Rattle.go_model.specs.Loading.{empty_text, placed_among, placed_in}
-use Rattle.go_model.specs.Module.{FileData, PackageData}
-use Rattle.go_model.specs.Places.{at_offset, declarations_in, declarations_of, placed_by}
-use Rattle.go_model.specs.Scopes.{same_object}
+use Rattle.go_module.specs.declared.object.ObjId.{ObjId}
+use Rattle.go_module.specs.declared.places.At.{At}
+use Rattle.go_module.specs.declared.places.Placed.{Placed}
+use Rattle.go_module.specs.Places.{empty_text, text_of, placed_in, at_offset, placed_by}
+use Rattle.go_module.specs.Modules.Module.{FileData, PackageData}
+use Rattle.go_model.specs.Declarations.{declarations_in, declarations_of}
+use Rattle.go_module.specs.Scopes.{same_object}
 use Rattle.go_check.specs.declared.places.Text.{Text}
 use Rattle.go_check.specs.TextView.{file_of, texts_view}
-use Rattle.go_check.specs.Texts.{TextData, text_in, texts_in, files_of, sources_of}
+use Rattle.go_check.specs.Texts.{TextData, text_in, texts_in, files_of, source_numbered}
 
 -- places in an empty text
 
@@ -31,10 +30,6 @@ column_in_nothing (suc n) = refl
 
 -- the texts of a package
 
-sources_are : (stub : Bool) (files : List FileData) → sources_of (map (text_in stub) files) ≡ map (λ (f : FileData). record { stub = stub; path = f.path; bytes = f.bytes }) files
-sources_are stub [] = refl
-sources_are stub (f ∷ files) = ap (λ l. record { stub = stub; path = f.path; bytes = f.bytes } ∷ l) (sources_are stub files)
-
 pub files_are : (stub : Bool) (files : List FileData) → files_of (map (text_in stub) files) ≡ files
 files_are stub [] = refl
 files_are stub (f ∷ files) = ap (λ l. f ∷ l) (files_are stub files)
@@ -44,9 +39,26 @@ pub each_text : {A : Type 0} (g : Bool → FileData → List A) (stub : Bool) (f
 each_text g stub [] = refl
 each_text g stub (f ∷ files) = ap (λ l. g stub f ++ l) (each_text g stub files)
 
+-- the text that has a number is that of the file of the package that has it
+numbered_in : (number : ℕ) (stub : Bool) (files : List FileData) → source_numbered (map (text_in stub) files) number ≡ option_map_or (text_of stub) (find (λ (f : FileData). f.number == number) files) empty_text
+numbered_in number stub [] = refl
+numbered_in number stub (f ∷ files) = by_test (f.number == number) (numbered_in number stub files)
+  where
+    by_test : (b : Bool) → source_numbered (map (text_in stub) files) number ≡ option_map_or (text_of stub) (find (λ (g : FileData). g.number == number) files) empty_text
+        → option_map_or (λ (t : TextData). text_of t.stub t.file) (cond b (Some (text_in stub f)) (find (λ (t : TextData). t.file.number == number) (map (text_in stub) files))) empty_text
+        ≡ option_map_or (text_of stub) (cond b (Some f) (find (λ (g : FileData). g.number == number) files)) empty_text
+    by_test true rest = refl
+    by_test false rest = rest
+
+placed-each : (p : PackageData) (list : List Broken) → map (λ (b : Broken). placed_in (source_numbered (texts_in p) b.pos.file) b) list ≡ map (placed_by p) list
+placed-each p [] = refl
+placed-each p (b ∷ bs) =
+    ap (λ l. placed_in (source_numbered (texts_in p) b.pos.file) b ∷ l) (placed-each p bs)
+    ∙ ap (λ text. placed_in text b ∷ map (placed_by p) bs) (numbered_in b.pos.file p.stub p.files)
+
 -- the places of broken rules are those by the files of their package
-pub placed_all : (p : PackageData) (texts : List TextData) (list : List Broken) (placed : List Placed) → texts ≡ texts_in p → placed ≡ map (placed_among (sources_of texts)) list → placed ≡ map (placed_by p) list
-placed_all p texts list placed is now = now ∙ ap (λ l. map (placed_among l) list) (ap sources_of is ∙ sources_are p.stub p.files)
+pub placed_all : (p : PackageData) (texts : List TextData) (list : List Broken) (placed : List Placed) → texts ≡ texts_in p → placed ≡ map (λ (b : Broken). placed_in (source_numbered texts b.pos.file) b) list → placed ≡ map (placed_by p) list
+placed_all p texts list placed is now = now ∙ ap (λ ts. map (λ (b : Broken). placed_in (source_numbered ts b.pos.file) b) list) is ∙ placed-each p list
 
 -- what is left of a list, from an element on
 pub drop-step : {X : Type 0} (xs : List X) (i : ℕ) (x : X) → i < length xs → x ≡ get_or xs i x → drop i xs ≡ x ∷ drop (i + 1) xs
@@ -67,24 +79,27 @@ flat_more g left rest x old new whole at now so_far =
 
 -- the place of a broken rule in a text, and where there is no text
 
-source_at : (texts : List Text) (i : ℕ) (t : Text) → i < length texts → t ≡ get_or texts i t → slice_get (sources_of (texts_view texts)) i ≡ Some (record { stub = t.stub; path = (file_of t).path; bytes = (file_of t).bytes })
-source_at [] i t lt e = absurd (omega arith)
-source_at (u ∷ texts) zero t lt e = ap (λ (x : Text). Some (record { stub = x.stub; path = (file_of x).path; bytes = (file_of x).bytes })) (sym e)
-source_at (u ∷ texts) (suc i) t lt e = source_at texts i t (omega arith) e
+source-find : (number : ℕ) (texts : List Text) → source_numbered (texts_view texts) number ≡ option_map_or (λ (t : Text). text_of t.stub (file_of t)) (find (λ (t : Text). (file_of t).number == number) texts) empty_text
+source-find number [] = refl
+source-find number (t ∷ texts) = by_test ((file_of t).number == number) (source-find number texts)
+  where
+    by_test : (b : Bool) → source_numbered (texts_view texts) number ≡ option_map_or (λ (u : Text). text_of u.stub (file_of u)) (find (λ (u : Text). (file_of u).number == number) texts) empty_text
+        → option_map_or (λ (u : TextData). text_of u.stub u.file) (cond b (Some (text_in t.stub (file_of t))) (find (λ (u : TextData). u.file.number == number) (texts_view texts))) empty_text
+        ≡ option_map_or (λ (u : Text). text_of u.stub (file_of u)) (cond b (Some t) (find (λ (u : Text). (file_of u).number == number) texts)) empty_text
+    by_test true rest = refl
+    by_test false rest = rest
 
-source_past : (texts : List Text) (i : ℕ) → length texts ≤ i → slice_get (sources_of (texts_view texts)) i ≡ None
-source_past [] i past = refl
-source_past (u ∷ texts) zero past = absurd (omega arith)
-source_past (u ∷ texts) (suc i) past = source_past texts i (omega arith)
+pub place_there : (texts : List Text) (b : Broken) (t : Text) → Some t ≡ find (λ (u : Text). (file_of u).number == b.pos.file) texts → at_offset t.stub (file_of t) b.pos.offset ≡ (placed_in (source_numbered (texts_view texts) b.pos.file) b).at
+place_there texts b t found =
+    ap (λ (o : Option Text). (placed_in (option_map_or (λ (u : Text). text_of u.stub (file_of u)) o empty_text) b).at) found
+    ∙ sym (ap (λ text. (placed_in text b).at) (source-find b.pos.file texts))
 
-pub place_there : (texts : List Text) (b : Broken) (t : Text) → b.pos.file < length texts → t ≡ get_or texts b.pos.file t → at_offset t.stub (file_of t) b.pos.offset ≡ (placed_among (sources_of (texts_view texts)) b).at
-place_there texts b t lt e = sym (ap (λ (o : Option SourceText). (placed_in (unwrap_or o empty_text) b).at) (source_at texts b.pos.file t lt e))
-
-pub place_past : (texts : List Text) (b : Broken) → length texts ≤ b.pos.file → record { stub = false; file = []; line = 1; col = 1 } ≡ (placed_among (sources_of (texts_view texts)) b).at
-place_past texts b past =
+pub place_past : (texts : List Text) (b : Broken) → None ≡ find (λ (u : Text). (file_of u).number == b.pos.file) texts → record { stub = false; file = []; line = 1; col = 1 } ≡ (placed_in (source_numbered (texts_view texts) b.pos.file) b).at
+place_past texts b none =
     ap (λ n. record { stub = false; file = []; line = n; col = 1 }) (sym (line_in_nothing b.pos.offset))
     ∙ ap (λ n. record { stub = false; file = []; line = line_of [] b.pos.offset; col = n }) (sym (column_in_nothing b.pos.offset))
-    ∙ sym (ap (λ (o : Option SourceText). (placed_in (unwrap_or o empty_text) b).at) (source_past texts b.pos.file past))
+    ∙ ap (λ (o : Option Text). (placed_in (option_map_or (λ (u : Text). text_of u.stub (file_of u)) o empty_text) b).at) none
+    ∙ sym (ap (λ text. (placed_in text b).at) (source-find b.pos.file texts))
 
 -- what the files of a package declare
 pub declared_in : (p : PackageData) (texts : List Text) → texts_view texts ≡ texts_in p → flat_map (λ (t : Text). declarations_in t.stub (file_of t)) texts ≡ declarations_of p

@@ -5,9 +5,9 @@ use Rattle.std.proofs.Math.Seq.{drop-cons}
 use Rattle.go_base.specs.declared.rule.Broken.{Broken}
 use Rattle.go_tree.specs.Tree.{tree_of}
 use Rattle.go_model.specs.declared.meaning.Meaning.{Meaning}
-use Rattle.go_model.specs.declared.module.SourceFile.{SourceFile}
-use Rattle.go_model.specs.Module.{file_view}
-use Rattle.go_model.specs.Names.Constants.{const_specs}
+use Rattle.go_module.specs.declared.module.SourceFile.{SourceFile}
+use Rattle.go_module.specs.Modules.Module.{file_view}
+use Rattle.go_module.specs.Names.Constants.{const_specs}
 use Rattle.go_model.specs.Records.{Headers}
 use Rattle.go_model.specs.Rules.{broken_spec, broken_specs}
 

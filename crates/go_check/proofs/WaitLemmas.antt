@@ -1,17 +1,19 @@
 -- What an expression lacks, node by node, and the graph of the waits.
-use Rattle.std.proofs.Common.{◌≡◌, ℕ, zero, suc, ℤ, ◌<◌, Bool, Option, Some, None, List, [], ◌∷◌, ◌++◌, length, map, refl, sym, subst, Contains, arith}
-use Rattle.std.specs.Prelude.{◌↔◌, All, slice_get, if◌then◌else◌, true, false}
+use Rattle.std.proofs.Common.{◌≡◌, ℕ, ℤ, ◌<◌, Bool, Option, Some, None, List, [], ◌∷◌, ◌++◌, length, map, refl, sym, ap, ◌∙◌, subst, Contains, arith}
+use Rattle.std.specs.Prelude.{◌↔◌, All, slice_get, unwrap_or, if◌then◌else◌, true, false}
 use Rattle.std.specs.List.{flat_map}
 use Rattle.std.specs.Option.{option_map}
 use Rattle.std.proofs.lemmas.List.{length-map}
+use Rattle.std.proofs.lemmas.Option.{slice_get-map}
 use Rattle.std.proofs.lemmas.List.Elements.{All-nil, All-cons, All-append, All-contains}
 use Rattle.go_tree.specs.declared.node_kind.NodeKind.TheVariants.{AddExpr, SelectorExpr, Name}
 use Rattle.go_tree.specs.Tree.{Tree, branch, Trees, no_trees, more_trees, id_of, kind_of, parts_of}
 use Rattle.go_model.specs.declared.meaning.Meaning.{Meaning}
 use Rattle.go_model.specs.declared.meaning.Meaning.TheVariants.{Own, Outer, Predeclared, Other}
-use Rattle.go_model.specs.declared.object.ObjId.{ObjId}
+use Rattle.go_module.specs.declared.object.ObjId.{ObjId}
 use Rattle.go_model.specs.Constants.{Constant}
-use Rattle.go_model.specs.Graph.{Graph, HasEdge, Path, edge, further, IsGraph}
+use Rattle.go_graph.specs.Graph.{Graph, HasEdge, Path, start, further, IsGraph, row_at}
+use Rattle.go_module.proofs.MemberLemmas.{contains_none}
 use Rattle.go_model.specs.Lacking.{lacking}
 use Rattle.go_model.specs.Meaning.{KnownValues, denoted_meaning, declared_meaning, outer_meaning, is_predeclared}
 use Rattle.go_model.specs.Quests.{Done, run}
@@ -115,42 +117,37 @@ places_within n around below id place e =
     below found.0 place found.1
 
 -- the graph of the waits
-declared_row : (f : Constant → List ℕ) (constants : List Constant) (d : ℕ) (row : List ℕ) → slice_get (map f constants) d ≡ Some row → (constant : Constant) × (slice_get constants d ≡ Some constant) × (row ≡ f constant)
-declared_row f [] d row e = cc
-declared_row f (c ∷ constants) zero row e = (c, refl, cc)
-declared_row f (c ∷ constants) (suc d) row e = declared_row f constants d row e
+row_declared : (f : Constant → List ℕ) (constants : List Constant) (d e : ℕ) → Contains (row_at (map f constants) d) e → (constant : Constant) × (slice_get constants d ≡ Some constant) × Contains (f constant) e
+row_declared f constants d e has = by_place (slice_get constants d) refl (subst (λ (o : Option (List ℕ)). Contains (unwrap_or o []) e) (slice_get-map f constants d) has)
+  where
+    by_place : (o : Option Constant) → slice_get constants d ≡ o → Contains (unwrap_or (option_map f o) []) e → (constant : Constant) × (slice_get constants d ≡ Some constant) × Contains (f constant) e
+    by_place None at h = absurd (contains_none e h)
+    by_place (Some constant) at h = (constant, at, h)
 
-row_declared : (f : Constant → List ℕ) (constants : List Constant) (d : ℕ) (constant : Constant) → slice_get constants d ≡ Some constant → slice_get (map f constants) d ≡ Some (f constant)
-row_declared f [] d constant e = cc
-row_declared f (c ∷ constants) zero constant e = cc
-row_declared f (c ∷ constants) (suc d) constant e = row_declared f constants d constant e
+declared_row : (f : Constant → List ℕ) (constants : List Constant) (d : ℕ) (constant : Constant) → slice_get constants d ≡ Some constant → row_at (map f constants) d ≡ f constant
+declared_row f constants d constant at = ap (λ (o : Option (List ℕ)). unwrap_or o []) (slice_get-map f constants d ∙ ap (option_map f) at)
 
 module _ (means : ℕ → Meaning) (headers : Headers) (constants : List Constant) where
   pub waits_graph : ((id place : ℕ) → means id ≡ Own place → place < length constants) → IsGraph (lacking means headers constants)
   waits_graph below a b e =
-      let at = declared_row (lacked_by means headers) constants a e.row e.at in
-      let has = subst (λ (xs : List ℕ). Contains xs b) at.2 e.has in
-      let lt = All-contains (λ k. k < length constants) (lacked_by means headers at.0) b (all_within (length constants) means headers below at.0.rests_on) has in
+      let at = row_declared (lacked_by means headers) constants a b e in
+      let lt = All-contains (λ k. k < length constants) (lacked_by means headers at.0) b (all_within (length constants) means headers below at.0.rests_on) at.2 in
       omega (arith, lt, length-map constants (lacked_by means headers))
 
   edge_waits : (d e : ℕ) → HasEdge (lacking means headers constants) d e → Waits means constants headers d e
   edge_waits d e leads =
-      let at = declared_row (lacked_by means headers) constants d leads.row leads.at in
-      record { constant = at.0; declared = at.1; lacks = subst (λ (xs : List ℕ). Contains xs e) at.2 leads.has }
+      let at = row_declared (lacked_by means headers) constants d e leads in
+      record { constant = at.0; declared = at.1; lacks = at.2 }
 
   waits_edge : (d e : ℕ) → Waits means constants headers d e → HasEdge (lacking means headers constants) d e
-  waits_edge d e w = record {
-    row = lacked_by means headers w.constant;
-    at = row_declared (lacked_by means headers) constants d w.constant w.declared;
-    has = w.lacks;
-  }
+  waits_edge d e w = subst (λ (xs : List ℕ). Contains xs e) (sym (declared_row (lacked_by means headers) constants d w.constant w.declared)) w.lacks
 
   path_chain : (d e : ℕ) → Path (lacking means headers constants) d e → Chain means constants headers d e
-  path_chain d e (edge _ leads) = one e (edge_waits d e leads)
+  path_chain d e (start _ leads) = one e (edge_waits d e leads)
   path_chain d e (further b _ p leads) = more b e (path_chain d b p) (edge_waits b e leads)
 
   chain_path : (d e : ℕ) → Chain means constants headers d e → Path (lacking means headers constants) d e
-  chain_path d e (one _ w) = edge e (waits_edge d e w)
+  chain_path d e (one _ w) = start e (waits_edge d e w)
   chain_path d e (more b _ p w) = further b e (chain_path d b p) (waits_edge b e w)
 
   -- the paths through the graph of the waits are the chains of waits

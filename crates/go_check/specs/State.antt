@@ -1,11 +1,11 @@
 -- What is known while the packages of a module are checked, one after another.
 use Rattle.std.specs.Prelude.{◌≡◌, ℕ, Bool, true, List, [], ◌++◌, drop, length, map}
 use Rattle.go_model.specs.Meaning.{KnownValues}
-use Rattle.go_model.specs.Module.{ModuleData, PackageData}
-use Rattle.go_model.specs.Packages.{is_marked}
+use Rattle.go_module.specs.Modules.Module.{ModuleData, PackageData}
+use Rattle.go_graph.specs.Graph.{is_marked}
 use Rattle.go_model.specs.Phases.{AreReports}
 use Rattle.go_model.specs.Report.{PackageReportData, package_view}
-use Rattle.go_model.specs.Names.Imports.{known_in}
+use Rattle.go_module.specs.Names.Imports.{known_in}
 use Rattle.go_scope.specs.declared.known.KnownPackage.{KnownPackage}
 use Rattle.go_scope.specs.Known.{known_by}
 use Rattle.go_check.specs.declared.module.State.{State}

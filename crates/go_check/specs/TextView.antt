@@ -1,6 +1,6 @@
 -- What texts, and the outline of a module, stand for.
 use Rattle.std.specs.Prelude.{List, map}
-use Rattle.go_model.specs.Module.{FileData, file_view}
+use Rattle.go_module.specs.Modules.Module.{FileData, file_view}
 use Rattle.go_model.specs.PackageLines.{Outline}
 use Rattle.go_check.specs.declared.outline.Outline.{Outline as OwnOutline}
 use Rattle.go_check.specs.declared.places.Text.{Text}

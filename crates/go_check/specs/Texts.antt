@@ -1,17 +1,19 @@
 -- Files with the tables of their lines, and the lines of a report, file after file.
-use Rattle.std.specs.Prelude.{ℕ, ◌+◌, ◌==◌, Bool, List, [], ◌∷◌, ◌++◌, map, Option, take, drop, length}
+use Rattle.std.specs.Prelude.{ℕ, ◌+◌, ◌==◌, Bool, List, [], ◌∷◌, ◌++◌, map, Option, find, take, drop, length}
 use Rattle.std.specs.List.{flat_map, zip}
+use Rattle.std.specs.Option.{option_map_or}
 use Rattle.go_tree.specs.declared.node.NodeId.{NodeId}
 use Rattle.go_tree.specs.declared.node_kind.NodeKind.TheVariants.{SelectorExpr}
 use Rattle.go_tree.specs.Tree.{Tree, branch, no_trees, more_trees, parts_of}
 use Rattle.go_model.specs.declared.meaning.Meaning.{Meaning}
-use Rattle.go_model.specs.declared.object.ObjId.{ObjId}
+use Rattle.go_module.specs.declared.object.ObjId.{ObjId}
 use Rattle.go_model.specs.declared.records.Line.{Line}
 use Rattle.go_model.specs.Constants.{constants_in_file}
-use Rattle.go_model.specs.Folders.{SourceText}
-use Rattle.go_model.specs.Heads.{import_specs}
-use Rattle.go_model.specs.Module.{FileData, PackageData}
-use Rattle.go_model.specs.Names.Occurrences.{occurrences_in_file}
+use Rattle.go_module.specs.Modules.Texts.{SourceText}
+use Rattle.go_module.specs.Modules.Heads.{import_specs}
+use Rattle.go_module.specs.Modules.Module.{FileData, PackageData}
+use Rattle.go_module.specs.Places.{empty_text, text_of}
+use Rattle.go_module.specs.Names.Occurrences.{occurrences_in_file}
 use Rattle.go_model.specs.PackageLines.{Outline, constant_defs, import_defs_in, occurrence_uses, exprs_in, exprs_among, exprs_in_file}
 use Rattle.go_model.specs.Records.{Headers}
 use Rattle.go_check.specs.declared.constants.Constant.{Constant as OwnConstant}
@@ -34,9 +36,9 @@ files_of texts = map (λ t. t.file) texts
 abbrev pub is_in : ℕ → OwnConstant → Bool
 is_in file c = c.file == file
 
--- the same as texts of a folder
-abbrev pub sources_of : List TextData → List SourceText
-sources_of texts = map (λ t. record { stub = t.stub; path = t.file.path; bytes = t.file.bytes }) texts
+-- the text of the file that has a number, and an empty one where no file has it
+abbrev pub source_numbered : List TextData → ℕ → SourceText
+source_numbered texts number = option_map_or (λ (t : TextData). text_of t.stub t.file) (find (λ (t : TextData). t.file.number == number) texts) empty_text
 
 -- the lines of the names that imports declare: of each its spec, and the place of the package that it names
 abbrev pub import_defs_by : Outline → TextData → List (Tree × ℕ) → List Line

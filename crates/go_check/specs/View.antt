@@ -5,10 +5,10 @@ use Rattle.std.specs.Option.{option_map}
 use Rattle.go_tree.specs.declared.node.NodeId.{NodeId}
 use Rattle.go_tree.specs.Tree.{tree_of}
 use Rattle.go_model.specs.declared.meaning.Meaning.{Meaning}
-use Rattle.go_model.specs.declared.object.ObjId.{ObjId}
+use Rattle.go_module.specs.declared.object.ObjId.{ObjId}
 use Rattle.go_model.specs.Constants.{Constant, numbers_of}
 use Rattle.go_model.specs.Meaning.{meaning_by, place_among}
-use Rattle.go_model.specs.Scopes.{same_node, same_object}
+use Rattle.go_module.specs.Scopes.{same_node, same_object}
 use Rattle.go_check.specs.declared.around.Around.{Around}
 use Rattle.go_check.specs.declared.constants.Constant.{Constant as OwnConstant}
 

@@ -4,7 +4,8 @@ ghost use Rattle.std.specs.Prelude.{◌≡◌};
 ghost use Rattle.go_model.specs.Meaning as spec;
 ghost use Rattle.go_check.specs.View.{means_by, places_by};
 
-use go_model::{Meaning, ObjId, Scopes};
+use go_model::Meaning;
+use go_module::{ObjId, Scopes};
 use go_tree::NodeId;
 use indexmap::IndexMap;
 

@@ -5,9 +5,9 @@ ghost use Rattle.go_num.specs.Arithmetic.{limited};
 ghost use Rattle.go_tree.specs.LiteralValues.{int_lit_value};
 ghost use Rattle.go_tree.specs.Tree.{Tree, tree_of, trees_of, start_of, text_of, kind_of, parts_of, more_trees, no_trees};
 ghost use Rattle.go_tree.specs.declared.node_kind.NodeKind.TheVariants as node_kind;
-ghost use Rattle.go_model.specs.BrokenImports.{told_if};
-ghost use Rattle.go_model.specs.BrokenImports as places;
-ghost use Rattle.go_model.specs.FormRules.RuleNames.{unbuilt_form_rule};
+ghost use Rattle.go_module.specs.Broken.{told_if};
+ghost use Rattle.go_module.specs.Broken as places;
+ghost use Rattle.go_module.specs.Rules.{unbuilt_form};
 ghost use Rattle.go_model.specs.Quests.{Decided, run};
 ghost use Rattle.go_model.specs.Records.{Headers, record_of, sum_of};
 ghost use Rattle.go_model.specs.Records as records;
@@ -18,8 +18,10 @@ ghost use Rattle.go_check.specs.View.{means_by};
 
 use crate::around::Around;
 use crate::record::{meant_value, operands, parenthesized, record, selector, sum};
-use go_base::{Broken, NoMemory, UNBUILT_FORM, WIDE_INTEGER};
-use go_model::{Meaning, add_if, broken_at};
+use crate::rules::WIDE_INTEGER;
+use go_base::{Broken, NoMemory};
+use go_model::Meaning;
+use go_module::{UNBUILT_FORM, add_if, broken_at};
 use go_scan::int_lit_value;
 use go_tree::{Node, NodeKind};
 
@@ -103,7 +105,7 @@ fn push_selector(
 ) -> Result<Option<i128>, NoMemory>
     ensures value { IfOk result (λ value. value ≡ records.meant_value (slot_of table.now) meaning) }
     ensures list { OnOk result (list.new.items ≡ list.old.items ++ told_at file (start_of (tree_of node.now))
-        unbuilt_form_rule (option_map (run (slot_of table.now)) (selector_test meaning operand))) }
+        unbuilt_form (option_map (run (slot_of table.now)) (selector_test meaning operand))) }
 {
     let unbuilt = is_unbuilt(meaning, operand);
     add_if(list, unbuilt, broken_at(file, node.start(), UNBUILT_FORM))?;
@@ -113,8 +115,8 @@ fn push_selector(
 // Whether a selector is not built: one of a predeclared identifier, and one of a value.
 fn is_unbuilt(meaning: Meaning, operand: Option<i128>) -> bool
     ensures { (headers : Headers) (from at : ℕ) →
-        told_if result (places.broken_at from at unbuilt_form_rule)
-        ≡ told_at from at unbuilt_form_rule (option_map (run headers) (selector_test meaning operand)) }
+        told_if result (places.broken_at from at unbuilt_form)
+        ≡ told_at from at unbuilt_form (option_map (run headers) (selector_test meaning operand)) }
 {
     match meaning {
         Meaning::Own(_) => false,
@@ -173,7 +175,7 @@ fn push_name(
 ) -> Result<Option<i128>, NoMemory>
     ensures value { IfOk result (λ value. value ≡ records.meant_value (slot_of table.now) meaning) }
     ensures list { OnOk result (list.new.items ≡ list.old.items ++ told_at file (start_of (tree_of node.now))
-        unbuilt_form_rule (Some (run (slot_of table.now) (name_test meaning)))) }
+        unbuilt_form (Some (run (slot_of table.now) (name_test meaning)))) }
 {
     let unbuilt = is_unbuilt(meaning, None);
     add_if(list, unbuilt, broken_at(file, node.start(), UNBUILT_FORM))?;

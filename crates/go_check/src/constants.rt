@@ -3,15 +3,15 @@ ghost use Rattle.std.specs.Prelude.{◌≡◌, ◌++◌, IfOk, OnOk, length, map
 ghost use Rattle.std.specs.Map.{lookup};
 ghost use Rattle.go_tree.specs.Tree.{tree_of};
 ghost use Rattle.go_model.specs.Constants as rule;
-ghost use Rattle.go_model.specs.declared.object.ObjId.{ObjId};
+ghost use Rattle.go_module.specs.declared.object.ObjId.{ObjId};
 ghost use Rattle.go_model.specs.Meaning.{place_among};
-ghost use Rattle.go_model.specs.Module.{file_view};
-ghost use Rattle.go_model.specs.Scopes.{same_object};
+ghost use Rattle.go_module.specs.Modules.Module.{file_view};
+ghost use Rattle.go_module.specs.Scopes.{same_object};
 ghost use Rattle.go_check.specs.View.{constant_view, constants_view};
 
 use crate::parts::{names_in_spec, values_in_spec};
 use go_base::NoMemory;
-use go_model::{ObjId, SourceFile};
+use go_module::{ObjId, SourceFile};
 use go_scope::const_specs;
 use go_tree::Node;
 use indexmap::IndexMap;

@@ -18,7 +18,6 @@ mod record;
 
 // The rules on values.
 mod broken;
-mod cycles;
 mod unequal;
 mod values;
 mod waits;

@@ -1,7 +1,7 @@
 // The lines of an accepted package.
 ghost use Rattle.std.specs.Prelude.{◌≡◌, ℕ, IfOk};
 ghost use Rattle.go_model.specs.Constants.{constants_of};
-ghost use Rattle.go_model.specs.Module.{package_view};
+ghost use Rattle.go_module.specs.Modules.Module.{package_view};
 ghost use Rattle.go_model.specs.PackageLines as spec;
 ghost use Rattle.go_check.specs.Table.{slot_of};
 ghost use Rattle.go_check.specs.TextView.{outline_view};
@@ -16,7 +16,8 @@ use crate::places::texts_of;
 use crate::room::line_count;
 use crate::uses::push_uses;
 use go_base::NoMemory;
-use go_model::{Line, Package};
+use go_model::Line;
+use go_module::Package;
 use std::alloc::Global;
 
 /// The lines of a package: one for each declared name, then one for each use, then one for each expression, each

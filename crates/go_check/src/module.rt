@@ -1,9 +1,9 @@
 // The check of a module (Go specification, "Package initialization", "Packages").
 ghost use Rattle.std.specs.Prelude.{◌≡◌, ◌∷◌, ◌++◌, ◌+◌, [], Some, IfOk, OnOk, length, map, slice_get};
 ghost use Rattle.std.specs.List.{list_all};
-ghost use Rattle.go_model.specs.Module.{ModuleData, module_view, package_view};
+ghost use Rattle.go_graph.specs.Graph as marking;
+ghost use Rattle.go_module.specs.Modules.Module.{ModuleData, module_view, package_view};
 ghost use Rattle.go_model.specs.PackageLines.{outline_of};
-ghost use Rattle.go_model.specs.Packages as packages;
 ghost use Rattle.go_model.specs.Phases as phases;
 ghost use Rattle.go_model.specs.Report.{report_view, verdict_view};
 ghost use Rattle.go_model.specs.Report as reports;
@@ -14,7 +14,9 @@ use crate::declarations::declarations;
 use crate::outline::Outline;
 use crate::package::{Checked, check_package, unknown};
 use go_base::{Name, NoMemory, Steps};
-use go_model::{Module, ObjId, Package, PackageReport, Report, Verdict};
+use go_graph::is_marked;
+use go_model::{PackageReport, Report, Verdict};
+use go_module::{Module, ObjId, Package};
 use go_scope::KnownPackage;
 use indexmap::IndexMap;
 use std::alloc::Global;
@@ -38,7 +40,8 @@ pub fn check_module<L: Ledger>(
     module: Module,
     _steps: &mut Steps<L>,
 ) -> Result<Report, NoMemory>
-    ensures { IfOk result (λ report. phases.ReportOf (module_view «module») (report_view report)) }
+    ensures report { IfOk result (λ report. phases.ReportOf (module_view «module») (report_view report)) }
+    ensures steps { _steps.new ≡ _steps.old }
 {
     let declared = declarations(alloc, &module)?;
     let paths = paths_of(alloc, &module.packages)?;
@@ -138,16 +141,9 @@ fn add_checked(own: &Package, checked: Checked, state: &mut State) -> Result<(),
 
 // Whether all these packages are marked.
 fn imports_accepted(marks: &[bool], imports: &[usize]) -> bool
-    ensures { result ≡ list_all (packages.is_marked marks.now) imports.now }
+    ensures { result ≡ list_all (marking.is_marked marks.now) imports.now }
 {
     imports.iter().all(|import| is_marked(marks, *import))
-}
-
-// Whether the package at that place is marked.
-fn is_marked(marks: &[bool], place: usize) -> bool
-    ensures { result ≡ packages.is_marked marks.now place }
-{
-    marks.get(place).copied().unwrap_or(false)
 }
 
 fn is_accepted(verdict: &Verdict) -> bool

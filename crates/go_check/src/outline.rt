@@ -5,7 +5,7 @@ ghost use Rattle.go_model.specs.PackageLines as spec;
 ghost use Rattle.go_check.specs.TextView.{outline_view};
 
 use go_base::{Name, NoMemory};
-use go_model::{At, ObjId};
+use go_module::{At, ObjId};
 use indexmap::IndexMap;
 use std::alloc::Global;
 

@@ -2,9 +2,9 @@
 ghost use Rattle.std.specs.Prelude.{◌≡◌, map};
 ghost use Rattle.go_tree.specs.Tree.{tree_of, trees_of};
 ghost use Rattle.go_model.specs.Constants as constants;
-ghost use Rattle.go_model.specs.Names.Constants as names;
+ghost use Rattle.go_module.specs.Names.Constants as names;
 
-use go_model::{first_part, last_part, part_list};
+use go_module::{first_part, last_part, part_list};
 use go_tree::Node;
 
 /// The names of a spec.

@@ -1,14 +1,14 @@
 // Places of a package's text, by tables of its lines (Go specification, "Source code representation").
-ghost use Rattle.std.specs.Prelude.{◌≡◌, [], IfOk, false, map};
+ghost use Rattle.std.specs.Prelude.{◌≡◌, ◌==◌, [], IfOk, false, find, map};
+ghost use Rattle.std.specs.Option.{option_copied};
 ghost use Rattle.go_base.specs.Place.{line_of, column_of};
 ghost use Rattle.go_tree.specs.Tree.{tree_of};
-ghost use Rattle.go_model.specs.Loading.{placed_among};
-ghost use Rattle.go_model.specs.Module.{file_view, package_view};
-ghost use Rattle.go_model.specs.Places as spec;
-ghost use Rattle.go_check.specs.Texts.{sources_of, texts_in};
+ghost use Rattle.go_module.specs.Places as spec;
+ghost use Rattle.go_module.specs.Modules.Module.{file_view, package_view};
+ghost use Rattle.go_check.specs.Texts.{source_numbered, texts_in};
 
 use go_base::{Broken, LineCol, Lines, Name, NoMemory};
-use go_model::{At, Package, Placed, SourceFile};
+use go_module::{At, Package, Placed, SourceFile};
 use go_tree::Node;
 use std::alloc::Global;
 
@@ -73,7 +73,8 @@ fn text_of<'a>(alloc: Global, stub: bool, file: &'a SourceFile) -> Result<Text<'
     Ok(Text { stub, file, lines })
 }
 
-/// The broken rules of a package with their places written out. An error is want of memory.
+/// The broken rules of a package with their places written out, each in the file that has the number of its
+/// place. An error is want of memory.
 pub fn placed_list(alloc: Global, own: &Package, list: &[Broken]) -> Result<Vec<Placed>, NoMemory>
     ensures { IfOk result (λ placed.
         placed.items ≡ map (spec.placed_by (package_view own.now)) list.now) }
@@ -88,8 +89,8 @@ pub fn placed_list(alloc: Global, own: &Package, list: &[Broken]) -> Result<Vec<
 
 // A broken rule at its place.
 fn placed_in(alloc: Global, texts: &[Text], broken: Broken) -> Result<Placed, NoMemory>
-    ensures { IfOk result (λ placed. placed ≡ placed_among
-        (sources_of (map (λ t. record { stub = t.stub; file = file_view t.file.now }) texts.now)) broken) }
+    ensures { IfOk result (λ placed. placed ≡ spec.placed_in (source_numbered
+        (map (λ t. record { stub = t.stub; file = file_view t.file.now }) texts.now) broken.pos.file) broken) }
 {
     Ok(Placed {
         at: place_in(alloc, texts, broken)?,
@@ -97,15 +98,22 @@ fn placed_in(alloc: Global, texts: &[Text], broken: Broken) -> Result<Placed, No
     })
 }
 
-// Where a rule is broken: in the text that has the number of its file, and else in an empty one.
+// Where a rule is broken: in the file that has the number, and else in an empty one.
 fn place_in(alloc: Global, texts: &[Text], broken: Broken) -> Result<At, NoMemory>
-    ensures { IfOk result (λ at. at ≡ (placed_among
-        (sources_of (map (λ t. record { stub = t.stub; file = file_view t.file.now }) texts.now)) broken).at) }
+    ensures { IfOk result (λ at. at ≡ (spec.placed_in (source_numbered
+        (map (λ t. record { stub = t.stub; file = file_view t.file.now }) texts.now) broken.pos.file) broken).at) }
 {
-    match texts.get(broken.pos.file) {
+    match text_numbered(texts, broken.pos.file) {
         Some(text) => text.at(broken.pos.offset),
         None => Ok(place_in_nothing(alloc)),
     }
+}
+
+// The file that has a number, if one does.
+fn text_numbered<'t, 'a>(texts: &'t [Text<'a>], number: usize) -> Option<&'t Text<'a>>
+    ensures { option_copied result ≡ find (λ t. (file_view t.file.now).number == number) texts.now }
+{
+    texts.iter().find(|text| text.file.tree.number == number)
 }
 
 // The one place in an empty text.

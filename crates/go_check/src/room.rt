@@ -1,7 +1,7 @@
 // Room for the lines of a package.
 use crate::around::Around;
 use crate::constants::Constant;
-use go_model::Package;
+use go_module::Package;
 use go_tree::Node;
 
 /// About how many lines an accepted package has: one for each import, constant and use, and one for each node of an

@@ -1,8 +1,20 @@
-// The rules on values that stand in no table below.
+// The rules on values, in the order of their table.
 use go_base::{Family, Rule};
+
+/// A declaration that needs its own header (Go specification, "Declarations and scope").
+pub const CYCLIC_DECLARATION: Rule = Rule {
+    family: Family::C,
+    number: 1,
+};
 
 /// A constant spec with more or fewer names than expressions (Go specification, "Constant declarations").
 pub const UNEQUAL_SIDES: Rule = Rule {
     family: Family::R,
     number: 37,
+};
+
+/// An integer constant outside -2^127 to 2^127-1 (Go specification, "Constants").
+pub const WIDE_INTEGER: Rule = Rule {
+    family: Family::L,
+    number: 2,
 };

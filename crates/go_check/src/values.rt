@@ -1,8 +1,8 @@
 // What the values of a package break.
 ghost use Rattle.std.specs.Prelude.{◌≡◌, ◌++◌, IfOk, OnOk};
-ghost use Rattle.go_load.specs.Marks as marking;
-ghost use Rattle.go_model.specs.FormRules.Order.{IsListOf};
-ghost use Rattle.go_model.specs.Module.{package_view};
+ghost use Rattle.go_graph.specs.Graph as marking;
+ghost use Rattle.go_module.specs.Order.{IsListOf};
+ghost use Rattle.go_module.specs.Modules.Module.{package_view};
 ghost use Rattle.go_model.specs.Rules as rules;
 ghost use Rattle.go_model.specs.Constants.{constants_of};
 ghost use Rattle.go_check.specs.Table.{slot_of};
@@ -10,13 +10,15 @@ ghost use Rattle.go_check.specs.View.{constant_view, constants_view, means_by};
 
 use crate::around::Around;
 use crate::constants::Constant;
+use crate::rules::CYCLIC_DECLARATION;
 use crate::unequal::push_specs;
-use go_base::{Broken, CYCLIC_DECLARATION, NoMemory};
-use go_model::{Package, add_if, broken_at, ordered};
+use go_base::{Broken, NoMemory};
+use go_graph::is_marked;
+use go_module::{Package, add_if, broken_at, ordered, with_numbers};
 use std::alloc::Global;
 
 /// What the values of a package break, as the list of a report: C1 at each constant that is marked as cyclic, and
-/// what its specs break. An error is want of memory.
+/// what its specs break, each told by the number of its file. An error is want of memory.
 pub fn broken_values(
     alloc: Global,
     around: &Around,
@@ -32,7 +34,7 @@ pub fn broken_values(
     let mut found = Vec::new(alloc);
     push_cycles(cyclic, constants, &mut found)?;
     push_specs(alloc, around, table, &own.files, &mut found)?;
-    Ok(ordered(found))
+    Ok(ordered(with_numbers(alloc, &own.files, &found)?))
 }
 
 // Pushes C1 at the name of each constant that is marked as cyclic.
@@ -61,11 +63,4 @@ fn push_cyclic(cyclic: bool, constant: &Constant, list: &mut Vec<Broken>) -> Res
         cyclic,
         broken_at(constant.file, start, CYCLIC_DECLARATION),
     )
-}
-
-// Whether the constant at that place is marked.
-fn is_marked(marks: &[bool], place: usize) -> bool
-    ensures { result ≡ marking.is_marked marks.now place }
-{
-    marks.get(place).copied().unwrap_or(false)
 }

@@ -1,8 +1,7 @@
 // Which constant waits for the header of which (Go specification, "Constant declarations").
 ghost use Rattle.std.specs.Prelude.{option_to_list, ◌≡◌, ◌++◌, ◌↔◌, ℕ, true, Some, IfOk, OnOk, length, map};
 ghost use Rattle.std.specs.List.{flat_map};
-ghost use Rattle.go_load.specs.Marks.{is_marked};
-ghost use Rattle.go_model.specs.Graph.{graph_of};
+ghost use Rattle.go_graph.specs.Graph.{is_marked};
 ghost use Rattle.go_model.specs.Lacking.{lacking};
 ghost use Rattle.go_model.specs.Quests.{run};
 ghost use Rattle.go_model.specs.Tests.{asked_of, name_test};
@@ -14,9 +13,9 @@ ghost use Rattle.go_check.specs.View.{PlacesBelow, constants_view, means_by};
 
 use crate::around::Around;
 use crate::constants::Constant;
-use crate::cycles::cyclic;
 use crate::record::{selector, slot};
 use go_base::NoMemory;
+use go_graph::{Numbers, cyclic_vertices};
 use go_model::Meaning;
 use go_tree::{Node, NodeKind};
 use std::alloc::Global;
@@ -34,7 +33,7 @@ pub fn cyclic_constants(
         ↔ Chain (means_by around.now) (constants_view constants.now) (slot_of table.now) d d) }
 {
     let waits = waits_of(alloc, around, table, constants)?;
-    cyclic(alloc, &waits)
+    cyclic_vertices(alloc, &waits)
 }
 
 // For each constant, the places of the constants whose headers its expressions lack.
@@ -43,8 +42,8 @@ fn waits_of(
     around: &Around,
     table: &[Option<i128>],
     constants: &[Constant],
-) -> Result<Vec<Vec<usize>>, NoMemory>
-    ensures { IfOk result (λ waits. graph_of waits.items
+) -> Result<Vec<Numbers>, NoMemory>
+    ensures { IfOk result (λ waits. waits.items
         ≡ lacking (means_by around.now) (slot_of table.now) (constants_view constants.now)) }
 {
     let mut waits = Vec::new(alloc);
@@ -60,11 +59,11 @@ fn lacked_by(
     around: &Around,
     table: &[Option<i128>],
     expressions: &[Node],
-) -> Result<Vec<usize>, NoMemory>
-    ensures { IfOk result (λ places. places.items
+) -> Result<Numbers, NoMemory>
+    ensures { IfOk result (λ places. places
         ≡ flat_map (lacked_in (means_by around.now) (slot_of table.now)) (map tree_of expressions.now)) }
 {
-    let mut places = Vec::new(alloc);
+    let mut places = Numbers::new(alloc);
     for node in expressions {
         push_lacked(around, table, node, &mut places)?;
     }
@@ -77,10 +76,10 @@ fn push_lacked(
     around: &Around,
     table: &[Option<i128>],
     node: &Node,
-    places: &mut Vec<usize>,
+    places: &mut Numbers,
 ) -> Result<(), NoMemory>
-    ensures { OnOk result (places.new.items
-        ≡ places.old.items ++ lacked_in (means_by around.now) (slot_of table.now) (tree_of node.now)) }
+    ensures { OnOk result (places.new
+        ≡ places.old ++ lacked_in (means_by around.now) (slot_of table.now) (tree_of node.now)) }
 {
     push_place(lacked_here(around, table, node), places)?;
     match selector(node) {
@@ -95,9 +94,9 @@ fn push_among(
     around: &Around,
     table: &[Option<i128>],
     nodes: &[Node],
-    places: &mut Vec<usize>,
+    places: &mut Numbers,
 ) -> Result<(), NoMemory>
-    ensures { OnOk result (places.new.items ≡ places.old.items
+    ensures { OnOk result (places.new ≡ places.old
         ++ lacked_among (means_by around.now) (slot_of table.now) (trees_of (map tree_of nodes.now))) }
 {
     for node in nodes {
@@ -106,8 +105,8 @@ fn push_among(
     Ok(())
 }
 
-fn push_place(place: Option<usize>, places: &mut Vec<usize>) -> Result<(), NoMemory>
-    ensures { OnOk result (places.new.items ≡ places.old.items ++ option_to_list place) }
+fn push_place(place: Option<usize>, places: &mut Numbers) -> Result<(), NoMemory>
+    ensures { OnOk result (places.new ≡ places.old ++ option_to_list place) }
 {
     if let Some(place) = place {
         places.push(place)?;

@@ -10,30 +10,25 @@ use Rattle.std.proofs.lemmas.List.{length-map}
 use Rattle.std.proofs.lemmas.List.Elements.{All-filter}
 use Rattle.std.proofs.lemmas.Map.Keys.{Less-from_sorted}
 use Rattle.std.proofs.lemmas.Option.{get_or_from_slice_get, slice_get_within}
-use Rattle.go_model.specs.Folders.{as_text}
-use Rattle.go_model.specs.Heads.{FileHead}
-use Rattle.go_model.specs.ImportOrder.{IsGraph}
-use Rattle.go_model.specs.Module.{FileData, IsModuleOf, PackageData, first_name, in_order, package_at, places_in, row_at}
-use Rattle.go_model.specs.Packages.{IsTableOf, Leads, PackageTable, files_of, imports_of, is_home, is_marked}
-use Rattle.go_model.specs.Paths.{has_path, homes, own_paths, same_text}
+use Rattle.go_module.specs.Modules.Texts.{as_text}
+use Rattle.go_module.specs.Modules.Heads.{FileHead}
+use Rattle.go_graph.specs.Graph.{IsGraph, row_at, is_marked}
+use Rattle.go_module.specs.Modules.Module.{FileData, IsModuleOf, PackageData, first_name, in_order, package_at, places_in}
+use Rattle.go_module.specs.Modules.Packages.{IsTableOf, PackageTable, files_of, imports_of, is_home}
+use Rattle.go_module.specs.Modules.Paths.{has_path, homes, own_paths, same_text}
 use Rattle.go_load.specs.Assembly.{IsModuleOrder, cleared, package_with, packages_with, slot_at, taken}
-use Rattle.go_model.proofs.MemberLemmas.{contains_head, contains_none, contains_tail}
+use Rattle.go_module.proofs.MemberLemmas.{contains_head, contains_none, contains_tail}
 use Rattle.go_load.proofs.OrderPlaceLemmas.{once_from}
 use Rattle.go_load.proofs.PathSetLemmas.{at-any, less_differs, same, same_text-refl}
-use Rattle.go_load.proofs.RunLemmas.{respects}
+use Rattle.go_graph.proofs.OrderLemmas.{respects}
 use Rattle.go_load.proofs.SlotLemmas.{Once, cleared-other, once-filter, once-range, passes, slot-all, taken-whole}
 use Rattle.go_load.proofs.TableLemmas.{imports_graph}
 
 -- what imports name are packages
 
-leads_from : (rows : List (List ℕ)) (p q : ℕ) → Contains (get_or rows p []) q → Leads rows p q
-leads_from [] p q h = absurd (contains_none q h)
-leads_from (r ∷ rows) zero q h = record { row = r; at = refl; has = h }
-leads_from (r ∷ rows) (suc p) q h = let l = leads_from rows p q h in record { row = l.row; at = l.at; has = l.has }
-
 pub table_graph : (path : List ℕ) (heads : List FileHead) (t : PackageTable) → IsTableOf path heads t → IsGraph t.imports
-table_graph path heads t is = λ p q h.
-    imports_graph t.paths t.stubs heads (λ p. not (has_path (own_paths path heads) p)) (files_of (homes path (own_paths path heads) heads)) t.imports is.imports p q (leads_from t.imports p q h)
+table_graph path heads t is =
+    imports_graph t.paths t.stubs heads (λ p. not (has_path (own_paths path heads) p)) (files_of (homes path (own_paths path heads) heads)) t.imports is.imports
 
 -- a row of imports for each path
 pub table_rows : (path : List ℕ) (heads : List FileHead) (t : PackageTable) → IsTableOf path heads t → length t.imports ≡ length t.paths
@@ -126,7 +121,7 @@ order_inside path heads t list count table is same =
     let n : length t.imports ≡ count = table_rows path heads t table ∙ sym same in
     subst (λ (xs : List ℕ). All (λ p. p < count) xs) (sym is.list_is)
     (All-filter (is_marked t.reached) (λ p. p < count) is.order (λ k d lt.
-    let within : get_or is.order k 0 < length t.imports = (respects t.imports is.order is.is_order).packages k lt in
+    let within : get_or is.order k 0 < length t.imports = (respects t.imports is.order is.is_order).vertices k lt in
     let inside : get_or is.order k 0 < count = omega (arith, within, n) in
     subst (λ m. m < count) (sym (at-any is.order k d 0 lt)) inside))
 

@@ -4,11 +4,12 @@ use Rattle.std.specs.Prelude.{if◌then◌else◌, slice_get, unwrap_or, codes}
 use Rattle.std.specs.List.{flat_map, list_any, range_with_len}
 use Rattle.std.proofs.lemmas.List.{flat_map_more}
 use Rattle.go_base.specs.declared.rule.Broken.{Broken}
-use Rattle.go_model.specs.Heads.{FileHead}
-use Rattle.go_model.specs.Paths.{same_text}
-use Rattle.go_model.specs.Packages.{PackageTable, is_marked}
-use Rattle.go_model.specs.BrokenImports.{name_at, is_mixed, broken_names, broken_imports_at, broken_package, broken_if_reached}
-use Rattle.go_model.proofs.MemberLemmas.{range_more}
+use Rattle.go_module.specs.Modules.Heads.{FileHead}
+use Rattle.go_module.specs.Modules.Paths.{same_text}
+use Rattle.go_module.specs.Modules.Packages.{PackageTable}
+use Rattle.go_graph.specs.Graph.{is_marked}
+use Rattle.go_module.specs.Modules.BrokenImports.{name_at, is_mixed, broken_names, broken_imports_at, broken_package, broken_if_reached}
+use Rattle.go_module.proofs.MemberLemmas.{range_more}
 use Rattle.go_load.proofs.PathSetLemmas.{same, same_text-sym, list_any-map}
 
 -- one more package

@@ -1,21 +1,21 @@
 -- Imports on cycles: what a walk over files and marks tells is what they break.
 use Rattle.std.proofs.Common.{◌≡◌, ℕ, zero, suc, ◌+◌, ◌<◌, ◌≤◌, Bool, true, false, List, [], ◌∷◌, ◌++◌, Option, Some, None, length, map, get_or, drop, refl, sym, ap, ◌∙◌, subst, ⊎_elim, append_assoc, arith}
-use Rattle.std.specs.Prelude.{◌↔◌, slice_get, unwrap_or, if◌then◌else◌}
+use Rattle.std.specs.Prelude.{◌↔◌, unwrap_or, if◌then◌else◌}
 use Rattle.std.specs.Option.{is_some}
 use Rattle.std.specs.List.{Contains, cons_option, flat_map, range_with_len}
 use Rattle.std.proofs.lemmas.Bool.{cases_eq}
 use Rattle.std.proofs.lemmas.List.{append-nil, map-append, drop_all}
 use Rattle.std.proofs.lemmas.List.Elements.{Contains-append_left, Contains-append_right, Contains-append_cases}
-use Rattle.std.proofs.lemmas.Option.{same_Some, slice_get-get_or}
 use Rattle.go_base.specs.declared.rule.Broken.{Broken}
-use Rattle.go_model.specs.BrokenImports.{broken_at, cyclic_import, told_if, broken_imports_in, IsCyclicImport, AreBrokenPackages}
-use Rattle.go_model.specs.FormRules.Order.{IsListOf}
-use Rattle.go_model.specs.Heads.{FileHead, ImportSpec}
-use Rattle.go_model.specs.ImportCycles.{MarksCycles, MarksEach, OnCycle}
-use Rattle.go_model.specs.Packages.{PackageTable, IsTableOf, is_marked, named, all_named, imports_at, imports_in, imports_of}
-use Rattle.go_load.specs.CyclicImports.{named_import, named_imports_at, named_imports_in, with_marks, marks_at, cyclic_if_reached, cyclic_in}
-use Rattle.go_load.specs.PathSets.{row_at}
-use Rattle.go_model.proofs.MemberLemmas.{cons_cases, contains_head, contains_none, contains_tail}
+use Rattle.go_module.specs.Broken.{broken_at, told_if}
+use Rattle.go_module.specs.Modules.BrokenImports.{cyclic_import, broken_imports_in, IsCyclicImport, AreBrokenPackages}
+use Rattle.go_module.specs.Order.{IsListOf}
+use Rattle.go_module.specs.Modules.Heads.{FileHead, ImportSpec}
+use Rattle.go_graph.specs.Cycles.{MarksCycles, MarksEach, OnCycle}
+use Rattle.go_module.specs.Modules.Packages.{PackageTable, IsTableOf, named, all_named, imports_at, imports_in, imports_of}
+use Rattle.go_graph.specs.Graph.{is_marked, row_at}
+use Rattle.go_load.specs.CyclicImports.{named_import, named_imports_at, named_imports_in, with_marks, cyclic_if_reached, cyclic_in}
+use Rattle.go_module.proofs.MemberLemmas.{cons_cases, contains_head, contains_none, contains_tail}
 use Rattle.go_load.proofs.NamedLemmas.{all_named-append}
 use Rattle.go_load.proofs.TableGraphLemmas.{table_row, imports_length}
 
@@ -142,14 +142,12 @@ module _ (paths : List (List ℕ)) (stubs : List Bool) (heads : List FileHead) (
 
 module _ (P : ℕ → Type 0) where
   first_mark : (k : ℕ) (row : List ℕ) (mark : Bool) (marks : List Bool) → MarksEach P (k ∷ row) (mark ∷ marks) → (mark ≡ true) ↔ P k
-  first_mark k row mark marks m =
-      let exact = m.exact zero k refl in
-      (λ set. exact.0 (ap Some set), λ holds. same_Some mark true (exact.1 holds))
+  first_mark k row mark marks m = m.exact zero (omega arith)
 
   rest_marks : (k : ℕ) (row : List ℕ) (mark : Bool) (marks : List Bool) → MarksEach P (k ∷ row) (mark ∷ marks) → MarksEach P row marks
   rest_marks k row mark marks m = record {
     same_length = (let e = m.same_length in omega (arith, e));
-    exact = λ i b at. m.exact (suc i) b at;
+    exact = λ i lt. m.exact (suc i) (omega (arith, lt));
   }
 
   in_marks : (ns : List Naming) (marks : List Bool) → MarksEach P (map place_of ns) marks → (b : Broken) → Contains (with_marks (map broken_of ns) marks) b → (n : Naming) × Contains ns n × P n.place × (n.broken ≡ b)
@@ -197,14 +195,12 @@ module _ (module_path : List ℕ) (heads : List FileHead) (t : PackageTable) (ro
   namings_by k = namings t.paths t.stubs heads (is_marked t.stubs k) (row_at t.files k)
 
   -- the marks of a package tell which of its imports lie on a cycle
-  row_marks : (k : ℕ) → k < length t.paths → MarksEach (OnCycle t.imports k) (map place_of (namings_by k)) (marks_at rows k)
+  row_marks : (k : ℕ) → k < length t.paths → MarksEach (OnCycle t.imports k) (map place_of (namings_by k)) (row_at rows k)
   row_marks k lt =
-      let within : k < length rows = omega (arith, lt, marks.same_length, imports_length module_path heads t table) in
-      let at : slice_get rows k ≡ Some (get_or rows k []) = slice_get-get_or rows k [] within in
-      let here : marks_at rows k ≡ get_or rows k [] = ap (λ (o : Option (List Bool)). unwrap_or o []) at in
-      let row : List ℕ = imports_of t.paths t.stubs heads (is_marked t.stubs k) (row_at t.files k) in
-      subst (λ (r : List ℕ). MarksEach (OnCycle t.imports k) r (marks_at rows k)) (packages_in t.paths t.stubs heads (is_marked t.stubs k) (row_at t.files k))
-      (subst (MarksEach (OnCycle t.imports k) row) (sym here) (marks.each k row (get_or rows k []) (table_row module_path heads t table k lt) at))
+      let within : k < length t.imports = omega (arith, lt, imports_length module_path heads t table) in
+      let row : row_at t.imports k ≡ imports_of t.paths t.stubs heads (is_marked t.stubs k) (row_at t.files k) = ap (λ (o : Option (List ℕ)). unwrap_or o []) (table_row module_path heads t table k lt) in
+      subst (λ (r : List ℕ). MarksEach (OnCycle t.imports k) r (row_at rows k)) (packages_in t.paths t.stubs heads (is_marked t.stubs k) (row_at t.files k))
+      (subst (λ (r : List ℕ). MarksEach (OnCycle t.imports k) r (row_at rows k)) row (marks.each k within))
 
   is_cyclic : (b : Broken) → Contains (cyclic_in heads t rows) b → IsCyclicImport heads t b
   is_cyclic b h =
@@ -213,10 +209,10 @@ module _ (module_path : List ℕ) (heads : List FileHead) (t : PackageTable) (ro
       let from_stub = is_marked t.stubs k in
       let files = row_at t.files k in
       let below = in_range 0 (length t.paths) k of_package.1 in
-      let list = with_marks (named_imports_in t.paths t.stubs heads from_stub files) (marks_at rows k) in
+      let list = with_marks (named_imports_in t.paths t.stubs heads from_stub files) (row_at rows k) in
       let told = in_reached (is_marked t.reached k) list b of_package.2 in
-      let of_marks = in_marks (OnCycle t.imports k) (namings_by k) (marks_at rows k) (row_marks k (omega (arith, below))) b
-      (subst (λ (l : List Broken). Contains (with_marks l (marks_at rows k)) b) (sym (told_in t.paths t.stubs heads from_stub files)) told.1) in
+      let of_marks = in_marks (OnCycle t.imports k) (namings_by k) (row_at rows k) (row_marks k (omega (arith, below))) b
+      (subst (λ (l : List Broken). Contains (with_marks l (row_at rows k)) b) (sym (told_in t.paths t.stubs heads from_stub files)) told.1) in
       let n = of_marks.0 in
       let of_file = in_joined (namings_at t.paths t.stubs heads from_stub) files n of_marks.1 in
       let file = of_file.0 in
@@ -247,9 +243,9 @@ module _ (module_path : List ℕ) (heads : List FileHead) (t : PackageTable) (ro
       let one = to_naming c.file c.spec (named t.paths t.stubs from_stub c.spec.path) c.imported c.names in
       let of_file = to_joined (naming_of t.paths t.stubs heads from_stub c.file) (imports_at heads c.file) c.spec n c.has_import one in
       let of_package = to_joined (namings_at t.paths t.stubs heads from_stub) files c.file n c.has_file of_file in
-      let told = to_marks (OnCycle t.imports k) (namings_by k) (marks_at rows k) (row_marks k lt) n of_package c.cycle in
-      let list = with_marks (named_imports_in t.paths t.stubs heads from_stub files) (marks_at rows k) in
-      let in_list : Contains list n.broken = subst (λ (l : List Broken). Contains (with_marks l (marks_at rows k)) n.broken) (told_in t.paths t.stubs heads from_stub files) told in
+      let told = to_marks (OnCycle t.imports k) (namings_by k) (row_at rows k) (row_marks k lt) n of_package c.cycle in
+      let list = with_marks (named_imports_in t.paths t.stubs heads from_stub files) (row_at rows k) in
+      let in_list : Contains list n.broken = subst (λ (l : List Broken). Contains (with_marks l (row_at rows k)) n.broken) (told_in t.paths t.stubs heads from_stub files) told in
       subst (Contains (cyclic_in heads t rows)) (sym c.broken_is)
       (to_joined (cyclic_if_reached heads t rows) (range_with_len 0 (length t.paths)) k n.broken
       (to_range 0 (length t.paths) k (omega arith) (omega (arith, lt)))
@@ -264,13 +260,13 @@ module _ (module_path : List ℕ) (heads : List FileHead) (t : PackageTable) (ro
   }
 
 -- what a package breaks by imports on cycles, if it is reached
-pub package_marked : (heads : List FileHead) (t : PackageTable) (rows : List (List Bool)) (k : ℕ) (paths : List (List ℕ)) (stubs : List Bool) (from_stub : Bool) (files : List ℕ) (list : List Broken) (marks : List Bool) (old new : List Broken) → is_marked t.reached k ≡ true → paths ≡ t.paths → stubs ≡ t.stubs → from_stub ≡ is_marked t.stubs k → files ≡ row_at t.files k → list ≡ named_imports_in paths stubs heads from_stub files → marks ≡ marks_at rows k → new ≡ old ++ with_marks list marks → new ≡ old ++ cyclic_if_reached heads t rows k
+pub package_marked : (heads : List FileHead) (t : PackageTable) (rows : List (List Bool)) (k : ℕ) (paths : List (List ℕ)) (stubs : List Bool) (from_stub : Bool) (files : List ℕ) (list : List Broken) (marks : List Bool) (old new : List Broken) → is_marked t.reached k ≡ true → paths ≡ t.paths → stubs ≡ t.stubs → from_stub ≡ is_marked t.stubs k → files ≡ row_at t.files k → list ≡ named_imports_in paths stubs heads from_stub files → marks ≡ row_at rows k → new ≡ old ++ with_marks list marks → new ≡ old ++ cyclic_if_reached heads t rows k
 package_marked heads t rows k paths stubs from_stub files list marks old new reached p s f row told marked now =
     now
     ∙ ap (λ (x : List Broken). old ++ x) (
     (λ i. with_marks (told i) (marked i))
-    ∙ (λ i. with_marks (named_imports_in (p i) (s i) heads (f i) (row i)) (marks_at rows k))
-    ∙ ap (λ b. if b then with_marks (named_imports_in t.paths t.stubs heads (is_marked t.stubs k) (row_at t.files k)) (marks_at rows k) else []) (sym reached))
+    ∙ (λ i. with_marks (named_imports_in (p i) (s i) heads (f i) (row i)) (row_at rows k))
+    ∙ ap (λ b. if b then with_marks (named_imports_in t.paths t.stubs heads (is_marked t.stubs k) (row_at t.files k)) (row_at rows k) else []) (sym reached))
 
 -- the walk over imports and marks
 

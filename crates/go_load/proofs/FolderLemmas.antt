@@ -11,13 +11,14 @@ use Rattle.std.proofs.lemmas.Map.Keys.{sorted_head, sorted_tail}
 use Rattle.std.proofs.lemmas.Slice.Eq.{bytes_eq-Decides}
 use Rattle.go_base.specs.declared.tree.MemFile.{MemFile}
 use Rattle.go_base.specs.Tree.{paths_of}
-use Rattle.go_model.specs.Broken.{broken_at}
-use Rattle.go_model.specs.Folders.{Folder, AreGoFiles, IsBelow, SourceText, folder_of, texts_at}
-use Rattle.go_model.specs.Listing.{counts, is_go_name, is_left_out, is_skipped_name}
-use Rattle.go_model.specs.ModuleRules.{broken_module_file, broken_rules, has_module_file, missing_module_file, module_file_path, module_lines}
-use Rattle.go_model.specs.PathParts.{folders, last_element}
-use Rattle.go_load.proofs.ListingLemmas.{list_any-agree}
-use Rattle.go_model.proofs.MemberLemmas.{contains_head, contains_tail}
+use Rattle.go_module.specs.Broken.{broken_at}
+use Rattle.go_mod.specs.Folders.{Folder, AreGoFiles, IsBelow, folder_of, texts_at}
+use Rattle.go_module.specs.Modules.Texts.{SourceText}
+use Rattle.go_mod.specs.Listing.{counts, is_go_name, is_left_out, is_skipped_name}
+use Rattle.go_mod.specs.ModuleRules.{broken_module_file, broken_rules, has_module_file, missing_module_file, module_file_path, module_lines}
+use Rattle.go_module.specs.Modules.PathParts.{folders, last_element}
+use Rattle.go_mod.proofs.ListingLemmas.{list_any-agree}
+use Rattle.go_module.proofs.MemberLemmas.{contains_head, contains_tail}
 use Rattle.go_load.specs.Calls.{IsListed, IsReadAt}
 use Rattle.go_load.specs.ModuleTexts.{IsModuleRead, IsPathIn, is_listed, rules_of}
 use Rattle.go_load.specs.ReadTexts.{AreGoFilesOf, AreTextsRead, IsTextRead}
@@ -51,9 +52,9 @@ module_bytes (Some all) root names bytes texts is = sym is
 
 pub broken_is : (told : Option (List MemFile)) (root : List ℕ) (names : List (List ℕ)) (read : Option (List ℕ)) (texts : List SourceText) → IsListed told root names → IsModuleRead told root names read → broken_module_file (folder_read told root names read texts) ≡ rules_of read
 broken_is told root names None texts listed none =
-    ap (λ b. if b then broken_rules ((folder_read told root names None texts).bytes module_file_path) else broken_at 0 missing_module_file ∷ []) (listed_is told root names None texts listed ∙ none)
+    ap (λ b. if b then broken_rules ((folder_read told root names None texts).bytes module_file_path) else broken_at 0 0 missing_module_file ∷ []) (listed_is told root names None texts listed ∙ none)
 broken_is told root names (Some bytes) texts listed is =
-    ap (λ b. if b then broken_rules ((folder_read told root names (Some bytes) texts).bytes module_file_path) else broken_at 0 missing_module_file ∷ []) (listed_is told root names (Some bytes) texts listed ∙ is.0)
+    ap (λ b. if b then broken_rules ((folder_read told root names (Some bytes) texts).bytes module_file_path) else broken_at 0 0 missing_module_file ∷ []) (listed_is told root names (Some bytes) texts listed ∙ is.0)
     ∙ ap broken_rules (module_bytes told root names bytes texts is.1)
 
 pub path_read : (told : Option (List MemFile)) (root : List ℕ) (names : List (List ℕ)) (read : Option (List ℕ)) (texts : List SourceText) (path : List ℕ) → IsListed told root names → IsModuleRead told root names read → IsPathIn read path → (broken_module_file (folder_read told root names read texts) ≡ []) × (map (λ line. line.text) (module_lines ((folder_read told root names read texts).bytes module_file_path)) ≡ path ∷ [])

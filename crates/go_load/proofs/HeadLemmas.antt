@@ -6,9 +6,9 @@ use Rattle.std.proofs.lemmas.List.{append-nil, map-append, take_more}
 use Rattle.go_tree.specs.declared.node.File.{File}
 use Rattle.go_tree.specs.declared.node.Node.{Node}
 use Rattle.go_tree.specs.Tree.{Tree, tree_of}
-use Rattle.go_model.specs.Folders.{SourceText}
-use Rattle.go_model.specs.Heads.{FileHead, ImportSpec, AreImports, IsHeadOf, IsImportOf, specs_in}
-use Rattle.go_model.specs.Module.{AreHeads}
+use Rattle.go_module.specs.Modules.Texts.{SourceText}
+use Rattle.go_module.specs.Modules.Heads.{FileHead, ImportSpec, AreImports, IsHeadOf, IsImportOf, specs_in}
+use Rattle.go_module.specs.Modules.Module.{AreHeads}
 use Rattle.go_load.specs.Trees.{AddsImports, trees_in}
 
 imports-append : (a b : List Tree) (x y : List ImportSpec) → AreImports a x → AreImports b y → AreImports (a ++ b) (x ++ y)

@@ -3,13 +3,15 @@ use Rattle.std.proofs.Common.{◌≡◌, ℕ, List, [], ◌∷◌, Option, Ok, E
 use Rattle.go_base.specs.declared.rule.Broken.{Broken as BrokenRule}
 use Rattle.go_base.specs.declared.tree.MemFile.{MemFile}
 use Rattle.go_tree.specs.declared.node.File.{File}
-use Rattle.go_model.specs.declared.report.Placed.{Placed}
-use Rattle.go_model.specs.BrokenImports.{AreBrokenPackages}
-use Rattle.go_model.specs.Folders.{Folder, SourceText}
-use Rattle.go_model.specs.Heads.{FileHead}
-use Rattle.go_model.specs.Loading.{IsFirstList, IsReadFrom, LoadsModule, TextsBreak, placed_among, of_module_file, of_texts, of_packages}
-use Rattle.go_model.specs.Module.{AreHeads, AreParts, ModuleData}
-use Rattle.go_model.specs.Packages.{PackageTable, IsTableOf}
+use Rattle.go_module.specs.declared.places.Placed.{Placed}
+use Rattle.go_module.specs.Modules.BrokenImports.{AreBrokenPackages}
+use Rattle.go_mod.specs.Folders.{Folder}
+use Rattle.go_module.specs.Modules.Texts.{SourceText}
+use Rattle.go_module.specs.Modules.Heads.{FileHead}
+use Rattle.go_load.specs.Loading.{IsFirstList, IsReadFrom, LoadsModule, TextsBreak, of_module_file, of_texts, of_packages}
+use Rattle.go_module.specs.Places.{placed_among}
+use Rattle.go_module.specs.Modules.Module.{AreHeads, AreParts, ModuleData}
+use Rattle.go_module.specs.Modules.Packages.{PackageTable, IsTableOf}
 use Rattle.go_load.specs.declared.load_fault.LoadFault.{LoadFault}
 use Rattle.go_load.specs.declared.load_fault.LoadFault.TheVariants.{Broken, ReadFault, NoMemory}
 use Rattle.go_load.specs.Made.{IsMade, IsMadeFault, MadeBreaks, by_texts, by_packages, IsLoadFault}
@@ -60,16 +62,9 @@ module _ (told : Option (List MemFile)) (root : List ℕ) (stubs_root : Option (
         stubs = read.stubs;
         below = read.below;
         is_module = record {
-          path = path;
-          texts = texts;
+          loaded = record { path = path; texts = texts; trees = made.trees; heads = made.heads; table = made.table; parts = made.parts; sound = made.whole; is_module = made.is_module };
           read = read.is_read;
           sound = made.sound;
-          trees = made.trees;
-          heads = made.heads;
-          table = made.table;
-          parts = made.parts;
-          whole = made.whole;
-          is_module = made.is_module;
         };
       }
 

@@ -3,22 +3,23 @@ use Rattle.std.proofs.Common.{◌≡◌, ℕ, ◌<◌, ◌==◌, false, List, []
 use Rattle.std.specs.Prelude.{position, slice_get}
 use Rattle.std.specs.List.{Contains}
 use Rattle.std.proofs.lemmas.Option.{get_or_from_slice_get, slice_get-get_or, slice_get_within, unwrap_or-slice_get}
-use Rattle.go_model.specs.Folders.{Folder}
-use Rattle.go_model.specs.Heads.{FileHead}
-use Rattle.go_model.specs.ImportOrder.{IsOrder}
-use Rattle.go_model.specs.Loading.{IsModule}
-use Rattle.go_model.specs.Module.{FileData, ModuleData, PackageData, files_from, in_order, module_data, package_at, row_at}
-use Rattle.go_model.specs.ModuleLaws.{ImportsStandBefore}
-use Rattle.go_model.specs.ModuleLines.{lines_of, outside_blocks}
-use Rattle.go_model.specs.ModuleRules.{module_file_path}
-use Rattle.go_model.specs.Packages.{IsTableOf, PackageTable, is_marked}
-use Rattle.go_model.specs.Paths.{own_paths}
-use Rattle.go_load.proofs.AsciiLemmas.{Ascii}
+use Rattle.go_mod.specs.Folders.{Folder}
+use Rattle.go_module.specs.Modules.Heads.{FileHead}
+use Rattle.go_graph.specs.Order.{IsOrder}
+use Rattle.go_load.specs.Loading.{IsModule}
+use Rattle.go_module.specs.Modules.Module.{FileData, ModuleData, PackageData, files_from, in_order, module_data, package_at, first_number}
+use Rattle.go_graph.specs.Graph.{row_at, is_marked}
+use Rattle.go_module.specs.Modules.ModuleLaws.{ImportsStandBefore}
+use Rattle.go_mod.specs.ModuleLines.{lines_of, outside_blocks}
+use Rattle.go_mod.specs.ModuleRules.{module_file_path}
+use Rattle.go_module.specs.Modules.Packages.{IsTableOf, PackageTable}
+use Rattle.go_module.specs.Modules.Paths.{own_paths}
+use Rattle.go_mod.proofs.AsciiLemmas.{Ascii}
 use Rattle.go_load.proofs.AssemblyLemmas.{one_place, order_once, table_rows}
 use Rattle.go_load.proofs.FrontLemmas.{front_is, one_place_of, result_at, result_from, stands_before}
-use Rattle.go_model.proofs.MemberLemmas.{contains_head}
+use Rattle.go_module.proofs.MemberLemmas.{contains_head}
 use Rattle.go_load.proofs.PlainPathLemmas.{all_plain, ascii_text, homes_ascii, lines_ascii}
-use Rattle.go_load.proofs.RunLemmas.{respects}
+use Rattle.go_graph.proofs.OrderLemmas.{respects}
 
 -- what stands at a place stands in the list
 has_at : (xs : List (List ℕ)) (k : ℕ) (x : List ℕ) → slice_get xs k ≡ Some x → Contains xs x
@@ -35,8 +36,7 @@ module _ (path : List ℕ) (files : List FileData) (heads : List FileHead) (t : 
       let f = front_is (is_marked t.reached) order k n.0 n.1 in
       let lt = slice_get_within order f.place n.0 f.at in
       let here : get_or order f.place 0 ≡ n.0 = get_or_from_slice_get order f.place n.0 0 f.at in
-      let row : row_at t.imports n.0 ≡ get_or t.imports (get_or order f.place 0) [] =
-      unwrap_or-slice_get t.imports n.0 [] ∙ ap (λ m. get_or t.imports m []) (sym here) in
+      let row : row_at t.imports n.0 ≡ row_at t.imports (get_or order f.place 0) = ap (λ m. row_at t.imports m) (sym here) in
       let front = (respects t.imports order is).behind f.place lt q.0 (subst (λ (xs : List ℕ). Contains xs q.0) row q.1) in
       stands_before (is_marked t.reached) order k n.0 q.0 i f front q.2
 
@@ -46,7 +46,7 @@ module _ (path : List ℕ) (files : List FileData) (heads : List FileHead) (t : 
       let f = front_is (is_marked t.reached) order k n at in
       let lt = slice_get_within order f.place n f.at in
       let here : get_or order f.place 0 ≡ n = get_or_from_slice_get order f.place n 0 f.at in
-      let within = (respects t.imports order is).packages f.place lt in
+      let within = (respects t.imports order is).vertices f.place lt in
       let inside : n < length t.paths = omega (arith, within, here, table_rows path heads t table) in
       slice_get-get_or t.paths n [] inside ∙ ap (λ (p : List ℕ). Some p) (sym (unwrap_or-slice_get t.paths n []))
 
@@ -66,12 +66,13 @@ module _ (path : List ℕ) (files : List FileData) (heads : List FileHead) (t : 
       one_place_of list j k b.0 (order_once t list (record { order = order; is_order = is; list_is = refl })) (subst (λ n. slice_get list j ≡ Some n) numbers a.1) b.1
 
 pub stand_before : (own stubs : Folder) (m : ModuleData) → IsModule own stubs m → ImportsStandBefore m
-stand_before own stubs m is =
+stand_before own stubs m whole =
+    let is = whole.loaded in
     let made = is.is_module in
     let files = files_from 0 is.texts is.trees in
     let line : Ascii is.path = lines_ascii (outside_blocks false (lines_of (own.bytes module_file_path))) is.path
-    (subst (λ (paths : List (List ℕ)). Contains paths is.path) (sym is.read.path_is) (contains_head is.path [] is.path refl)) in
-    let heads = all_plain is.texts is.trees is.heads [] is.parts.are_heads is.sound refl in
+    (subst (λ (paths : List (List ℕ)). Contains paths is.path) (sym whole.read.path_is) (contains_head is.path [] is.path refl)) in
+    let heads = all_plain 0 first_number whole.sound.0 is.texts is.trees is.heads [] is.parts.are_heads whole.sound.1 refl in
     let table = is.parts.is_table in
     let plain : (p : List ℕ) → Contains is.table.paths p → Ascii p =
     λ p h. homes_ascii is.path (own_paths is.path is.heads) is.heads p line heads ((table.paths.same p).0 h) in

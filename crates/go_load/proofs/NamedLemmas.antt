@@ -3,8 +3,8 @@ use Rattle.std.proofs.Common.{◌≡◌, ℕ, ◌+◌, ◌<◌, Bool, List, [], 
 use Rattle.std.proofs.lemmas.Grind.{flat_map-append}
 use Rattle.std.proofs.lemmas.List.{take_more, append-nil}
 use Rattle.std.proofs.lemmas.List.Elements.{filter_map-append}
-use Rattle.go_model.specs.Heads.{FileHead, ImportSpec}
-use Rattle.go_model.specs.Packages.{named, all_named, imports_at, imports_in, imports_of}
+use Rattle.go_module.specs.Modules.Heads.{FileHead, ImportSpec}
+use Rattle.go_module.specs.Modules.Packages.{named, all_named, imports_at, imports_in, imports_of}
 
 module _ (paths : List (List ℕ)) (stubs : List Bool) (from_stub : Bool) where
   pub all_named-append : (xs ys : List ImportSpec) → all_named paths stubs from_stub (xs ++ ys) ≡ all_named paths stubs from_stub xs ++ all_named paths stubs from_stub ys

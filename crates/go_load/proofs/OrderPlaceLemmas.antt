@@ -1,13 +1,17 @@
 -- Places of packages in an order, and orders of which some packages are left out.
-use Rattle.std.proofs.Common.{◌≡◌, ℕ, zero, suc, ◌+◌, ◌<◌, ◌≤◌, Bool, true, false, not, cond, ◌==◌, List, [], ◌∷◌, ◌++◌, Option, Some, None, length, get_or, take, replicate, refl, sym, ap, ◌∙◌, subst, ⊎_elim, nat_lt, arith}
+use Rattle.std.proofs.Common.{◌≡◌, ℕ, zero, suc, ◌+◌, ◌<◌, ◌≤◌, Bool, true, false, not, cond, ◌==◌, List, [], ◌∷◌, ◌++◌, Option, Some, None, length, get_or, take, drop, replicate, refl, sym, ap, ◌∙◌, subst, ⊎_elim, nat_lt, arith}
 use Rattle.std.specs.Prelude.{position}
 use Rattle.std.specs.List.{position_or_len}
 use Rattle.std.specs.Option.{option_or}
 use Rattle.std.proofs.lemmas.Bool.{cases_eq}
 use Rattle.std.proofs.lemmas.Bool.Decides.{nat_tests}
-use Rattle.std.proofs.lemmas.List.{length-set, length-take-le, take_more}
+use Rattle.std.proofs.lemmas.List.{length-set, length-take-le, take_at, take_more}
 use Rattle.go_load.specs.Assembly.{put_first, slot_at}
 use Rattle.go_load.proofs.SlotLemmas.{slot-here, slot-other, Once}
+
+-- a list that was written whole
+pub written_whole : {X : Type 0} (old new : List X) (n : ℕ) → length new ≡ length old → n ≡ length old → take n (new ++ drop (length new) old) ≡ new
+written_whole old new n same is = take_at new (drop (length new) old) n (same ∙ sym is)
 
 -- the first place behind an element
 

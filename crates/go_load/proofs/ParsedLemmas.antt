@@ -1,34 +1,44 @@
 -- Lemmas on what texts break and on their trees, text after text.
-use Rattle.std.proofs.Common.{◌≡◌, ◌≢◌, ℕ, suc, ◌+◌, ◌<◌, ◌≤◌, List, [], ◌∷◌, ◌++◌, length, map, take, get_or, refl, sym, ap, subst, ◌∙◌, arith, append_assoc}
+use Rattle.std.proofs.Common.{◌≡◌, ◌≢◌, ℕ, suc, ◌+◌, ◌<◌, ◌≤◌, List, [], ◌∷◌, ◌++◌, length, map, take, get_or, refl, sym, ap, subst, ◌∙◌, arith, append_assoc, zero-add}
 use Rattle.std.specs.Global.{Global}
 use Rattle.std.specs.Prelude.{Vec}
 use Rattle.std.proofs.lemmas.List.{append-nil, length-take-le, map-append, take_all, take_more}
 use Rattle.go_base.specs.declared.rule.Broken.{Broken}
 use Rattle.go_tree.specs.declared.node.File.{File}
 use Rattle.go_tree.specs.Tree.{Tree, tree_of, id_of}
-use Rattle.go_parse_s.specs.Files.{IsFileOf}
-use Rattle.go_model.specs.declared.built.Built.TheVariants.{Modules}
-use Rattle.go_model.specs.declared.report.Placed.{Placed}
-use Rattle.go_model.specs.Folders.{SourceText}
-use Rattle.go_model.specs.Loading.{TextsBreak, placed_in}
-use Rattle.go_model.specs.Module.{AreTrees, first_number}
-use Rattle.go_model.specs.Sources.{SourceBreaks}
+use Rattle.go_text.specs.Files.{IsFileOf}
+use Rattle.go_module.specs.declared.places.Placed.{Placed}
+use Rattle.go_module.specs.Modules.Texts.{SourceText}
+use Rattle.go_load.specs.Loading.{TextsBreakFrom}
+use Rattle.go_module.specs.Places.{placed_in}
+use Rattle.go_module.specs.Modules.Module.{AreTrees, first_number}
+use Rattle.go_load.specs.Sources.{NumbersOn, SourceBreaks}
 use Rattle.go_load.specs.declared.source.ReadSource.{ReadSource}
 use Rattle.go_load.specs.declared.source.ReadSource.TheVariants.{Whole, Broken as BrokenSource}
 use Rattle.go_load.specs.ReadSources.{IsSource}
 use Rattle.go_load.specs.Trees.{trees_in, next_number, AreNumbered, AreWhole, AreParsed, AddsText, tree, rules}
 
-pub breaks-more : (texts : List SourceText) (text : SourceText) (before list : List Placed) (broken : List Broken) → TextsBreak texts before → SourceBreaks Modules text.path text.bytes broken → list ≡ before ++ map (placed_in text) broken → TextsBreak (texts ++ text ∷ []) list
-breaks-more [] text before list broken none breaks is =
-    (broken, [], breaks, refl, is ∙ ap (λ l. l ++ map (placed_in text) broken) none ∙ sym (append-nil (map (placed_in text) broken)))
-breaks-more (t ∷ texts) text before list broken h breaks is =
+pub breaks-more : (number last first next after : ℕ) (texts : List SourceText) (text : SourceText) (before list : List Placed) (broken : List Broken) → number + length texts ≡ last → TextsBreakFrom number first texts next before → SourceBreaks last next text.path text.bytes broken → NumbersOn next text.bytes broken after → list ≡ before ++ map (placed_in text) broken → TextsBreakFrom number first (texts ++ text ∷ []) after list
+breaks-more number last first next after [] text before list broken at none breaks on is =
+    let same : last ≡ number = omega (arith, at) in
+    let here = subst (λ n. SourceBreaks n first text.path text.bytes broken) same (subst (λ f. SourceBreaks last f text.path text.bytes broken) (sym none.0) breaks) in
+    let numbers = subst (λ f. NumbersOn f text.bytes broken after) (sym none.0) on in
+    (broken, [], after, here, numbers, (refl, refl), is ∙ ap (λ l. l ++ map (placed_in text) broken) none.1 ∙ sym (append-nil (map (placed_in text) broken)))
+breaks-more number last first next after (t ∷ texts) text before list broken at h breaks on is =
     let new = map (placed_in text) broken in (
       h.0,
       h.1 ++ new,
       h.2,
-      breaks-more texts text h.1 (h.1 ++ new) broken h.3 breaks refl,
-      is ∙ ap (λ l. l ++ new) h.4 ∙ append_assoc (map (placed_in t) h.0) h.1 new,
+      h.3,
+      h.4,
+      breaks-more (number + 1) last h.2 next after texts text h.1 (h.1 ++ new) broken (omega (arith, at)) h.5 breaks on refl,
+      is ∙ ap (λ l. l ++ new) h.6 ∙ append_assoc (map (placed_in t) h.0) h.1 new,
     )
+
+-- nodes are not numbered on over a text that breaks a rule
+none_numbered : (next : ℕ) (bytes : List ℕ) (list : List Broken) → list ≢ [] → NumbersOn next bytes list next
+none_numbered next bytes [] some = absurd (some refl)
+none_numbered next bytes (b ∷ bs) some = NumbersOn.broken b bs
 
 pub trees-more : (first : ℕ) (texts : List SourceText) (trees : List Tree) (text : SourceText) (t : Tree) → AreTrees first texts trees → IsFileOf text.bytes (next_number first trees) t → AreTrees first (texts ++ text ∷ []) (trees ++ t ∷ [])
 trees-more first [] [] text t are is = (is, tt)
@@ -60,11 +70,11 @@ none_placed text [] (b ∷ bs) e = cc
 none_placed text (p ∷ ps) list e = cc
 
 module _ (texts : List SourceText) (text : SourceText) (files new : List File) (next after : ℕ) (before broken : List Placed) where
-  parsed-tree : AreParsed texts files next before → (file : File) → file.number ≡ length texts → IsFileOf text.bytes next (tree_of file.root) → SourceBreaks Modules text.path text.bytes [] →
+  parsed-tree : AreParsed texts files next before → (file : File) → file.number ≡ length texts → IsFileOf text.bytes next (tree_of file.root) → SourceBreaks (length texts) next text.path text.bytes [] →
       new ≡ files ++ file ∷ [] → after ≡ id_of (tree_of file.root) + 1 → broken ≡ before → AreParsed (texts ++ text ∷ []) new after broken
   parsed-tree so_far file number is none new_is after_is same =
       record {
-        breaks = breaks-more texts text before broken [] so_far.breaks none (same ∙ sym (append-nil before));
+        breaks = breaks-more 0 (length texts) first_number next after texts text before broken [] (zero-add (length texts)) so_far.breaks none (subst (NumbersOn next text.bytes []) (sym after_is) (NumbersOn.whole (tree_of file.root) is)) (same ∙ sym (append-nil before));
         whole = λ empty. whole_is (so_far.whole (sym same ∙ empty));
       }
     where
@@ -83,22 +93,22 @@ module _ (texts : List SourceText) (text : SourceText) (files new : List File) (
             numbered = subst (AreNumbered 0) (sym new_is) (numbered-more 0 files file w.numbered (omega (arith, number, same_length, count)));
           }
 
-  parsed-rules : AreParsed texts files next before → (list : List Broken) → list ≢ [] → SourceBreaks Modules text.path text.bytes list → broken ≡ before ++ map (placed_in text) list → AreParsed (texts ++ text ∷ []) new after broken
-  parsed-rules so_far list some breaks is =
+  parsed-rules : AreParsed texts files next before → (list : List Broken) → list ≢ [] → SourceBreaks (length texts) next text.path text.bytes list → after ≡ next → broken ≡ before ++ map (placed_in text) list → AreParsed (texts ++ text ∷ []) new after broken
+  parsed-rules so_far list some breaks stays is =
       record {
-        breaks = breaks-more texts text before broken list so_far.breaks breaks is;
+        breaks = breaks-more 0 (length texts) first_number next after texts text before broken list (zero-add (length texts)) so_far.breaks breaks (subst (NumbersOn next text.bytes list) (sym stays) (none_numbered next text.bytes list some)) is;
         whole = λ empty. absurd (some (none_placed text before list (sym is ∙ empty)));
       }
 
   pub parsed-more : AreParsed texts files next before → AddsText text (length texts) files new next after before broken → AreParsed (texts ++ text ∷ []) new after broken
   parsed-more so_far (tree file number is none new_is after_is same) = parsed-tree so_far file number is none new_is after_is same
-  parsed-more so_far (rules list some breaks is) = parsed-rules so_far list some breaks is
+  parsed-more so_far (rules list some breaks stays is) = parsed-rules so_far list some breaks stays is
 
 -- no texts
 pub parsed-none : (files : List File) (next : ℕ) (broken : List Placed) → files ≡ [] → next ≡ first_number → broken ≡ [] → AreParsed [] files next broken
 parsed-none files next broken none next_is empty =
     record {
-      breaks = empty;
+      breaks = (sym next_is, empty);
       whole = λ e. record {
         are_trees = subst (λ (fs : List File). AreTrees first_number [] (trees_in fs)) (sym none) tt;
         next_is = next_is ∙ ap (λ (fs : List File). next_number first_number (trees_in fs)) (sym none);
@@ -121,21 +131,21 @@ parsed-all texts i files next broken le so_far = subst (λ l. AreParsed l files 
 
 -- a text that is whole stands behind the others with its tree
 pub adds-tree : (text : SourceText) (path bytes : List ℕ) (number next : ℕ) (read : ReadSource) (file : File) (old new : List File) (after : ℕ) (before : List Placed) →
-    path ≡ text.path → bytes ≡ text.bytes → read ≡ Whole file → IsSource Modules path bytes number next read → new ≡ old ++ file ∷ [] → after ≡ id_of (tree_of file.root) + 1 → AddsText text number old new next after before before
+    path ≡ text.path → bytes ≡ text.bytes → read ≡ Whole file → IsSource path bytes number next read → new ≡ old ++ file ∷ [] → after ≡ id_of (tree_of file.root) + 1 → AddsText text number old new next after before before
 adds-tree text path bytes number next read file old new after before path_is bytes_is read_is source push after_is =
-    let here = subst (λ p. IsSource Modules p text.bytes number next (Whole file)) path_is
-    (subst (λ b. IsSource Modules path b number next (Whole file)) bytes_is
-    (subst (IsSource Modules path bytes number next) read_is source)) in
+    let here = subst (λ p. IsSource p text.bytes number next (Whole file)) path_is
+    (subst (λ b. IsSource path b number next (Whole file)) bytes_is
+    (subst (IsSource path bytes number next) read_is source)) in
     tree file here.0 here.1 here.2 push after_is refl
 
 -- one that breaks rules with these
 pub adds-rules : (text : SourceText) (path bytes : List ℕ) (number next : ℕ) (read : ReadSource) (list : Vec Broken Global) (files : List File) (placed before broken : List Placed) →
-    path ≡ text.path → bytes ≡ text.bytes → read ≡ BrokenSource list → IsSource Modules path bytes number next read → placed ≡ map (placed_in text) list.items → broken ≡ before ++ placed → AddsText text number files files next next before broken
+    path ≡ text.path → bytes ≡ text.bytes → read ≡ BrokenSource list → IsSource path bytes number next read → placed ≡ map (placed_in text) list.items → broken ≡ before ++ placed → AddsText text number files files next next before broken
 adds-rules text path bytes number next read list files placed before broken path_is bytes_is read_is source placed_is append =
-    let here = subst (λ p. IsSource Modules p text.bytes number next (BrokenSource list)) path_is
-    (subst (λ b. IsSource Modules path b number next (BrokenSource list)) bytes_is
-    (subst (IsSource Modules path bytes number next) read_is source)) in
-    rules list.items here.0 here.1 (append ∙ ap (λ l. before ++ l) placed_is)
+    let here = subst (λ p. IsSource p text.bytes number next (BrokenSource list)) path_is
+    (subst (λ b. IsSource path b number next (BrokenSource list)) bytes_is
+    (subst (IsSource path bytes number next) read_is source)) in
+    rules list.items here.0 here.1 refl (append ∙ ap (λ l. before ++ l) placed_is)
 
 -- as many trees as texts, where nothing is broken
 pub parsed-length : (texts : List SourceText) (files : List File) (next : ℕ) (broken : List Placed) → AreParsed texts files next broken → broken ≡ [] → length texts ≡ length files

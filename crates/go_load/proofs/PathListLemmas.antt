@@ -10,8 +10,8 @@ use Rattle.std.proofs.lemmas.List.Elements.{filter_map-append}
 use Rattle.std.proofs.lemmas.List.Kept.{Contains-dedup, Contains-from_dedup, IsStrictlySortedBy-dedup}
 use Rattle.std.proofs.lemmas.List.Sorted.{Contains-permutation, IsPermutation-sym}
 use Rattle.std.proofs.lemmas.Slice.Eq.{bytes_eq-Decides}
-use Rattle.go_model.proofs.MemberLemmas.{cons_cases, contains_head, contains_tail, contains_none}
-use Rattle.go_model.specs.Packages.{IsPathList}
+use Rattle.go_module.proofs.MemberLemmas.{cons_cases, contains_head, contains_tail, contains_none}
+use Rattle.go_module.specs.Modules.Packages.{IsPathList}
 
 -- one more of the homes that there are
 pub present_more : (homes : List (Option (List ℕ))) (i : ℕ) (home : Option (List ℕ)) (old new : List (List ℕ)) → i < length homes → home ≡ get_or homes i home → old ≡ filter_map (λ h. h) (take i homes) → new ≡ old ++ filter_map (λ h. h) (home ∷ []) → new ≡ filter_map (λ h. h) (take (i + 1) homes)

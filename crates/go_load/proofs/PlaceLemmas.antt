@@ -3,9 +3,9 @@ use Rattle.std.proofs.Common.{◌≡◌, ℕ, suc, ◌+◌, ◌==◌, Bool, true
 use Rattle.std.specs.List.{prefix_len}
 use Rattle.std.proofs.lemmas.List.{append_assoc, drop-drop, map-append, take-append-drop}
 use Rattle.go_base.specs.declared.rule.Broken.{Broken}
-use Rattle.go_model.specs.declared.report.Placed.{Placed}
-use Rattle.go_model.specs.Folders.{SourceText}
-use Rattle.go_model.specs.Loading.{placed_among, placed_in}
+use Rattle.go_module.specs.declared.places.Placed.{Placed}
+use Rattle.go_module.specs.Modules.Texts.{SourceText}
+use Rattle.go_module.specs.Places.{placed_among, placed_in}
 use Rattle.go_load.specs.Placing.{is_in, text_at}
 
 same_number : (a b : ℕ) → (a == b) ≡ true → a ≡ b

@@ -1,42 +1,42 @@
 -- The paths of packages of a module that breaks no rule: they have no byte beyond ASCII.
-use Rattle.std.proofs.Common.{◌≡◌, ℕ, Bool, true, false, List, [], ◌∷◌, ◌++◌, Option, Some, None, map, refl, sym, ◌∙◌, subst, ⊎_elim}
+use Rattle.std.proofs.Common.{◌≡◌, ℕ, ◌+◌, Bool, true, false, List, [], ◌∷◌, ◌++◌, Option, Some, None, map, refl, sym, ◌∙◌, subst, ⊎_elim}
 use Rattle.std.specs.Prelude.{if◌then◌else◌}
 use Rattle.std.specs.List.{Contains, cons_option, filter_map}
 use Rattle.std.proofs.lemmas.Option.{cond_some}
 use Rattle.std.proofs.lemmas.Str.{IsUtf8-from_ascii}
 use Rattle.go_base.specs.declared.rule.Broken.{Broken}
 use Rattle.go_tree.specs.Tree.{Tree}
-use Rattle.go_model.specs.declared.built.Built.{Built}
-use Rattle.go_model.specs.declared.report.Placed.{Placed}
-use Rattle.go_model.specs.Broken.{broken_at}
-use Rattle.go_model.specs.Folders.{SourceText, as_text}
-use Rattle.go_model.specs.Heads.{FileHead}
-use Rattle.go_model.specs.Loading.{TextsBreak, placed_in}
-use Rattle.go_model.specs.Module.{AreHeads}
-use Rattle.go_model.specs.ModuleLines as lines
-use Rattle.go_model.specs.ModulePath.{module_path}
-use Rattle.go_model.specs.ModuleRules.{declared_by, placed_at}
-use Rattle.go_model.specs.PathParts.{folder_of_path, import_path_of, is_plain}
-use Rattle.go_model.specs.Paths.{belongs, home, homes, import_path}
-use Rattle.go_model.specs.Sources.{SourceBreaks, by_form, no_tree, special_file_path, too_long}
-use Rattle.go_load.proofs.AsciiLemmas.{Ascii, ascii_is, folder_ascii, import_ascii, module_ascii, plain_ascii}
-use Rattle.go_model.proofs.MemberLemmas.{cons_cases, contains_head, contains_none}
-use Rattle.go_model.proofs.NameLemmas.{text_stays}
+use Rattle.go_module.specs.declared.places.Placed.{Placed}
+use Rattle.go_module.specs.Broken.{broken_at}
+use Rattle.go_module.specs.Modules.Texts.{SourceText, as_text}
+use Rattle.go_module.specs.Modules.Heads.{FileHead}
+use Rattle.go_load.specs.Loading.{TextsBreakFrom}
+use Rattle.go_module.specs.Places.{placed_in}
+use Rattle.go_module.specs.Modules.Module.{AreHeads}
+use Rattle.go_mod.specs.ModuleLines as lines
+use Rattle.go_mod.specs.ModulePath.{module_path}
+use Rattle.go_mod.specs.ModuleRules.{declared_by, placed_at}
+use Rattle.go_module.specs.Modules.PathParts.{folder_of_path, import_path_of, is_plain}
+use Rattle.go_module.specs.Modules.Paths.{belongs, home, homes, import_path}
+use Rattle.go_load.specs.Sources.{SourceBreaks, by_form, no_tree, special_file_path, too_long}
+use Rattle.go_mod.proofs.AsciiLemmas.{Ascii, ascii_is, folder_ascii, import_ascii, module_ascii, plain_ascii}
+use Rattle.go_module.proofs.MemberLemmas.{cons_cases, contains_head, contains_none}
+use Rattle.go_module.proofs.NameLemmas.{text_stays}
 
 pub ascii_text : (bytes : List ℕ) → Ascii bytes → as_text bytes ≡ bytes
 ascii_text bytes a = text_stays bytes (IsUtf8-from_ascii bytes (ascii_is bytes a))
 
 -- files that break nothing have plain paths
 
-no_broken_path : (path : List ℕ) (others : List Broken) (b : Bool) → is_plain path ≡ b → ((x : Broken) → Contains ((if b then [] else broken_at 0 special_file_path ∷ []) ++ others) x → ⊥) → is_plain path ≡ true
-no_broken_path path others true e none = e
-no_broken_path path others false e none = absurd (none (broken_at 0 special_file_path) (contains_head (broken_at 0 special_file_path) others (broken_at 0 special_file_path) refl))
+no_broken_path : (file : ℕ) (path : List ℕ) (others : List Broken) (b : Bool) → is_plain path ≡ b → ((x : Broken) → Contains ((if b then [] else broken_at file 0 special_file_path ∷ []) ++ others) x → ⊥) → is_plain path ≡ true
+no_broken_path file path others true e none = e
+no_broken_path file path others false e none = absurd (none (broken_at file 0 special_file_path) (contains_head (broken_at file 0 special_file_path) others (broken_at file 0 special_file_path) refl))
 
-plain_source : (built : Built) (path bytes : List ℕ) (list : List Broken) → SourceBreaks built path bytes list → list ≡ [] → is_plain path ≡ true
-plain_source built path bytes _ (too_long lt) e = cc
-plain_source built path bytes _ (no_tree fault b le is told) e = cc
-plain_source built path bytes _ (by_form first tree list le file breaks) e =
-    no_broken_path path _ (is_plain path) refl (λ x h. contains_none x (subst (λ (xs : List Broken). Contains xs x) e ((breaks.is_list.same x).1 h)))
+plain_source : (file first : ℕ) (path bytes : List ℕ) (list : List Broken) → SourceBreaks file first path bytes list → list ≡ [] → is_plain path ≡ true
+plain_source file first path bytes _ (too_long lt) e = cc
+plain_source file first path bytes _ (no_tree fault b le is told) e = cc
+plain_source file first path bytes _ (by_form tree list le is breaks) e =
+    no_broken_path file path _ (is_plain path) refl (λ x h. contains_none x (subst (λ (xs : List Broken). Contains xs x) e ((breaks.is_list.same x).1 h)))
 
 no_parts : {X Y : Type 0} (f : X → Y) (xs : List X) (ys : List Y) → [] ≡ map f xs ++ ys → (xs ≡ []) × (ys ≡ [])
 no_parts f [] ys e = (refl, sym e)
@@ -46,18 +46,18 @@ abbrev pub AllPlain : List FileHead → Type 0
 AllPlain [] = Unit {0}
 AllPlain (head ∷ heads) = Ascii head.path × AllPlain heads
 
-pub all_plain : (texts : List SourceText) (trees : List Tree) (heads : List FileHead) (list : List Placed) → AreHeads texts trees heads → TextsBreak texts list → list ≡ [] → AllPlain heads
-all_plain (text ∷ texts) (tree ∷ trees) (head ∷ heads) list are breaks none =
-    let parts = no_parts (placed_in text) breaks.0 breaks.1 (sym none ∙ breaks.4) in
-    let plain = plain_ascii text.path (plain_source _ text.path text.bytes breaks.0 breaks.2 parts.0) in
-    (subst Ascii (sym are.0.path_is) plain, all_plain texts trees heads breaks.1 are.1 breaks.3 parts.1)
-all_plain (text ∷ texts) (tree ∷ trees) [] list are breaks none = tt
-all_plain (text ∷ texts) [] (head ∷ heads) list are breaks none = absurd are
-all_plain (text ∷ texts) [] [] list are breaks none = tt
-all_plain [] (tree ∷ trees) (head ∷ heads) list are breaks none = absurd are
-all_plain [] (tree ∷ trees) [] list are breaks none = tt
-all_plain [] [] (head ∷ heads) list are breaks none = absurd are
-all_plain [] [] [] list are breaks none = tt
+pub all_plain : (number first next : ℕ) (texts : List SourceText) (trees : List Tree) (heads : List FileHead) (list : List Placed) → AreHeads texts trees heads → TextsBreakFrom number first texts next list → list ≡ [] → AllPlain heads
+all_plain number first next (text ∷ texts) (tree ∷ trees) (head ∷ heads) list are breaks none =
+    let parts = no_parts (placed_in text) breaks.0 breaks.1 (sym none ∙ breaks.6) in
+    let plain = plain_ascii text.path (plain_source number first text.path text.bytes breaks.0 breaks.3 parts.0) in
+    (subst Ascii (sym are.0.path_is) plain, all_plain (number + 1) breaks.2 next texts trees heads breaks.1 are.1 breaks.5 parts.1)
+all_plain number first next (text ∷ texts) (tree ∷ trees) [] list are breaks none = tt
+all_plain number first next (text ∷ texts) [] (head ∷ heads) list are breaks none = absurd are
+all_plain number first next (text ∷ texts) [] [] list are breaks none = tt
+all_plain number first next [] (tree ∷ trees) (head ∷ heads) list are breaks none = absurd are
+all_plain number first next [] (tree ∷ trees) [] list are breaks none = tt
+all_plain number first next [] [] (head ∷ heads) list are breaks none = absurd are
+all_plain number first next [] [] [] list are breaks none = tt
 
 -- the path of a good module line
 

@@ -10,18 +10,20 @@ use Rattle.std.proofs.lemmas.List.Elements.{All-push}
 use Rattle.go_base.specs.declared.rule.Broken.{Broken as BrokenRule}
 use Rattle.go_base.specs.declared.tree.MemFile.{MemFile}
 use Rattle.go_base.specs.Place.{line_of, column_of}
-use Rattle.go_model.specs.declared.report.Placed.{Placed}
-use Rattle.go_model.specs.Broken.{broken_at}
-use Rattle.go_model.specs.Folders.{Folder, AreGoFiles, IsBelowSome, SourceText, no_folder, texts_at}
-use Rattle.go_model.specs.FormRules.Order.{IsListOf}
-use Rattle.go_model.specs.Loading.{AreBelow, ModuleFileBreaks, module_text, placed_in}
-use Rattle.go_model.specs.ModuleRules.{missing_module_file, module_file_path}
+use Rattle.go_module.specs.declared.places.Placed.{Placed}
+use Rattle.go_module.specs.Broken.{broken_at}
+use Rattle.go_mod.specs.Folders.{Folder, AreGoFiles, IsBelowSome, no_folder, texts_at}
+use Rattle.go_module.specs.Modules.Texts.{SourceText}
+use Rattle.go_module.specs.Order.{IsListOf}
+use Rattle.go_load.specs.Loading.{AreBelow, ModuleFileBreaks, module_text}
+use Rattle.go_module.specs.Places.{placed_in}
+use Rattle.go_mod.specs.ModuleRules.{missing_module_file, module_file_path}
 use Rattle.go_load.proofs.FolderLemmas.{broken_is, files_are, folder_is, folder_read, module_bytes, path_read, texts_are}
-use Rattle.go_model.proofs.MemberLemmas.{cons_cases, contains_head, contains_none, contains_tail}
+use Rattle.go_module.proofs.MemberLemmas.{cons_cases, contains_head, contains_none, contains_tail}
 use Rattle.go_load.specs.Calls.{IsListed, IsNoRule}
-use Rattle.go_load.specs.ModuleFile.{IsModuleFile}
-use Rattle.go_load.specs.declared.module_file.ModuleFile.{ModuleFile}
-use Rattle.go_load.specs.declared.module_file.ModuleFile.TheVariants.{Broken as Bad}
+use Rattle.go_mod.specs.ModuleFile.{IsModuleFile}
+use Rattle.go_mod.specs.declared.module_file.ModuleFile.{ModuleFile}
+use Rattle.go_mod.specs.declared.module_file.ModuleFile.TheVariants.{Broken as Bad}
 use Rattle.go_load.specs.ModuleTexts.{IsFaultOf, IsModuleFault, IsModulePath, IsModuleRead, IsTold, TellsRead, module_text_with, rules_of}
 use Rattle.go_load.specs.Reading.{ReadsBroken, ReadsModule}
 use Rattle.go_load.specs.ReadTexts.{Adds, AddsStubs, AreAllRead, AreBothRead, AreGoFilesOf, AreSomeStubFiles, IsTextRead}
@@ -50,11 +52,11 @@ told_whole read bytes list (Broken placed) is some l told = record {
 told_whole read bytes list ReadFault is some l told = absurd told
 told_whole read bytes list NoMemory is some l told = absurd told
 
-one_rule : broken_at 0 missing_module_file ∷ [] ≢ []
+one_rule : broken_at 0 0 missing_module_file ∷ [] ≢ []
 one_rule e = absurd (cc e)
 
 -- where go.mod is missing
-pub told_missing : {E : Type 0} (bytes : List ℕ) (found list shown : List BrokenRule) (r : Result LoadFault E) → bytes ≡ [] → found ≡ broken_at 0 missing_module_file ∷ [] → IsListOf found list → shown ≡ list → IfOk r (λ fault. IsTold bytes shown fault) → IfOk r (λ fault. IsFaultOf None fault)
+pub told_missing : {E : Type 0} (bytes : List ℕ) (found list shown : List BrokenRule) (r : Result LoadFault E) → bytes ≡ [] → found ≡ broken_at 0 0 missing_module_file ∷ [] → IsListOf found list → shown ≡ list → IfOk r (λ fault. IsTold bytes shown fault) → IfOk r (λ fault. IsFaultOf None fault)
 told_missing bytes found list shown (Ok fault) none is l same told =
     told_whole None bytes list fault none one_rule (subst (λ (f : List BrokenRule). IsListOf f list) is l) (subst (λ (s : List BrokenRule). IsTold bytes s fault) same told)
 told_missing bytes found list shown (Err e) none is l same told = tt
@@ -178,9 +180,9 @@ all_at_start bytes other (b ∷ bs) zero =
 
 only_start : (list : List BrokenRule) → IsListOf (rules_of None) list → (b : BrokenRule) → Contains list b → b.pos.offset ≡ 0
 only_start list is b h = ⊎_elim
-    (λ (same : broken_at 0 missing_module_file ≡ b). ap (λ (x : BrokenRule). x.pos.offset) (sym same))
+    (λ (same : broken_at 0 0 missing_module_file ≡ b). ap (λ (x : BrokenRule). x.pos.offset) (sym same))
     (λ (none : Contains [] b). absurd (contains_none b none))
-    (cons_cases (broken_at 0 missing_module_file) [] b ((is.same b).0 h))
+    (cons_cases (broken_at 0 0 missing_module_file) [] b ((is.same b).0 h))
 
 places_are : (told : Option (List MemFile)) (root : List ℕ) (names : List (List ℕ)) (read : Option (List ℕ)) (list : List BrokenRule) → IsModuleRead told root names read → IsListOf (rules_of read) list → map (placed_in (module_text_with (unwrap_or read []))) list ≡ map (placed_in (module_text (folder_read told root names read []))) list
 places_are told root names None list is l =

@@ -5,9 +5,9 @@ use Rattle.std.proofs.lemmas.List.{append-nil, reverse-append}
 use Rattle.indexmap.proofs.ReorderLemmas.{map-reverse}
 use Rattle.go_tree.specs.declared.node.File.{File}
 use Rattle.go_tree.specs.Tree.{tree_of}
-use Rattle.go_model.specs.declared.module.SourceFile.{SourceFile}
-use Rattle.go_model.specs.Folders.{SourceText}
-use Rattle.go_model.specs.Module.{FileData, file_view, files_from}
+use Rattle.go_module.specs.declared.module.SourceFile.{SourceFile}
+use Rattle.go_module.specs.Modules.Texts.{SourceText}
+use Rattle.go_module.specs.Modules.Module.{FileData, file_view, files_from}
 use Rattle.go_load.specs.SourceFiles.{file_if, file_with, joined}
 use Rattle.go_load.specs.Trees.{AreNumbered, trees_in}
 

@@ -7,7 +7,7 @@ use Rattle.go_tree.specs.declared.token.Token.{Token}
 use Rattle.go_tree.specs.LiteralValues.{string_lit_value}
 use Rattle.go_tree.specs.Scan.{IsNext}
 use Rattle.go_scan.proofs.NextLemmas.{one_next}
-use Rattle.go_model.specs.Heads.{IsImportPath, IsOneString, literal, long, other}
+use Rattle.go_module.specs.Modules.Heads.{IsImportPath, IsOneString, literal, long, other}
 use Rattle.go_load.specs.Strings.{IsWholeText}
 
 whole_range : (text : List ℕ) (a b : ℕ) → a ≡ 0 → b ≡ length text → slice_range text a b ≡ text

@@ -1,16 +1,16 @@
 -- The table of packages.
-use Rattle.std.proofs.Common.{◌≡◌, ℕ, zero, suc, ◌<◌, Bool, true, false, not, cond, ◌&&◌, ◌||◌, ◌==◌, List, [], ◌∷◌, Option, Some, None, ⊎_elim, length, map, refl, sym, ap, ◌∙◌, subst, nat_lt, arith}
-use Rattle.std.specs.Prelude.{◌↔◌, slice_get, position, if◌then◌else◌}
+use Rattle.std.proofs.Common.{◌≡◌, ℕ, zero, suc, ◌<◌, Bool, true, false, not, cond, ◌&&◌, ◌||◌, ◌==◌, List, [], ◌∷◌, Option, Some, None, ⊎_elim, length, map, refl, ap, ◌∙◌, subst, nat_lt, arith}
+use Rattle.std.specs.Prelude.{◌↔◌, position, if◌then◌else◌}
 use Rattle.std.specs.List.{Contains, cons_option, position_or_len}
 use Rattle.std.proofs.lemmas.Bool.Decides.{nat_tests}
 use Rattle.std.proofs.lemmas.List.{length-map}
-use Rattle.go_model.specs.Heads.{FileHead, ImportSpec}
-use Rattle.go_model.specs.PathParts.{folder_of_path}
-use Rattle.go_model.specs.Paths.{same_text, own_paths, has_path, import_path, home, homes}
-use Rattle.go_model.specs.Packages.{is_marked, visible, named, all_named, imports_in, imports_of, files_of, IsPathList, IsTableOf, Reached}
+use Rattle.go_module.specs.Modules.Heads.{FileHead, ImportSpec}
+use Rattle.go_module.specs.Modules.PathParts.{folder_of_path}
+use Rattle.go_module.specs.Modules.Paths.{same_text, own_paths, has_path, import_path, home, homes}
+use Rattle.go_graph.specs.Graph.{is_marked, IsGraph, row_at}
+use Rattle.go_module.specs.Modules.Packages.{visible, named, all_named, imports_in, imports_of, files_of, IsPathList, IsTableOf, Reached}
 use Rattle.go_load.specs.PathSets.{imports_by}
-use Rattle.go_load.specs.ReachMarks.{IsGraph}
-use Rattle.go_model.proofs.MemberLemmas.{cons_cases, contains_none}
+use Rattle.go_module.proofs.MemberLemmas.{cons_cases, contains_none}
 
 -- the imports by flags and files that are given for each path
 pub imports_given : (paths : List (List ℕ)) (stubs : List Bool) (heads : List FileHead) (f : List ℕ → Bool) (g : List ℕ → List ℕ) (xs : List (List ℕ)) → imports_by paths stubs heads (map f xs) (map g xs) ≡ map (λ path. imports_of paths stubs heads (f path) (g path)) xs
@@ -46,18 +46,15 @@ module _ (paths : List (List ℕ)) (stubs : List Bool) (from_stub : Bool) where
   all_within (s ∷ specs) k h = cons_within (named paths stubs from_stub s.path) (all_named paths stubs from_stub specs) (λ n e. named_within s.path n e) (all_within specs) k h
 
 module _ (paths : List (List ℕ)) (stubs : List Bool) (heads : List FileHead) (f : List ℕ → Bool) (g : List ℕ → List ℕ) where
-  row_inside : (xs : List (List ℕ)) (a : ℕ) (row : List ℕ) (b : ℕ) → slice_get (map (λ path. imports_of paths stubs heads (f path) (g path)) xs) a ≡ Some row → Contains row b → b < length paths
-  row_inside [] a row b at has = absurd (cc at)
-  row_inside (x ∷ xs) zero row b at has =
-      let same : imports_of paths stubs heads (f x) (g x) ≡ row = cc in
-      all_within paths stubs (f x) (imports_in heads (g x)) b (subst (λ (r : List ℕ). Contains r b) (sym same) has)
-  row_inside (x ∷ xs) (suc a) row b at has = row_inside xs a row b at has
+  row_inside : (xs : List (List ℕ)) (a b : ℕ) → Contains (row_at (map (λ path. imports_of paths stubs heads (f path) (g path)) xs) a) b → b < length paths
+  row_inside [] a b has = absurd (contains_none b has)
+  row_inside (x ∷ xs) zero b has = all_within paths stubs (f x) (imports_in heads (g x)) b has
+  row_inside (x ∷ xs) (suc a) b has = row_inside xs a b has
 
   -- what the imports of packages name are packages
   pub imports_graph : (rows : List (List ℕ)) → rows ≡ map (λ path. imports_of paths stubs heads (f path) (g path)) paths → IsGraph rows
   imports_graph rows e = λ a b leads.
-      let made = map (λ path. imports_of paths stubs heads (f path) (g path)) paths in
-      let lt = row_inside paths a leads.row b (subst (λ (rs : List (List ℕ)). slice_get rs a ≡ Some leads.row) e leads.at) leads.has in
+      let lt = row_inside paths a b (subst (λ (rs : List (List ℕ)). Contains (row_at rs a) b) e leads) in
       let same : length rows ≡ length paths = ap length e ∙ length-map paths (λ path. imports_of paths stubs heads (f path) (g path)) in
       omega arith
 

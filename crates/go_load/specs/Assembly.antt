@@ -4,12 +4,13 @@
 use Rattle.std.specs.Prelude.{◌≡◌, ℕ, List, [], ◌∷◌, Option, None, Some, map, slice_get, slice_set, unwrap_or}
 use Rattle.std.specs.List.{cons_option, filter_map}
 use Rattle.std.specs.Option.{option_map, option_or}
-use Rattle.go_model.specs.declared.module.SourceFile.{SourceFile}
-use Rattle.go_model.specs.Folders.{as_text}
-use Rattle.go_model.specs.Heads.{FileHead}
-use Rattle.go_model.specs.ImportOrder.{IsOrder}
-use Rattle.go_model.specs.Module.{FileData, PackageData, file_view, first_name, in_order, row_at}
-use Rattle.go_model.specs.Packages.{PackageTable, is_marked}
+use Rattle.go_module.specs.declared.module.SourceFile.{SourceFile}
+use Rattle.go_module.specs.Modules.Texts.{as_text}
+use Rattle.go_module.specs.Modules.Heads.{FileHead}
+use Rattle.go_graph.specs.Order.{IsOrder}
+use Rattle.go_module.specs.Modules.Module.{FileData, PackageData, file_view, first_name, in_order}
+use Rattle.go_graph.specs.Graph.{row_at, is_marked}
+use Rattle.go_module.specs.Modules.Packages.{PackageTable}
 
 -- what stands at a place, if there is such a place and something stands there
 abbrev pub slot_at : {X : Type 0} → List (Option X) → ℕ → Option X

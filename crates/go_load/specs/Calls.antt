@@ -4,7 +4,7 @@ use Rattle.std.specs.Prelude.{◌≡◌, ℕ, suc, List, Option, IfSome, IsErrOf
 use Rattle.go_base.specs.Counters.{Rose}
 use Rattle.go_base.specs.declared.tree.MemFile.{MemFile}
 use Rattle.go_base.specs.Tree.{paths_of, bytes_of}
-use Rattle.go_model.specs.Sources.{most_bytes}
+use Rattle.go_mod.specs.Folders.{most_bytes}
 use Rattle.go_load.specs.declared.load_fault.LoadFault.{LoadFault}
 use Rattle.go_load.specs.declared.load_fault.LoadFault.TheVariants.{Broken, ReadFault, NoMemory}
 

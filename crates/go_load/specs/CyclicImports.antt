@@ -1,13 +1,14 @@
 -- Imports that lie on a cycle, as a walk over files and marks tells them.
 -- Says what is told at each import that names a package, and what stays of it by the marks of these imports.
-use Rattle.std.specs.Prelude.{ℕ, Bool, List, [], ◌∷◌, ◌++◌, if◌then◌else◌, length, slice_get, unwrap_or}
+use Rattle.std.specs.Prelude.{ℕ, Bool, List, [], ◌∷◌, ◌++◌, if◌then◌else◌, length}
 use Rattle.std.specs.Option.{is_some}
 use Rattle.std.specs.List.{flat_map, range_with_len}
 use Rattle.go_base.specs.declared.rule.Broken.{Broken}
-use Rattle.go_model.specs.BrokenImports.{broken_at, cyclic_import, told_if}
-use Rattle.go_model.specs.Heads.{FileHead, ImportSpec}
-use Rattle.go_model.specs.Packages.{PackageTable, is_marked, named, imports_at}
-use Rattle.go_load.specs.PathSets.{row_at}
+use Rattle.go_module.specs.Broken.{broken_at, told_if}
+use Rattle.go_module.specs.Modules.BrokenImports.{cyclic_import}
+use Rattle.go_module.specs.Modules.Heads.{FileHead, ImportSpec}
+use Rattle.go_module.specs.Modules.Packages.{PackageTable, named, imports_at}
+use Rattle.go_graph.specs.Graph.{is_marked, row_at}
 
 -- what an import breaks if it lies on a cycle, and nothing where it names no package
 abbrev pub named_import : List (List ℕ) → List Bool → Bool → ℕ → ImportSpec → List Broken
@@ -27,13 +28,9 @@ with_marks [] marks = []
 with_marks (broken ∷ list) [] = []
 with_marks (broken ∷ list) (mark ∷ marks) = told_if mark broken ++ with_marks list marks
 
--- the row of marks at a place, and none where there is no such row
-abbrev pub marks_at : List (List Bool) → ℕ → List Bool
-marks_at rows k = unwrap_or (slice_get rows k) []
-
 -- what the imports of a package that lie on a cycle break, if it is reached
 abbrev pub cyclic_if_reached : List FileHead → PackageTable → List (List Bool) → ℕ → List Broken
-cyclic_if_reached heads t rows k = if is_marked t.reached k then with_marks (named_imports_in t.paths t.stubs heads (is_marked t.stubs k) (row_at t.files k)) (marks_at rows k) else []
+cyclic_if_reached heads t rows k = if is_marked t.reached k then with_marks (named_imports_in t.paths t.stubs heads (is_marked t.stubs k) (row_at t.files k)) (row_at rows k) else []
 
 -- what those of all reached packages break
 abbrev pub cyclic_in : List FileHead → PackageTable → List (List Bool) → List Broken

@@ -1,3 +1,9 @@
+-- what is loaded or refused
+pub mod Loading
+pub mod Sources
+pub mod OneLoad
+pub mod FileNumbers
+-- what inner functions promise
 pub mod Reading
 pub mod Strings
 pub mod Trees
@@ -7,14 +13,7 @@ pub mod Placing
 pub mod Calls
 pub mod ModuleTexts
 pub mod ReadTexts
-pub mod ModuleFolders
-pub mod ModuleFile
-pub mod Seen
-pub mod OpenImports
 pub mod ReadSources
-pub mod Certificate
-pub mod Marks
 pub mod PathSets
-pub mod ReachMarks
 pub mod CyclicImports
 pub mod Assembly

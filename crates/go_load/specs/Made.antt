@@ -2,12 +2,13 @@
 use Rattle.std.specs.Prelude.{◌≢◌, ℕ, List, [], Option}
 use Rattle.go_base.specs.declared.tree.MemFile.{MemFile}
 use Rattle.go_tree.specs.Tree.{Tree}
-use Rattle.go_model.specs.declared.report.Placed.{Placed}
-use Rattle.go_model.specs.Folders.{SourceText}
-use Rattle.go_model.specs.Heads.{FileHead}
-use Rattle.go_model.specs.Loading.{LoadsBroken, PackagesBreak, TextsBreak}
-use Rattle.go_model.specs.Module.{AreParts, IsModuleOf, ModuleData, files_from}
-use Rattle.go_model.specs.Packages.{PackageTable}
+use Rattle.go_module.specs.declared.places.Placed.{Placed}
+use Rattle.go_module.specs.Modules.BrokenImports.{AreBrokenPackages}
+use Rattle.go_module.specs.Modules.Texts.{SourceText}
+use Rattle.go_module.specs.Modules.Heads.{FileHead}
+use Rattle.go_load.specs.Loading.{LoadsBroken, PackagesBreak, TextsBreak}
+use Rattle.go_module.specs.Modules.Module.{AreParts, IsModuleOf, ModuleData, files_from}
+use Rattle.go_module.specs.Modules.Packages.{PackageTable}
 use Rattle.go_load.specs.declared.load_fault.LoadFault.{LoadFault}
 use Rattle.go_load.specs.declared.load_fault.LoadFault.TheVariants.{Broken, ReadFault, NoMemory}
 
@@ -18,7 +19,7 @@ pub record IsMade (path : List ℕ) (texts : List SourceText) (m : ModuleData) :
   pub heads : List FileHead
   pub table : PackageTable
   pub parts : AreParts path texts trees heads table
-  pub whole : PackagesBreak texts heads table []
+  pub whole : AreBrokenPackages heads table []
   pub is_module : IsModuleOf path (files_from 0 texts trees) heads table m
 
 -- what texts break by themselves, or else by their imports and package clauses

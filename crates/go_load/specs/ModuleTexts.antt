@@ -4,12 +4,12 @@ use Rattle.std.specs.Cmp.Lexicographic.{pointwise}
 use Rattle.std.specs.List.{list_any}
 use Rattle.go_base.specs.declared.rule.Broken.{Broken as BrokenRule}
 use Rattle.go_base.specs.declared.tree.MemFile.{MemFile}
-use Rattle.go_model.specs.declared.report.Placed.{Placed}
-use Rattle.go_model.specs.Broken.{broken_at}
-use Rattle.go_model.specs.Folders.{SourceText}
-use Rattle.go_model.specs.FormRules.Order.{IsListOf}
-use Rattle.go_model.specs.Loading.{placed_in}
-use Rattle.go_model.specs.ModuleRules.{broken_rules, missing_module_file, module_file_path, module_lines}
+use Rattle.go_module.specs.declared.places.Placed.{Placed}
+use Rattle.go_module.specs.Broken.{broken_at}
+use Rattle.go_module.specs.Modules.Texts.{SourceText}
+use Rattle.go_module.specs.Order.{IsListOf}
+use Rattle.go_module.specs.Places.{placed_in}
+use Rattle.go_mod.specs.ModuleRules.{broken_rules, missing_module_file, module_file_path, module_lines}
 use Rattle.go_load.specs.Calls.{IsReadAt}
 use Rattle.go_load.specs.declared.load_fault.LoadFault.{LoadFault}
 use Rattle.go_load.specs.declared.load_fault.LoadFault.TheVariants.{Broken, ReadFault, NoMemory}
@@ -29,7 +29,7 @@ module_text_with bytes = record { stub = false; path = module_file_path; bytes =
 
 -- the rules that it breaks
 abbrev pub rules_of : Option (List ℕ) → List BrokenRule
-rules_of None = broken_at 0 missing_module_file ∷ []
+rules_of None = broken_at 0 0 missing_module_file ∷ []
 rules_of (Some bytes) = broken_rules bytes
 
 -- the list of these rules is told

@@ -1,9 +1,10 @@
 -- Lists that have each of their paths once.
 -- Says which list paths leave that are added one after another.
-use Rattle.std.specs.Prelude.{ℕ, Bool, if◌then◌else◌, List, [], ◌∷◌, ◌++◌, Option, None, Some, position, slice_get, slice_set, unwrap_or}
-use Rattle.go_model.specs.Heads.{FileHead}
-use Rattle.go_model.specs.Paths.{same_text, has_path}
-use Rattle.go_model.specs.Packages.{imports_of}
+use Rattle.std.specs.Prelude.{ℕ, Bool, if◌then◌else◌, List, [], ◌∷◌, ◌++◌, Option, None, Some, position, slice_set}
+use Rattle.go_graph.specs.Graph.{row_at}
+use Rattle.go_module.specs.Modules.Heads.{FileHead}
+use Rattle.go_module.specs.Modules.Paths.{same_text, has_path}
+use Rattle.go_module.specs.Modules.Packages.{imports_of}
 
 -- the path stands last, unless the list has it
 abbrev pub with_path : List (List ℕ) → List ℕ → List (List ℕ)
@@ -17,10 +18,6 @@ place_of paths path = position (same_text path) paths
 abbrev pub home_place : List (List ℕ) → Option (List ℕ) → Option ℕ
 home_place paths None = None
 home_place paths (Some path) = place_of paths path
-
--- the row at a place, and none where there is no such row
-abbrev pub row_at : List (List ℕ) → ℕ → List ℕ
-row_at rows k = unwrap_or (slice_get rows k) []
 
 -- a number behind those of the row at a place, if there is one
 abbrev pub put_in : List (List ℕ) → Option ℕ → ℕ → List (List ℕ)

@@ -1,8 +1,8 @@
 -- Places of broken rules.
 use Rattle.std.specs.Prelude.{ℕ, ◌==◌, Bool, List, slice_get, unwrap_or}
 use Rattle.go_base.specs.declared.rule.Broken.{Broken}
-use Rattle.go_model.specs.Folders.{SourceText}
-use Rattle.go_model.specs.Loading.{empty_text}
+use Rattle.go_module.specs.Modules.Texts.{SourceText}
+use Rattle.go_module.specs.Places.{empty_text}
 
 -- the rule is broken in the file of that number
 abbrev pub is_in : ℕ → Broken → Bool

@@ -1,7 +1,8 @@
 -- The texts that are read of a tree.
 use Rattle.std.specs.Prelude.{◌≡◌, ℕ, Bool, true, false, List, [], ◌++◌, Option, None, Some, All, map}
 use Rattle.go_base.specs.declared.tree.MemFile.{MemFile}
-use Rattle.go_model.specs.Folders.{AreGoFiles, SourceText}
+use Rattle.go_mod.specs.Folders.{AreGoFiles}
+use Rattle.go_module.specs.Modules.Texts.{SourceText}
 use Rattle.go_load.specs.Calls.{IsListed, IsReadAt}
 
 -- the text was read below the root

@@ -3,8 +3,9 @@ use Rattle.std.specs.Prelude.{◌≢◌, ℕ, List, [], Option}
 use Rattle.go_base.specs.declared.tree.MemFile.{MemFile}
 use Rattle.go_base.specs.declared.tree.TreeFault.{TreeFault}
 use Rattle.go_base.specs.declared.tree.TreeFault.TheVariants.{Failed, NoMemory as TreeNoMemory}
-use Rattle.go_model.specs.Folders.{Folder, SourceText}
-use Rattle.go_model.specs.Loading.{AreBelow, IsReadFrom, ModuleFileBreaks}
+use Rattle.go_mod.specs.Folders.{Folder}
+use Rattle.go_module.specs.Modules.Texts.{SourceText}
+use Rattle.go_load.specs.Loading.{AreBelow, IsReadFrom, ModuleFileBreaks}
 use Rattle.go_load.specs.declared.load_fault.LoadFault.{LoadFault}
 use Rattle.go_load.specs.declared.load_fault.LoadFault.TheVariants.{Broken, ReadFault, NoMemory}
 

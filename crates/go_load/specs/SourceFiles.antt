@@ -2,8 +2,8 @@
 use Rattle.std.specs.Prelude.{List, [], ◌∷◌, Option, None, Some}
 use Rattle.go_tree.specs.declared.node.File.{File}
 use Rattle.go_tree.specs.Tree.{tree_of}
-use Rattle.go_model.specs.Folders.{SourceText}
-use Rattle.go_model.specs.Module.{FileData}
+use Rattle.go_module.specs.Modules.Texts.{SourceText}
+use Rattle.go_module.specs.Modules.Module.{FileData}
 
 -- the file with that text and tree
 abbrev pub file_with : SourceText → File → FileData

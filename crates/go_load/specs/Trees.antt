@@ -3,14 +3,14 @@ use Rattle.std.specs.Prelude.{◌≡◌, ◌≢◌, ℕ, ◌+◌, List, [], ◌�
 use Rattle.go_base.specs.declared.rule.Broken.{Broken as BrokenRule}
 use Rattle.go_tree.specs.declared.node.File.{File}
 use Rattle.go_tree.specs.Tree.{Tree, tree_of, id_of}
-use Rattle.go_parse_s.specs.Files.{IsFileOf}
-use Rattle.go_model.specs.declared.built.Built.TheVariants.{Modules}
-use Rattle.go_model.specs.declared.report.Placed.{Placed}
-use Rattle.go_model.specs.Folders.{SourceText}
-use Rattle.go_model.specs.Heads.{ImportSpec, AreImports}
-use Rattle.go_model.specs.Loading.{TextsBreak, placed_in}
-use Rattle.go_model.specs.Module.{AreTrees, first_number}
-use Rattle.go_model.specs.Sources.{SourceBreaks}
+use Rattle.go_text.specs.Files.{IsFileOf}
+use Rattle.go_module.specs.declared.places.Placed.{Placed}
+use Rattle.go_module.specs.Modules.Texts.{SourceText}
+use Rattle.go_module.specs.Modules.Heads.{ImportSpec, AreImports}
+use Rattle.go_load.specs.Loading.{TextsBreak, TextsBreakFrom}
+use Rattle.go_module.specs.Places.{placed_in}
+use Rattle.go_module.specs.Modules.Module.{AreTrees, first_number}
+use Rattle.go_load.specs.Sources.{SourceBreaks}
 use Rattle.go_load.specs.declared.load_fault.LoadFault.{LoadFault}
 use Rattle.go_load.specs.declared.load_fault.LoadFault.TheVariants.{Broken, ReadFault, NoMemory}
 
@@ -34,7 +34,7 @@ abbrev pub AreNumbered : ℕ → List File → Type 0
 AreNumbered number [] = Unit {0}
 AreNumbered number (file ∷ files) = (file.number ≡ number) × AreNumbered (number + 1) files
 
--- the trees of these texts, the first number behind them, and that the texts break nothing
+-- the trees of these texts, the first number behind those of their nodes, and the numbers of the files
 pub record AreWhole (texts : List SourceText) (files : List File) (next : ℕ) : Type 0 where
   pub are_trees : AreTrees first_number texts (trees_in files)
   pub next_is : next ≡ next_number first_number (trees_in files)
@@ -42,13 +42,13 @@ pub record AreWhole (texts : List SourceText) (files : List File) (next : ℕ) :
 
 -- what the texts break; their trees, where that is nothing
 pub record AreParsed (texts : List SourceText) (files : List File) (next : ℕ) (broken : List Placed) : Type 0 where
-  pub breaks : TextsBreak texts broken
+  pub breaks : TextsBreakFrom 0 first_number texts next broken
   pub whole : broken ≡ [] → AreWhole texts files next
 
 -- one more text: its tree stands behind the others, or what it breaks does
 pub data AddsText (text : SourceText) (number : ℕ) (old new : List File) (next after : ℕ) (before broken : List Placed) : Type 0 where
-  tree : (file : File) → file.number ≡ number → IsFileOf text.bytes next (tree_of file.root) → SourceBreaks Modules text.path text.bytes [] → new ≡ old ++ file ∷ [] → after ≡ id_of (tree_of file.root) + 1 → broken ≡ before → AddsText text number old new next after before broken
-  rules : (list : List BrokenRule) → list ≢ [] → SourceBreaks Modules text.path text.bytes list → broken ≡ before ++ map (placed_in text) list → AddsText text number old new next after before broken
+  tree : (file : File) → file.number ≡ number → IsFileOf text.bytes next (tree_of file.root) → SourceBreaks number next text.path text.bytes [] → new ≡ old ++ file ∷ [] → after ≡ id_of (tree_of file.root) + 1 → broken ≡ before → AddsText text number old new next after before broken
+  rules : (list : List BrokenRule) → list ≢ [] → SourceBreaks number next text.path text.bytes list → after ≡ next → broken ≡ before ++ map (placed_in text) list → AddsText text number old new next after before broken
 
 -- a list that is told is what the texts break, and not empty
 abbrev pub IsTextsFault : List SourceText → LoadFault → Type 0

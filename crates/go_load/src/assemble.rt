@@ -1,23 +1,20 @@
 // The module that parsed files make.
 ghost use Rattle.std.specs.Prelude.{◌≡◌, IfOk, OnOk, filter, length, map};
-ghost use Rattle.go_model.specs.Folders.{as_text};
-ghost use Rattle.go_model.specs.ImportOrder.{IsGraph};
-ghost use Rattle.go_model.specs.Module.{IsModuleOf, file_view, first_name, module_view, package_view, row_at};
-ghost use Rattle.go_model.specs.Packages.{IsTableOf, is_marked};
+ghost use Rattle.go_module.specs.Modules.Texts.{as_text};
+ghost use Rattle.go_graph.specs.Graph.{IsGraph, row_at, is_marked};
+ghost use Rattle.go_module.specs.Modules.Module.{IsModuleOf, file_view, first_name, module_view, package_view};
+ghost use Rattle.go_module.specs.Modules.Packages.{IsTableOf};
 ghost use Rattle.go_load.specs.Assembly.{IsModuleOrder, cleared, files_left, package_with, packages_with};
 
 use crate::heads::Head;
-use crate::import_rows::import_rows;
-use crate::imports_broken::row_at;
-use crate::named::is_marked;
 use crate::names_broken::name_at;
-use crate::order::import_order;
 use crate::order_places::{places_at, places_of};
 use crate::paths::ImportPath;
 use crate::slots::{slots_of, take_files};
 use crate::table::Packages;
 use go_base::{Name, NoMemory};
-use go_model::{Module, Package, SourceFile, text_name};
+use go_graph::{is_marked, order, row_at};
+use go_module::{Module, Package, SourceFile, text_name};
 use std::alloc::Global;
 
 /// The module with this path that files make whose heads and packages these are: its packages are those
@@ -50,8 +47,7 @@ fn module_order(alloc: Global, packages: &Packages) -> Result<Vec<usize>, NoMemo
     requires { IsGraph packages.now.imports }
     ensures { IfOk result (λ list. IsModuleOrder packages.now list.items) }
 {
-    let rows = import_rows(alloc, packages.imports())?;
-    let order = import_order(alloc, &rows)?;
+    let order = order(alloc, packages.imports())?;
     marked(alloc, packages.reached(), &order)
 }
 

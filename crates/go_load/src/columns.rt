@@ -1,15 +1,15 @@
 // What is known of each package: whether it is a stub, and what its imports name.
 ghost use Rattle.std.specs.Prelude.{◌≡◌, IfOk, length, map, not};
-ghost use Rattle.go_model.specs.Paths.{has_path};
-ghost use Rattle.go_model.specs.Packages.{imports_of};
+ghost use Rattle.go_module.specs.Modules.Paths.{has_path};
+ghost use Rattle.go_module.specs.Modules.Packages.{imports_of};
 ghost use Rattle.go_load.specs.PathSets.{imports_by};
 
 use crate::heads::Head;
 use crate::named::imports_of;
-use crate::numbers::Numbers;
 use crate::path_set::PathSet;
 use crate::paths::ImportPath;
 use go_base::NoMemory;
+use go_graph::Numbers;
 use std::alloc::Global;
 
 /// For each path whether its package is a stub, where files that are no stubs have the paths `own`.

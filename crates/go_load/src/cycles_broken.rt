@@ -1,18 +1,18 @@
 // Imports that lie on a cycle.
 ghost use Rattle.std.specs.Prelude.{◌≡◌, ◌++◌, OnOk};
 ghost use Rattle.std.specs.List.{flat_map};
-ghost use Rattle.go_model.specs.ImportCycles.{marks_of};
-ghost use Rattle.go_load.specs.CyclicImports.{named_import, named_imports_at, named_imports_in};
-ghost use Rattle.go_load.specs.CyclicImports.{with_marks, marks_at, cyclic_if_reached, cyclic_in};
+ghost use Rattle.go_graph.specs.Cycles.{marks_of};
+ghost use Rattle.go_load.specs.CyclicImports.{named_import, named_imports_at, named_imports_in, with_marks, cyclic_if_reached, cyclic_in};
+ghost use Rattle.go_graph.specs.Graph.{row_at};
 
 use crate::heads::{Head, Import};
-use crate::imports_broken::row_at;
-use crate::named::{is_marked, named};
+use crate::named::named;
 use crate::path_set::PathSet;
 use crate::rules::CYCLIC_IMPORT;
 use crate::table::Packages;
 use go_base::{Broken, NoMemory};
-use go_model::{add_if, broken_at};
+use go_graph::{is_marked, row_at};
+use go_module::{add_if, broken_at};
 use std::alloc::Global;
 
 /// Adds what the imports of reached packages break that lie on a cycle. For each package there is a row of
@@ -62,7 +62,7 @@ fn add_package(
 
 // The row of marks at a place, and none where there is no such row.
 fn marks_at(rows: &[Vec<bool>], place: usize) -> &[bool]
-    ensures { result.now ≡ marks_at (marks_of rows.now) place }
+    ensures { result.now ≡ row_at (marks_of rows.now) place }
 {
     match rows.get(place) {
         Some(row) => row.as_slice(),

@@ -3,13 +3,13 @@ ghost use Rattle.std.specs.Prelude.{◌≡◌, IfOk, OnOk, length, map, replicat
 ghost use Rattle.std.specs.Cmp.Lexicographic.{slice_cmp};
 ghost use Rattle.std.specs.List.Sorted.{IsStrictlySortedBy};
 ghost use Rattle.std.specs.Ordering.{nat_cmp};
-ghost use Rattle.go_model.specs.Packages.{files_of};
+ghost use Rattle.go_module.specs.Modules.Packages.{files_of};
 ghost use Rattle.go_load.specs.PathSets.{home_place, put_in};
 
-use crate::numbers::Numbers;
 use crate::path_set::PathSet;
 use crate::paths::ImportPath;
 use go_base::NoMemory;
+use go_graph::Numbers;
 use std::alloc::Global;
 
 /// The files of each package, where `places` are the paths of packages in ascending order.

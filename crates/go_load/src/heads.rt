@@ -12,7 +12,7 @@ pub struct Import {
 }
 
 impl Model for Import {
-    ghost use Rattle.go_model.specs.Heads.{ImportSpec};
+    ghost use Rattle.go_module.specs.Modules.Heads.{ImportSpec};
 
     ghost Value = { ImportSpec };
 
@@ -54,7 +54,7 @@ pub struct Head {
 }
 
 impl Model for Head {
-    ghost use Rattle.go_model.specs.Heads.{FileHead};
+    ghost use Rattle.go_module.specs.Modules.Heads.{FileHead};
 
     ghost Value = { FileHead };
 

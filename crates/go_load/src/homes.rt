@@ -1,13 +1,13 @@
 // The packages that files belong to.
 ghost use Rattle.std.specs.Prelude.{◌≡◌, IfOk};
-ghost use Rattle.go_model.specs.Paths.{own_paths, home, homes};
+ghost use Rattle.go_module.specs.Modules.Paths.{own_paths, home, homes};
 
 use crate::folders::import_path;
 use crate::heads::Head;
-use crate::path_parts::folder_of;
 use crate::path_set::PathSet;
 use crate::paths::ImportPath;
 use go_base::NoMemory;
+use go_mod::folder_of;
 use std::alloc::Global;
 
 /// The paths of the files that are no stubs.

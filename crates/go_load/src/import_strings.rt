@@ -2,7 +2,7 @@
 ghost use Rattle.std.specs.Prelude.{◌≡◌, ◌↔◌, IfOk, IsTrue, length, None, []};
 ghost use Rattle.go_tree.specs.declared.token.Token.{Token as TokenOf};
 ghost use Rattle.go_tree.specs.Scan.{IsNext};
-ghost use Rattle.go_model.specs.Heads.{IsImportPath, IsOneString};
+ghost use Rattle.go_module.specs.Modules.Heads.{IsImportPath, IsOneString};
 ghost use Rattle.go_load.specs.Strings.{IsWholeText};
 
 use go_base::{Bytes, NoMemory};

@@ -1,20 +1,18 @@
 // What imports and package names break.
 ghost use Rattle.std.specs.Prelude.{◌≡◌, ◌++◌, OnOk};
 ghost use Rattle.std.specs.List.{flat_map};
-ghost use Rattle.go_model.specs.BrokenImports.{begins_with, is_unnamed, is_unbuilt, broken_import};
-ghost use Rattle.go_model.specs.BrokenImports.{broken_imports_at, broken_package, broken_if_reached};
-ghost use Rattle.go_model.specs.BrokenImports.{broken_imports_in};
-ghost use Rattle.go_load.specs.PathSets.{row_at};
+ghost use Rattle.go_module.specs.Modules.BrokenImports.{begins_with, is_unnamed, is_unbuilt, broken_import, broken_imports_at, broken_package, broken_if_reached, broken_imports_in};
+ghost use Rattle.go_graph.specs.Graph.{row_at};
 
 use crate::heads::{Head, Import};
-use crate::named::{is_marked, named};
+use crate::named::named;
 use crate::names_broken::add_names;
-use crate::numbers::Numbers;
 use crate::path_set::PathSet;
 use crate::rules::{MISSING_PACKAGE, SPECIAL_IMPORT};
 use crate::table::Packages;
 use go_base::{Broken, NoMemory};
-use go_model::{add_if, broken_at};
+use go_graph::{is_marked, row_at};
+use go_module::{add_if, broken_at};
 
 /// Adds what the package names of reached packages break, and their imports but for those on cycles.
 pub fn add_broken_imports(
@@ -53,16 +51,6 @@ fn add_package(
     add_names(found, heads, files)?;
     add_imports(found, heads, places, packages.stubs(), from_stub, files)?;
     Ok(())
-}
-
-/// The row at a place, and none where there is no such row.
-pub fn row_at(rows: &[Numbers], place: usize) -> &[usize]
-    ensures { result.now ≡ row_at rows.now place }
-{
-    match rows.get(place) {
-        Some(row) => row.as_slice(),
-        None => &[],
-    }
 }
 
 // Adds what the imports of these files break.

@@ -5,7 +5,7 @@ ghost use Rattle.go_load.specs.declared.load_fault.LoadFault.TheVariants.{NoMemo
 ghost use Rattle.go_load.specs.Reading.{fault_of};
 
 use go_base::{NoMemory, TreeFault};
-use go_model::Placed;
+use go_module::Placed;
 use std::alloc::{AllocError, AllocFailed};
 
 /// Why a module is not loaded.

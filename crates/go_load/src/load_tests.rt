@@ -2,45 +2,12 @@
 ghost use Rattle.std.specs.Prelude.{IfOk};
 ghost use Rattle.go_base.specs.Tree.{HasDistinctPaths};
 
+use crate::mem_trees::{File, GO_MOD, distinct, mem_files, word};
 use crate::{LoadFault, load};
-use go_base::{Bytes, MemFile, MemTree, Name, SureTree, Word, has_distinct_paths};
-use go_model::{Module, Package, Placed};
+use go_base::{Bytes, MemFile, MemTree, Name, SureTree};
+use go_module::{Module, Package, Placed};
 use std::alloc::Global;
 use std::test::Fail;
-
-// A file: its path, which begins with `+` below the root of stubs, and its text.
-type File = (&'static str, &'static str);
-
-const GO_MOD: File = ("go.mod", "module m\n\ngo 1.21\n");
-
-fn word(alloc: Global, text: &str) -> Result<Word, Fail> {
-    Ok(Word::new(String::from_str(alloc, text)?))
-}
-
-fn mem_file(alloc: Global, file: &File) -> Result<MemFile, Fail> {
-    let (path, text) = *file;
-    let root = if path.starts_with('+') { "s" } else { "r" };
-    let path = path.trim_start_matches('+');
-    Ok(MemFile {
-        root: word(alloc, root)?,
-        path: Name::new(String::from_str(alloc, path)?),
-        bytes: Bytes::new(text.as_bytes().to_vec(alloc)?),
-    })
-}
-
-fn mem_files(alloc: Global, files: &[File]) -> Result<Vec<MemFile>, Fail>
-    ensures { IfOk result (λ list. HasDistinctPaths list.items) }
-{
-    let mut list = Vec::new(alloc);
-    for file in files {
-        list.push(mem_file(alloc, file)?)?;
-    }
-    if has_distinct_paths(&list) {
-        Ok(list)
-    } else {
-        Err(Fail::from("two files of one path"))
-    }
-}
 
 // What is loaded from the root `r` and the root of stubs `s` of these files, where the call with that
 // number fails.
@@ -321,11 +288,7 @@ fn chain(alloc: Global) -> Result<Vec<MemFile>, Fail>
             bytes: Bytes::new(text.into_bytes()),
         })?;
     }
-    if has_distinct_paths(&list) {
-        Ok(list)
-    } else {
-        Err(Fail::from("two files of one path"))
-    }
+    distinct(list)
 }
 
 #[test]

@@ -2,12 +2,11 @@
 ghost use Rattle.std.specs.Prelude.{◌≡◌, IfErr, IfOk, IsErrOf, [], length, map};
 ghost use Rattle.std.specs.Option.{option_copied};
 ghost use Rattle.go_base.specs.Counters.{Rose};
-ghost use Rattle.go_model.specs.Loading.{LoadsModule};
-ghost use Rattle.go_model.specs.Module.{module_view};
+ghost use Rattle.go_load.specs.Loading.{LoadsModule};
+ghost use Rattle.go_module.specs.Modules.Module.{module_view};
 ghost use Rattle.go_load.specs.Made.{IsLoadFault, IsMade, IsMadeFault};
 
 use crate::assemble::module_of;
-use crate::broken_list::breaks_none;
 use crate::load_fault::LoadFault;
 use crate::packages::packages_of;
 use crate::packages_broken::broken_packages;
@@ -17,19 +16,21 @@ use crate::reading::{ReadModule, read_module};
 use crate::source_files::source_files;
 use crate::tree_heads::heads_of;
 use go_base::{Tree, Word};
-use go_model::Module;
+use go_module::{Module, breaks_none};
 use std::alloc::Global;
 
 /// The module whose files lie below `root`, with the stub packages below `stubs` that it reaches (Go
 /// specification, "Packages").
 ///
-/// The calls on the tree come in this order: the list of `root`; go.mod, where it is listed; where that
-/// breaks no rule, the list of `stubs`, and each Go file below `root` and then below `stubs`, in byte
-/// order of their paths. At most 16,777,217 bytes of a file are read.
-///
 /// Broken comes exactly where go.mod, the files by themselves, or imports and package clauses break a rule,
 /// with all rules of the first of these phases that breaks any; ReadFault only where the tree counted a
-/// fault in this call; NoMemory only where memory runs out, or the numbers of nodes do.
+/// fault in this call.
+///
+/// By tests alone, and by no clause: NoMemory comes only where memory runs out, the numbers of nodes do, or a
+/// file's copies of omitted lists would have more nodes than are made; and the calls on the tree come in this
+/// order: the list of `root`; go.mod, where it is listed; where that breaks no rule, the list of `stubs`, and
+/// each Go file below `root` and then below `stubs`, in byte order of their paths. At most 16,777,217 bytes of a
+/// file are read.
 pub fn load<T: Tree>(
     alloc: Global,
     tree: &mut T,

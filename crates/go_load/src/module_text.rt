@@ -2,19 +2,16 @@
 ghost use Rattle.std.specs.Prelude.{◌≡◌, None, Some, IfErr, IfOk, IsErrOf, nat_eq};
 ghost use Rattle.std.specs.Cmp.Lexicographic.{pointwise};
 ghost use Rattle.std.specs.List.{list_any};
-ghost use Rattle.go_model.specs.ModuleRules.{module_file_path};
+ghost use Rattle.go_mod.specs.ModuleRules.{module_file_path};
 ghost use Rattle.go_load.specs.Calls.{IsNoRule, Leaves};
 ghost use Rattle.go_load.specs.ModuleTexts.{IsFaultOf, IsModuleFault, IsModulePath, IsModuleRead, IsPathIn, IsTold};
 
-use crate::broken::broken_at;
 use crate::calls::read_file;
 use crate::load_fault::LoadFault;
-use crate::module_file::{ModuleFile, read_module_file};
 use crate::places::placed_list;
-use crate::rules::MISSING_MODULE_FILE;
-use crate::texts::Text;
 use go_base::{Broken, Bytes, Name, NoMemory, Tree, Word};
-use go_model::ordered;
+use go_mod::{MISSING_MODULE_FILE, ModuleFile, read_module_file};
+use go_module::{Text, broken_at, ordered};
 use std::alloc::Global;
 
 /// The path that go.mod names, where these are the paths of all files below the root: it is read where
@@ -93,7 +90,7 @@ fn missing(alloc: Global) -> Result<LoadFault, NoMemory>
     ensures broken { IfOk result (λ fault. IsFaultOf None fault) }
     ensures no_fault { IfOk result (λ fault. fault ≡ LoadFault.ReadFault → ⊥) }
 {
-    let list = ordered(vec![in alloc; broken_at(0, MISSING_MODULE_FILE)]?);
+    let list = ordered(vec![in alloc; broken_at(0, 0, MISSING_MODULE_FILE)]?);
     told(alloc, Bytes::new(Vec::new(alloc)), &list)
 }
 

@@ -1,19 +1,13 @@
 // What imports name.
 ghost use Rattle.std.specs.Prelude.{◌≡◌, [], ◌∷◌, ◌++◌, IfOk, OnOk};
-ghost use Rattle.go_model.specs.Packages.{is_marked, named, all_named, imports_at, imports_of};
+ghost use Rattle.go_graph.specs.Graph.{is_marked};
+ghost use Rattle.go_module.specs.Modules.Packages.{named, all_named, imports_at, imports_of};
 
 use crate::heads::{Head, Import};
-use crate::numbers::Numbers;
 use crate::path_set::PathSet;
 use go_base::NoMemory;
+use go_graph::{Numbers, is_marked};
 use std::alloc::Global;
-
-/// The flag at a place, and false where there is none.
-pub fn is_marked(marks: &[bool], place: usize) -> bool
-    ensures { result ≡ is_marked marks.now place }
-{
-    marks.get(place).copied().unwrap_or(false)
-}
 
 /// The package that a path names in an import of a stub, or of a package that is no stub; None
 /// exactly where it names none.

@@ -1,13 +1,14 @@
 // Package names that differ in one folder.
 ghost use Rattle.std.specs.Prelude.{◌≡◌, ◌++◌, ◌||◌, not, codes, OnOk, map};
 ghost use Rattle.std.specs.List.{list_any};
-ghost use Rattle.go_model.specs.Paths.{same_text};
-ghost use Rattle.go_model.specs.BrokenImports.{broken_at, mixed_package, name_at, name_place, is_mixed, broken_names};
+ghost use Rattle.go_module.specs.Modules.Paths.{same_text};
+ghost use Rattle.go_module.specs.Broken.{broken_at};
+ghost use Rattle.go_module.specs.Modules.BrokenImports.{mixed_package, name_at, name_place, is_mixed, broken_names};
 
 use crate::heads::Head;
 use crate::rules::PACKAGE_NAME;
 use go_base::{Broken, NoMemory};
-use go_model::broken_at;
+use go_module::broken_at;
 
 /// Adds what the package names of these files break.
 pub fn add_names(found: &mut Vec<Broken>, heads: &[Head], files: &[usize]) -> Result<(), NoMemory>

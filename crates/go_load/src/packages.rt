@@ -3,20 +3,20 @@ ghost use Rattle.std.specs.Prelude.{◌≡◌, ◌↔◌, ℕ, IfOk, length, map
 ghost use Rattle.std.specs.Cmp.Lexicographic.{slice_cmp};
 ghost use Rattle.std.specs.List.Sorted.{IsStrictlySortedBy};
 ghost use Rattle.std.specs.Ordering.{nat_cmp};
-ghost use Rattle.go_model.specs.Paths.{has_path};
-ghost use Rattle.go_model.specs.Packages.{files_of, imports_of, is_marked, IsTableOf, Reached};
+ghost use Rattle.go_module.specs.Modules.Paths.{has_path};
+ghost use Rattle.go_module.specs.Modules.Packages.{files_of, imports_of, IsTableOf, Reached};
+ghost use Rattle.go_graph.specs.Graph.{IsGraph, is_marked};
 
 use crate::columns::{imports, stubs};
 use crate::groups::groups;
 use crate::heads::Head;
 use crate::homes::{homes, own_paths};
-use crate::numbers::Numbers;
 use crate::path_list::path_list;
 use crate::path_set::PathSet;
 use crate::paths::ImportPath;
-use crate::reached_packages::reached;
 use crate::table::Packages;
 use go_base::NoMemory;
+use go_graph::{Numbers, reached};
 use std::alloc::Global;
 
 /// The packages that these files make: the files below the first root, whose module has this path, and
@@ -71,11 +71,38 @@ fn columns_of(
     let stubs = stubs(alloc, paths, own)?;
     let files = groups(alloc, homes, &places, paths.len())?;
     let imports = imports(alloc, &places, &stubs, heads, &files)?;
-    let reached = reached(alloc, &stubs, &imports)?;
+    let reached = reached_packages(alloc, &stubs, &imports)?;
     Ok(Columns {
         stubs,
         files,
         imports,
         reached,
     })
+}
+
+// Which packages are no stubs, or imported by a reached package.
+fn reached_packages(
+    alloc: Global,
+    stubs: &[bool],
+    imports: &[Numbers],
+) -> Result<Vec<bool>, NoMemory>
+    requires graph { IsGraph imports.now }
+    requires stubs { length stubs.now ≡ length imports.now }
+    ensures length { IfOk result (λ marks. length marks.items ≡ length imports.now) }
+    ensures exact { IfOk result (λ marks. (k : ℕ) → (is_marked marks.items k ≡ true)
+        ↔ Reached stubs.now imports.now k) }
+{
+    let own = own_packages(alloc, stubs)?;
+    reached(alloc, imports, &own)
+}
+
+// Which packages are no stubs.
+fn own_packages(alloc: Global, stubs: &[bool]) -> Result<Vec<bool>, NoMemory>
+    ensures { IfOk result (λ own. own.items ≡ map not stubs.now) }
+{
+    let mut own = Vec::new(alloc);
+    for stub in stubs {
+        own.push(!*stub)?;
+    }
+    Ok(own)
 }

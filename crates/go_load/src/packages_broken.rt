@@ -1,17 +1,16 @@
 // What packages break by their imports and their names.
 ghost use Rattle.std.specs.Prelude.{IfOk};
-ghost use Rattle.go_model.specs.BrokenImports.{AreBrokenPackages};
-ghost use Rattle.go_model.specs.Packages.{IsTableOf};
+ghost use Rattle.go_module.specs.Modules.BrokenImports.{AreBrokenPackages};
+ghost use Rattle.go_module.specs.Modules.Packages.{IsTableOf};
 
 use crate::cycles_broken::add_cyclic_imports;
 use crate::heads::Head;
-use crate::import_cycles::cyclic_imports;
-use crate::import_rows::import_rows;
 use crate::imports_broken::add_broken_imports;
 use crate::path_set::PathSet;
 use crate::table::Packages;
 use go_base::{Broken, NoMemory};
-use go_model::ordered;
+use go_graph::cyclic_edges;
+use go_module::ordered;
 use std::alloc::Global;
 
 /// What the imports and the package names of reached packages break: P1 at imports that name no package, P2
@@ -28,8 +27,7 @@ pub fn broken_packages(
     requires { IsTableOf module_path.now heads.now packages.now }
     ensures { IfOk result (λ list. AreBrokenPackages heads.now packages.now list.items) }
 {
-    let rows = import_rows(alloc, packages.imports())?;
-    let marks = cyclic_imports(alloc, &rows)?;
+    let marks = cyclic_edges(alloc, packages.imports())?;
     let places = PathSet::of(alloc, packages.paths())?;
     let mut found = Vec::new(alloc);
     add_broken_imports(&mut found, heads, packages, &places)?;

@@ -1,16 +1,14 @@
 // What the files of a module break by themselves, and their trees.
 ghost use Rattle.std.specs.Prelude.{◌≡◌, ◌+◌, [], IfErr, IfOk, OnOk, length};
 ghost use Rattle.go_tree.specs.Tree.{id_of, tree_of};
-ghost use Rattle.go_model.specs.Loading.{TextsBreak};
+ghost use Rattle.go_load.specs.Loading.{TextsBreak};
 ghost use Rattle.go_load.specs.Trees.{AddsText, AreParsed, AreWhole, IsTextsFault, next_number, trees_in};
 
-use crate::broken_list::breaks_none;
 use crate::load_fault::LoadFault;
 use crate::places::placed_list;
 use crate::source::{ReadSource, read_source};
-use crate::texts::Text;
 use go_base::NoMemory;
-use go_model::{Built, Placed};
+use go_module::{Placed, Text, breaks_none};
 use go_tree::{File, NodeId};
 use std::alloc::Global;
 
@@ -64,7 +62,6 @@ fn add_text(alloc: Global, text: &Text, number: usize, parsed: &mut Parsed) -> R
 {
     let read = read_source(
         alloc,
-        Built::Modules,
         text.path().as_bytes(),
         text.bytes(),
         number,

@@ -1,7 +1,7 @@
 // The paths of packages.
 ghost use Rattle.std.specs.Prelude.{◌≡◌, [], ◌∷◌, ◌++◌, IfOk, OnOk};
 ghost use Rattle.std.specs.List.{filter_map};
-ghost use Rattle.go_model.specs.Packages.{IsPathList};
+ghost use Rattle.go_module.specs.Modules.Packages.{IsPathList};
 
 use crate::paths::ImportPath;
 use go_base::NoMemory;

@@ -1,12 +1,11 @@
 // Broken rules with their places written out.
 ghost use Rattle.std.specs.Prelude.{◌≡◌, ◌≤◌, ◌++◌, IfOk, OnOk, length, map};
 ghost use Rattle.std.specs.List.{prefix_len};
-ghost use Rattle.go_model.specs.Loading.{empty_text, placed_among, placed_in};
+ghost use Rattle.go_module.specs.Places.{empty_text, placed_among, placed_in};
 ghost use Rattle.go_load.specs.Placing.{is_in, text_at};
 
-use crate::texts::Text;
 use go_base::{Broken, Bytes, Lines, Name, NoMemory};
-use go_model::{At, Placed};
+use go_module::{At, Placed, Text};
 use std::alloc::Global;
 
 /// The broken rules of one file, each at its line and column of the text.

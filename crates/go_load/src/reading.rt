@@ -7,11 +7,11 @@ ghost use Rattle.go_load.specs.Reading.{ReadsBroken, ReadsModule};
 ghost use Rattle.go_load.specs.ReadTexts.{Adds, AddsStubs, AreAllRead, AreBothRead, AreSomeStubFiles, IsTextRead};
 
 use crate::calls::{list_files, read_file};
-use crate::listing::go_files;
 use crate::load_fault::LoadFault;
 use crate::module_text::read_module_path;
-use crate::texts::Text;
 use go_base::{Bytes, Name, Tree, Word};
+use go_mod::go_files;
+use go_module::Text;
 use std::alloc::Global;
 
 /// What is read of a module: its path, and its Go files and behind them those of the stubs, each in the

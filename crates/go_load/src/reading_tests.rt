@@ -1,10 +1,10 @@
 // The calls on a tree by which a module is read, in their order.
-ghost use Rattle.std.specs.Prelude.{Some, IfOk};
-ghost use Rattle.go_base.specs.Tree.{HasDistinctPaths};
+ghost use Rattle.std.specs.Prelude.{Some};
 
 use crate::load_fault::LoadFault;
+use crate::mem_trees::{File, GO_MOD, mem_files, word};
 use crate::reading::read_module;
-use go_base::{Bytes, MemFile, Name, SureTree, Tree, TreeFault, Word, has_distinct_paths};
+use go_base::{Bytes, Name, SureTree, Tree, TreeFault, Word};
 use std::alloc::Global;
 use std::test::Fail;
 
@@ -44,31 +44,6 @@ impl Tree for LoggedTree {
     ghost distinct = { λ logged. logged.tree.distinct };
 }
 
-// A file: its root, its path and its text.
-type File = (&'static str, &'static str, &'static str);
-
-fn word(alloc: Global, text: &str) -> Result<Word, Fail> {
-    Ok(Word::new(String::from_str(alloc, text)?))
-}
-
-fn mem_files(alloc: Global, files: &[File]) -> Result<Vec<MemFile>, Fail>
-    ensures { IfOk result (λ list. HasDistinctPaths list.items) }
-{
-    let mut list = Vec::new(alloc);
-    for (root, path, text) in files {
-        list.push(MemFile {
-            root: word(alloc, root)?,
-            path: Name::new(String::from_str(alloc, path)?),
-            bytes: Bytes::new(text.as_bytes().to_vec(alloc)?),
-        })?;
-    }
-    if has_distinct_paths(&list) {
-        Ok(list)
-    } else {
-        Err(Fail::from("two files of one path"))
-    }
-}
-
 // The calls by which these files are read, and behind them what came of it.
 fn calls(alloc: Global, files: &[File], stubs: Option<&Word>) -> Result<String, Fail> {
     let tree = SureTree::new(mem_files(alloc, files)?);
@@ -85,16 +60,14 @@ fn calls(alloc: Global, files: &[File], stubs: Option<&Word>) -> Result<String, 
     Ok(tree.log)
 }
 
-const GO_MOD: File = ("r", "go.mod", "module m\n\ngo 1.21\n");
-
 const WHOLE: &[File] = &[
-    ("s", "y/b.go", ""),
-    ("r", "b.go", ""),
-    ("s", "go.mod", "module s\ngo 1.21\n"),
-    ("s", "x/a.go", ""),
+    ("+y/b.go", ""),
+    ("b.go", ""),
+    ("+go.mod", "module s\ngo 1.21\n"),
+    ("+x/a.go", ""),
     GO_MOD,
-    ("r", "c_test.go", ""),
-    ("r", "a/c.go", ""),
+    ("c_test.go", ""),
+    ("a/c.go", ""),
 ];
 
 #[test]
@@ -104,12 +77,12 @@ fn calls_have_their_order(rt: HostRuntime) -> Result<(), Fail> {
     let rows: [(&[File], Option<&Word>, &str); 5] = [
         (&[], Some(&stubs), "list r;broken"),
         (
-            &[("r", "go.mod", "module m\n"), ("r", "a.go", "")],
+            &[("go.mod", "module m\n"), ("a.go", "")],
             Some(&stubs),
             "list r;read r/go.mod 16777217;broken",
         ),
         (
-            &[GO_MOD, ("s", "x/a.go", "")],
+            &[GO_MOD, ("+x/a.go", "")],
             None,
             "list r;read r/go.mod 16777217;read",
         ),

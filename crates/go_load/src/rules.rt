@@ -1,23 +1,5 @@
-// The rules that a module breaks before its packages are checked, in the order of their table.
+// The rules on files, imports and package clauses, in the order of their table.
 use go_base::{Family, Rule};
-
-/// A root without go.mod.
-pub const MISSING_MODULE_FILE: Rule = Rule {
-    family: Family::M,
-    number: 1,
-};
-
-/// Not exactly one line of go.mod that names the module by a well-formed path.
-pub const MODULE_LINE: Rule = Rule {
-    family: Family::M,
-    number: 2,
-};
-
-/// Not exactly one line of go.mod that names a version of Go.
-pub const GO_LINE: Rule = Rule {
-    family: Family::M,
-    number: 3,
-};
 
 /// An import whose path is empty or names no package (Go specification, "Import declarations").
 pub const MISSING_PACKAGE: Rule = Rule {
@@ -36,12 +18,6 @@ pub const CYCLIC_IMPORT: Rule = Rule {
 pub const PACKAGE_NAME: Rule = Rule {
     family: Family::P,
     number: 3,
-};
-
-/// A version of Go other than 1.21 in go.mod.
-pub const OTHER_VERSION: Rule = Rule {
-    family: Family::U,
-    number: 1,
 };
 
 /// A path of a file with a byte other than ASCII letters, digits and `-._~+/`.

@@ -1,10 +1,10 @@
 // Files that are still to be put into packages: they stand at their numbers until they are taken.
 ghost use Rattle.std.specs.Prelude.{◌≡◌, ◌++◌, IfOk, None, OnOk, Some, map, option_map, option_to_list, slice_set};
-ghost use Rattle.go_model.specs.Module.{file_view};
+ghost use Rattle.go_module.specs.Modules.Module.{file_view};
 ghost use Rattle.go_load.specs.Assembly.{cleared, files_left, slot_at, taken};
 
 use go_base::NoMemory;
-use go_model::SourceFile;
+use go_module::SourceFile;
 use std::alloc::Global;
 
 /// A slot for each file, with the file in it.

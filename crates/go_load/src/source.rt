@@ -2,19 +2,16 @@
 ghost use Rattle.std.specs.Prelude.{false, IfOk};
 ghost use Rattle.go_tree.specs.Scan.{Gap};
 ghost use Rattle.go_tree.specs.Tree.{start_of, tree_of};
-ghost use Rattle.go_model.specs.Sources.{AreBrokenWith};
+ghost use Rattle.go_load.specs.Sources.{AreBrokenWith};
 ghost use Rattle.go_load.specs.ReadSources.{IsOneBroken, IsSource};
 
-use crate::broken::broken_at;
-use crate::broken_list::breaks_none;
-use crate::fault::broken_by;
-use crate::form::whole::broken_forms;
-use crate::path_parts::is_plain_path;
 use crate::rules::{LARGE_FILE, SPECIAL_FILE_PATH};
 use go_base::{Broken, NoMemory};
-use go_model::{Built, ordered};
+use go_form::{broken_by, broken_forms};
+use go_mod::is_plain_path;
+use go_module::{breaks_none, broken_at, ordered};
 use go_parse_s::parse_file;
-use go_tree::{File, NodeId};
+use go_tree::{File, Node, NodeId};
 use std::alloc::Global;
 
 /// The most bytes that a file may have.
@@ -27,25 +24,24 @@ pub enum ReadSource {
     Broken(Vec<Broken>),
 }
 
-/// What the file with that path and these bytes breaks by itself, where these forms are built; its tree
-/// where that is nothing. The numbers of the tree's nodes run on from `first`.
+/// What the file with that number, that path and these bytes breaks by itself; its tree where that is
+/// nothing. The numbers of the tree's nodes run on from `first`.
 pub fn read_source(
     alloc: Global,
-    built: Built,
     path: &[u8],
     bytes: &[u8],
     number: usize,
     first: NodeId,
 ) -> Result<ReadSource, NoMemory>
-    ensures { IfOk result (λ read. IsSource built path.now bytes.now number first.0 read) }
+    ensures { IfOk result (λ read. IsSource path.now bytes.now number first.0 read) }
 {
     if bytes.len() > MOST_BYTES {
-        return one_broken(alloc, broken_at(0, LARGE_FILE));
+        return one_broken(alloc, broken_at(number, 0, LARGE_FILE));
     }
     match parse_file(alloc, bytes, number, first) {
-        Err(fault) => one_broken(alloc, broken_by(fault)?),
+        Err(fault) => one_broken(alloc, broken_by(number, fault)?),
         Ok(file) => {
-            let list = broken_with(alloc, built, path, bytes, &file)?;
+            let list = broken_with(alloc, path, bytes, number, &file.root)?;
             if breaks_none(&list) {
                 Ok(ReadSource::Whole(file))
             } else {
@@ -65,18 +61,18 @@ fn one_broken(alloc: Global, broken: Broken) -> Result<ReadSource, NoMemory>
 // What a file with that tree breaks by its path and its form.
 fn broken_with(
     alloc: Global,
-    built: Built,
     path: &[u8],
     bytes: &[u8],
-    file: &File,
+    number: usize,
+    root: &Node,
 ) -> Result<Vec<Broken>, NoMemory>
-    requires { Gap false bytes.now 0 (start_of (tree_of file.now.root)) }
-    ensures { IfOk result (λ list. AreBrokenWith built path.now bytes.now (tree_of file.now.root) list.items) }
+    requires { Gap false bytes.now 0 (start_of (tree_of root.now)) }
+    ensures { IfOk result (λ list. AreBrokenWith number path.now bytes.now (tree_of root.now) list.items) }
 {
-    let mut list = broken_forms(alloc, built, bytes, &file.root)?;
+    let mut list = broken_forms(alloc, number, bytes, root)?;
     if is_plain_path(path) {
         return Ok(list);
     }
-    list.push(broken_at(0, SPECIAL_FILE_PATH))?;
+    list.push(broken_at(number, 0, SPECIAL_FILE_PATH))?;
     Ok(ordered(list))
 }

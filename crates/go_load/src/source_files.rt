@@ -1,12 +1,11 @@
 // The files of a module, of their texts and trees.
 ghost use Rattle.std.specs.Prelude.{◌≡◌, ◌++◌, IfOk, OnOk, length, map};
-ghost use Rattle.go_model.specs.Module.{file_view, files_from};
+ghost use Rattle.go_module.specs.Modules.Module.{file_view, files_from};
 ghost use Rattle.go_load.specs.SourceFiles.{file_if, file_with, joined};
 ghost use Rattle.go_load.specs.Trees.{AreNumbered, trees_in};
 
-use crate::texts::Text;
 use go_base::NoMemory;
-use go_model::SourceFile;
+use go_module::{SourceFile, Text};
 use go_tree::File;
 use std::alloc::Global;
 

@@ -4,8 +4,8 @@ ghost use Rattle.std.specs.Cmp.Lexicographic.{slice_cmp};
 ghost use Rattle.std.specs.List.Sorted.{IsStrictlySortedBy};
 ghost use Rattle.std.specs.Ordering.{nat_cmp};
 
-use crate::numbers::Numbers;
 use crate::paths::ImportPath;
+use go_graph::Numbers;
 use std::marker::Model;
 
 /// The packages of a module and of its stubs, in ascending order of their paths. A package is known by
@@ -23,7 +23,7 @@ impl Model for Packages {
     ghost use Rattle.std.specs.Cmp.Lexicographic.{slice_cmp};
     ghost use Rattle.std.specs.List.Sorted.{IsStrictlySortedBy};
     ghost use Rattle.std.specs.Ordering.{nat_cmp};
-    ghost use Rattle.go_model.specs.Packages.{PackageTable};
+    ghost use Rattle.go_module.specs.Modules.Packages.{PackageTable};
 
     ghost Value = { PackageTable };
 

@@ -1,15 +1,14 @@
 // The heads of files, from their trees (Go specification, "Package clause", "Import declarations").
 ghost use Rattle.std.specs.Prelude.{◌≡◌, ◌∷◌, [], IfOk, OnOk, length, map};
 ghost use Rattle.go_tree.specs.Tree.{tree_of};
-ghost use Rattle.go_model.specs.Heads.{IsHeadOf, IsImportOf, AreImports, specs_in, import_specs};
-ghost use Rattle.go_model.specs.Module.{AreHeads};
+ghost use Rattle.go_module.specs.Modules.Heads.{IsHeadOf, IsImportOf, AreImports, specs_in, import_specs};
+ghost use Rattle.go_module.specs.Modules.Module.{AreHeads};
 ghost use Rattle.go_load.specs.Trees.{AddsImports, trees_in};
 
 use crate::heads::{Head, Import};
 use crate::import_strings::import_path_of;
-use crate::texts::Text;
 use go_base::{Bytes, NoMemory};
-use go_model::{first_part, last_part, part_list};
+use go_module::{Text, first_part, last_part, part_list};
 use go_tree::{File, Node, NodeKind};
 use std::alloc::Global;
 

@@ -1,5 +1,5 @@
 -- What stays of a test as the map of headers grows.
-use Rattle.std.proofs.Common.{◌≡◌, ℕ, ℤ, Bool, Option, Some, None, List, refl, ap, ◌∙◌, subst}
+use Rattle.std.proofs.Common.{◌≡◌, ℕ, ℤ, Bool, Option, Some, None, refl, ap, ◌∙◌, subst}
 use Rattle.std.specs.Option.{option_map}
 use Rattle.go_tree.specs.declared.node_kind.NodeKind.TheVariants.{AddExpr, SelectorExpr}
 use Rattle.go_tree.specs.Tree.{Tree, branch, no_trees, more_trees, id_of}

@@ -1,13 +1,4 @@
-pub mod AscendingLemmas
-pub mod BrokenListLemmas
 pub mod HeaderLemmas
 pub mod LawLemmas
-pub mod NameLemmas
 pub mod OneReportLemmas
-pub mod OrderLemmas
-pub mod PartLemmas
 pub mod QuestLemmas
-pub mod WholeLemmas
-pub mod MemberLemmas
-pub mod TableLemmas
-pub mod UniverseLemmas

@@ -4,10 +4,10 @@
 use Rattle.std.specs.Prelude.{ℕ, ◌+◌, ◌==◌, if◌then◌else◌, List, [], ◌∷◌, ◌++◌, length, map, Option, None, Some}
 use Rattle.std.specs.List.{flat_map}
 use Rattle.go_tree.specs.Tree.{Tree, id_of, list_of, parts_of}
-use Rattle.go_model.specs.declared.object.ObjId.{ObjId}
-use Rattle.go_model.specs.Module.{FileData, PackageData}
-use Rattle.go_model.specs.NodeParts.{last_part}
-use Rattle.go_model.specs.Names.Constants.{const_specs, names_in_spec}
+use Rattle.go_module.specs.declared.object.ObjId.{ObjId}
+use Rattle.go_module.specs.Modules.Module.{FileData, PackageData}
+use Rattle.go_module.specs.NodeParts.{last_part}
+use Rattle.go_module.specs.Names.Constants.{const_specs, names_in_spec}
 
 -- a constant: the place of its file among the files of its package; the identifier that declares it, which
 -- may be blank; the expressions that its value rests on; and the one whose value it has

@@ -2,7 +2,7 @@
 use Rattle.std.specs.Prelude.{ℕ, List, map}
 use Rattle.go_model.specs.declared.meaning.Meaning.{Meaning}
 use Rattle.go_model.specs.Constants.{Constant}
-use Rattle.go_model.specs.Graph.{Graph}
+use Rattle.go_graph.specs.Graph.{Graph}
 use Rattle.go_model.specs.Records.{Headers}
 use Rattle.go_model.specs.Waiting.{lacked_by}
 

@@ -7,12 +7,12 @@ use Rattle.indexmap.specs.IndexMap.{insert_all}
 use Rattle.go_tree.specs.declared.node.NodeId.{NodeId}
 use Rattle.go_model.specs.declared.meaning.Meaning.{Meaning}
 use Rattle.go_model.specs.declared.meaning.Meaning.TheVariants.{Own, Outer, Predeclared, Other}
-use Rattle.go_model.specs.declared.object.ObjId.{ObjId}
+use Rattle.go_module.specs.declared.object.ObjId.{ObjId}
 use Rattle.go_model.specs.Constants.{constants_of, numbers_of}
-use Rattle.go_model.specs.Module.{ModuleData, PackageData, first_number}
-use Rattle.go_model.specs.Scopes.{same_node, same_object}
-use Rattle.go_model.specs.Names.Imports.{known_in}
-use Rattle.go_model.specs.Names.Tables.{uses_of}
+use Rattle.go_module.specs.Modules.Module.{ModuleData, PackageData, first_number}
+use Rattle.go_module.specs.Scopes.{same_node, same_object}
+use Rattle.go_module.specs.Names.Imports.{known_in}
+use Rattle.go_module.specs.Names.Tables.{uses_of}
 
 -- the values of the constants of packages that are accepted, each by the number of its object
 abbrev pub KnownValues : Type 0

@@ -13,24 +13,25 @@ use Rattle.go_term.specs.declared.term.Term.{Term}
 use Rattle.go_term.specs.declared.term.Term.TheVariants.{Basic}
 use Rattle.go_tree.specs.declared.node.NodeId.{NodeId}
 use Rattle.go_tree.specs.declared.node_kind.NodeKind.TheVariants.{SelectorExpr}
-use Rattle.go_tree.specs.Tree.{Tree, branch, Trees, no_trees, more_trees, parts_of, id_of, start_of, end_of}
-use Rattle.go_model.specs.declared.block.Occurrence.{Occurrence}
-use Rattle.go_model.specs.declared.block.Selected.{Selected}
+use Rattle.go_tree.specs.Tree.{Tree, branch, Trees, no_trees, more_trees, parts_of, start_of}
+use Rattle.go_module.specs.declared.block.Occurrence.{Occurrence}
+use Rattle.go_module.specs.declared.block.Selected.{Selected}
 use Rattle.go_model.specs.declared.meaning.Meaning.{Meaning}
-use Rattle.go_model.specs.declared.object.ObjId.{ObjId}
+use Rattle.go_module.specs.declared.object.ObjId.{ObjId}
 use Rattle.go_model.specs.declared.rec.Mode.TheVariants.{Const as ConstMode}
 use Rattle.go_model.specs.declared.records.DefKind.TheVariants.{Const, Package}
 use Rattle.go_model.specs.declared.records.Line.{Line}
 use Rattle.go_model.specs.declared.records.What.TheVariants.{Def, Used, Expr}
-use Rattle.go_model.specs.declared.report.At.{At}
+use Rattle.go_module.specs.declared.places.At.{At}
 use Rattle.go_model.specs.Constants.{Constant, constants_in_file, values_in_spec}
-use Rattle.go_model.specs.Module.{FileData, PackageData, ModuleData}
-use Rattle.go_model.specs.Places.{at_offset, declarations}
+use Rattle.go_module.specs.Modules.Module.{FileData, PackageData, ModuleData}
+use Rattle.go_module.specs.Places.{at_offset}
+use Rattle.go_model.specs.Declarations.{declarations}
 use Rattle.go_model.specs.Records.{Headers, record_of, value_over}
-use Rattle.go_model.specs.Scopes.{same_object}
-use Rattle.go_model.specs.Names.Constants.{const_specs, name_text}
-use Rattle.go_model.specs.Names.Imports.{Importing, imports_of, is_dot}
-use Rattle.go_model.specs.Names.Occurrences.{occurrences_in_file}
+use Rattle.go_module.specs.Scopes.{same_object}
+use Rattle.go_module.specs.Names.Constants.{const_specs, name_text}
+use Rattle.go_module.specs.Names.Imports.{Importing, imports_of, is_dot}
+use Rattle.go_module.specs.Names.Occurrences.{occurrences_in_file}
 
 -- the type of each constant
 abbrev pub untyped_int : Term

@@ -1,7 +1,8 @@
 -- The phases of the check of a module whose files are read; Package initialization (Go specification).
 -- Decides which report a module has. The packages are taken in import order; of each the first phase that
--- breaks a rule ends it, names before values. What the phases before break: `Loading`; names: `Names`; values:
--- `Rules`; the lines of an accepted package: `PackageLines`.
+-- breaks a rule ends it, names before values. What the phases before break: `Loading` of go_load; names:
+-- `Names` of go_module; values: `Rules`; the lines of an accepted package: `PackageLines`. Files are known by
+-- their numbers, which differ in each module that is loaded.
 use Rattle.std.specs.Prelude.{◌≡◌, ℕ, ℤ, ◌+◌, ◌↔◌, Bool, true, false, Some, List, [], ◌∷◌, ◌++◌, map}
 use Rattle.std.specs.List.{flat_map, list_all}
 use Rattle.std.specs.Map.{lookup}
@@ -9,23 +10,23 @@ use Rattle.std.specs.Option.{option_map_or}
 use Rattle.indexmap.specs.IndexMap.{insert_all}
 use Rattle.go_base.specs.declared.rule.Broken.{Broken}
 use Rattle.go_model.specs.declared.meaning.Meaning.{Meaning}
-use Rattle.go_model.specs.declared.object.ObjId.{ObjId}
+use Rattle.go_module.specs.declared.object.ObjId.{ObjId}
 use Rattle.go_model.specs.declared.records.Line.{Line}
 use Rattle.go_model.specs.Constants.{Constant, constants_of, number_of}
-use Rattle.go_model.specs.FormRules.Order.{IsListOf}
+use Rattle.go_module.specs.Order.{IsListOf}
 use Rattle.go_model.specs.Headers.{Known}
 use Rattle.go_model.specs.Meaning.{KnownValues, meaning_in, uses_table}
-use Rattle.go_model.specs.Module.{ModuleData, PackageData}
+use Rattle.go_module.specs.Modules.Module.{ModuleData, PackageData}
 use Rattle.go_model.specs.PackageLines.{lines_of, outline_of}
-use Rattle.go_model.specs.Packages.{is_marked}
-use Rattle.go_model.specs.Places.{placed_by}
+use Rattle.go_graph.specs.Graph.{is_marked}
+use Rattle.go_module.specs.Places.{placed_by}
 use Rattle.go_model.specs.Records.{Headers, value_over}
 use Rattle.go_model.specs.Report.{VerdictData, accepted, refused, skipped, PackageReportData, ReportData}
 use Rattle.go_model.specs.Rules.{broken_values}
-use Rattle.go_model.specs.Scopes.{same_node, same_object}
+use Rattle.go_module.specs.Scopes.{same_node, same_object}
 use Rattle.go_model.specs.Waiting.{Chain}
-use Rattle.go_model.specs.Names.BrokenNames.{broken_names}
-use Rattle.go_model.specs.Names.Imports.{known_in}
+use Rattle.go_module.specs.Names.BrokenNames.{broken_names}
+use Rattle.go_module.specs.Names.Imports.{known_in}
 
 -- the headers of a package's constants, and which of them wait for themselves
 pub record HasHeaders (means : ℕ → Meaning) (constants : List Constant) (headers : Headers) (cyclic : ℕ → Bool) : Type 0 where

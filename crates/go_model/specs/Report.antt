@@ -3,7 +3,7 @@
 use Rattle.std.specs.Prelude.{ℕ, List, map}
 use Rattle.go_model.specs.declared.records.Line.{Line}
 use Rattle.go_model.specs.declared.report.PackageReport.{PackageReport}
-use Rattle.go_model.specs.declared.report.Placed.{Placed}
+use Rattle.go_module.specs.declared.places.Placed.{Placed}
 use Rattle.go_model.specs.declared.report.Report.{Report}
 use Rattle.go_model.specs.declared.report.Verdict.{Verdict}
 use Rattle.go_model.specs.declared.report.Verdict.TheVariants.{Accepted, Refused, Skipped}

@@ -1,29 +1,25 @@
 -- The rules that the values of constants can break.
 -- Decides where the constants of a package break them, one definition a rule: C1, R37, U0, L2. Which constant
--- waits for which: `Waiting`. Rules on names: `Names`; the form of a file: `FormRules`.
-use Rattle.std.specs.Prelude.{ℕ, ◌+◌, ◌==◌, ◌&&◌, Bool, true, false, not, is_some, Option, Some, None, List, [], ◌∷◌, ◌++◌, length}
+-- waits for which: `Waiting`. Rules on names: `Names` of go_module; the form of a
+-- file: go_form.
+use Rattle.std.specs.Prelude.{ℕ, ◌+◌, ◌==◌, ◌&&◌, Bool, true, false, not, is_some, Option, Some, None, List, [], ◌∷◌, ◌++◌, length, map}
 use Rattle.std.specs.List.{flat_map, list_all}
 use Rattle.go_base.specs.declared.rule.Broken.{Broken}
 use Rattle.go_base.specs.declared.rule.Rule.{Rule}
-use Rattle.go_base.specs.declared.rule.Family.TheVariants.{P, C, R, L}
+use Rattle.go_base.specs.declared.rule.Family.TheVariants.{C, R, L}
 use Rattle.go_tree.specs.declared.node_kind.NodeKind.{NodeKind}
 use Rattle.go_tree.specs.declared.node_kind.NodeKind.TheVariants.{IntLit, AddExpr, SelectorExpr}
 use Rattle.go_tree.specs.Tree.{Tree, branch, Trees, no_trees, more_trees, start_of}
 use Rattle.go_model.specs.declared.meaning.Meaning.{Meaning}
-use Rattle.go_model.specs.BrokenImports.{broken_at, told_if}
+use Rattle.go_module.specs.Broken.{broken_at, told_if}
 use Rattle.go_model.specs.Constants.{Constant, constants_of, values_in_spec}
-use Rattle.go_model.specs.FormRules.RuleNames.{unbuilt_form_rule}
-use Rattle.go_model.specs.Module.{FileData, PackageData}
-use Rattle.go_model.specs.Names.Constants.{const_specs, names_in_spec}
+use Rattle.go_module.specs.Places.{with_number}
+use Rattle.go_module.specs.Rules.{unbuilt_form}
+use Rattle.go_module.specs.Modules.Module.{FileData, PackageData}
+use Rattle.go_module.specs.Names.Constants.{const_specs, names_in_spec}
 use Rattle.go_model.specs.Quests.{Asked, Decided, Lacks}
 use Rattle.go_model.specs.Records.{Headers, record_of}
 use Rattle.go_model.specs.Tests.{asked_of}
-
-abbrev pub repeated_name : Rule
-repeated_name = record { family = P; number = 4 }
-
-abbrev pub undeclared_name : Rule
-undeclared_name = record { family = P; number = 7 }
 
 abbrev pub cyclic_declaration : Rule
 cyclic_declaration = record { family = C; number = 1 }
@@ -48,7 +44,7 @@ broken_cycles cyclic d (constant ∷ constants) = cyclic_at (cyclic d) constant 
 abbrev pub rule_at : NodeKind → Rule
 rule_at IntLit = wide_integer
 rule_at AddExpr = wide_integer
-rule_at kind = unbuilt_form_rule
+rule_at kind = unbuilt_form
 
 abbrev pub told_at : ℕ → ℕ → Rule → Option (Asked Bool) → List Broken
 told_at file from rule None = []
@@ -84,6 +80,10 @@ abbrev pub broken_specs : ℕ → (ℕ → Meaning) → Headers → List FileDat
 broken_specs file means headers [] = []
 broken_specs file means headers (f ∷ files) = flat_map (broken_spec file means headers) (const_specs f.tree) ++ broken_specs (file + 1) means headers files
 
+-- what the values of a package break, by the places of its files
+abbrev pub broken_in_files : (ℕ → Meaning) → Headers → (ℕ → Bool) → PackageData → List Broken
+broken_in_files means headers cyclic p = broken_cycles cyclic 0 (constants_of p) ++ broken_specs 0 means headers p.files
+
 -- what the values of a package break, in any order
 abbrev pub broken_values : (ℕ → Meaning) → Headers → (ℕ → Bool) → PackageData → List Broken
-broken_values means headers cyclic p = broken_cycles cyclic 0 (constants_of p) ++ broken_specs 0 means headers p.files
+broken_values means headers cyclic p = map (with_number p.files) (broken_in_files means headers cyclic p)

@@ -5,7 +5,7 @@ ghost use Rattle.go_tree.specs.Tree.{Tree};
 ghost use Rattle.go_model.specs.Quests.{IsPart, Quest, Stays, run};
 ghost use Rattle.go_model.specs.declared.meaning.Meaning.{Meaning};
 ghost use Rattle.go_model.specs.Constants.{Constant};
-ghost use Rattle.go_model.specs.Module.{ModuleData};
+ghost use Rattle.go_module.specs.Modules.Module.{ModuleData};
 ghost use Rattle.go_model.specs.Records.{Headers};
 ghost use Rattle.go_model.specs.Phases.{ReportOf};
 ghost use Rattle.go_model.specs.Report.{ReportData};

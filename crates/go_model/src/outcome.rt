@@ -1,7 +1,7 @@
 // What a question and an expression come to while some headers may be missing.
-use crate::object::ObjId;
 use crate::rec::Rec;
 use go_base::Rule;
+use go_module::ObjId;
 
 /// The answer to a question; Unknown with the first header that it lacks.
 #[derive(Clone, Copy, Debug, PartialEq, Eq)]

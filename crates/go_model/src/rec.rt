@@ -1,5 +1,5 @@
 // Records: what is known of an expression.
-use crate::object::ObjId;
+use go_module::ObjId;
 use go_num::Value;
 use go_term::Ty;
 

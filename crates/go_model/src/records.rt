@@ -1,8 +1,7 @@
 // The lines of an accepted package.
-use crate::object::ObjId;
 use crate::rec::Mode;
-use crate::report::At;
 use go_base::{LineCol, Name};
+use go_module::{At, ObjId};
 use go_num::Value;
 use go_term::Term;
 

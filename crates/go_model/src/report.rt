@@ -1,23 +1,7 @@
 // Reports of modules. Every place is written out, so that a report needs no module to be read.
 use crate::records::Records;
-use go_base::{Name, Rule};
-
-/// A place: whether its file lies below the root of stubs, the file's path below its root, and the line
-/// and the column, in bytes, both from 1.
-#[derive(Debug, Drop)]
-pub struct At {
-    pub stub: bool,
-    pub file: Name,
-    pub line: usize,
-    pub col: usize,
-}
-
-/// A broken rule and its place.
-#[derive(Debug, Drop)]
-pub struct Placed {
-    pub at: At,
-    pub rule: Rule,
-}
+use go_base::Name;
+use go_module::Placed;
 
 /// The report of a module: its path, the second number of its version of Go, and either the rules that it
 /// breaks before its packages are checked, or a report of each package, in import order.

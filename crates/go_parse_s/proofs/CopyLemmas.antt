@@ -7,7 +7,7 @@ use Rattle.go_tree.specs.declared.node.Node.TheViews.{out-Node}
 use Rattle.go_tree.proofs.TreeLemmas.{tree_of-out}
 use Rattle.go_tree.specs.declared.node.Node.TheFolds.{fold-roll-Node}
 use Rattle.go_tree.specs.Tree.{Tree, Trees, branch, no_trees, more_trees, tree_step, tree_of, trees_of, list_of, end_of}
-use Rattle.go_parse_s.specs.Copies.{last_end, copy_if_any, with_copies, all_with_copies, specs_with_copies, completed, list_behind}
+use Rattle.go_text.specs.Copies.{last_end, copy_if_any, with_copies, all_with_copies, specs_with_copies, completed, list_behind}
 use Rattle.go_parse_s.proofs.WalkLemmas.{trees_behind}
 
 -- a part by itself
@@ -48,7 +48,7 @@ last_end_is t (more_trees u us) = last_end_is u us
 pub opened : (n : Node) → tree_of n ≡ branch (out-Node n).id.0 (out-Node n).start (out-Node n).end (out-Node n).kind (out-Node n).text (trees_of (map tree_of (out-Node n).parts.items))
 opened n = tree_of-out n
 
-trees_of-list_of : (ts : Trees) → trees_of (list_of ts) ≡ ts
+pub trees_of-list_of : (ts : Trees) → trees_of (list_of ts) ≡ ts
 trees_of-list_of no_trees = refl
 trees_of-list_of (more_trees t ts) = ap (λ us. more_trees t us) (trees_of-list_of ts)
 

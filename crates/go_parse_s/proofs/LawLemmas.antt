@@ -5,21 +5,19 @@ use Rattle.go_tree.specs.declared.token.Token.{Token}
 use Rattle.go_tree.specs.declared.token.TokenKind.{TokenKind}
 use Rattle.go_tree.specs.declared.token.TokenKind.TheVariants.{End}
 use Rattle.go_tree.specs.declared.production.Production.TheVariants.{File}
-use Rattle.go_tree.specs.Height.{height_of}
-use Rattle.go_tree.specs.Scan.{ScanFrom, IsNext}
+use Rattle.go_tree.specs.Height.{height_of, AllFit}
+use Rattle.go_tree.specs.Scan.{ScanFrom, IsNext, Stand}
 use Rattle.go_tree.specs.Tree.{Tree}
 use Rattle.go_tree.specs.Grammar.Sentence.{Derives, Begins}
 use Rattle.go_tree.proofs.SentenceLemmas.{one_tree_lem}
 use Rattle.go_scan.proofs.NextLemmas.{one_next}
 use Rattle.go_scan.proofs.ScanLemmas.{Head, head_of, one_scan}
-use Rattle.go_parse_x.specs.declared.fault.ParseFault.{ParseFault}
-use Rattle.go_parse_x.specs.declared.fault.ParseFault.TheVariants.{Lexical, Syntax, High, NoMemory}
-use Rattle.go_parse_x.specs.Answers.{Spot}
-use Rattle.go_parse_x.specs.Pieces.{AllFit}
-use Rattle.go_parse_x.specs.Texts.{Stand}
-use Rattle.go_parse_s.specs.Files.{most_height, IsSyntaxAt, IsHighAt, IsWrong, IsFaultOf, IsFileOf}
-use Rattle.go_parse_s.specs.Copies.{with_copies}
-use Rattle.go_parse_s.specs.Numbers.{numbered}
+use Rattle.go_text.specs.declared.fault.ParseFault.{ParseFault}
+use Rattle.go_text.specs.declared.fault.ParseFault.TheVariants.{Lexical, Syntax, High, NoMemory}
+use Rattle.go_text.specs.Faults.{Spot, IsSyntaxAt, IsHighAt, IsWrong, IsFaultOf}
+use Rattle.go_text.specs.Files.{most_height, IsFileOf}
+use Rattle.go_text.specs.Copies.{with_copies}
+use Rattle.go_text.specs.Numbers.{numbered}
 use Rattle.go_parse_s.proofs.LexicalLemmas.{one_lex}
 
 -- ---- the tokens of a text from a place on

@@ -5,23 +5,20 @@ use Rattle.std.proofs.Math.ListN.{get_or-append}
 use Rattle.std.proofs.lemmas.Bool.{cases_order, and_parts}
 use Rattle.std.proofs.lemmas.List.{take_all}
 use Rattle.go_base.specs.declared.rule.Rule.{Rule}
-use Rattle.go_base.specs.declared.rules.TheConstants.{FORBIDDEN_BYTE, MISSING_TOKEN}
 use Rattle.go_tree.specs.declared.token.TokenKind.{TokenKind}
-use Rattle.go_tree.specs.Characters.{is_allowed, IsForbidden}
+use Rattle.go_tree.specs.Characters.{is_allowed, IsForbidden, Ends}
 use Rattle.go_tree.specs.Comments.{in_line_comment, in_general_comment}
-use Rattle.go_tree.specs.Faults.{CanGoOn, line, general, raw, string, string_escape, rune, rune_escape, rune_closes, IsEscapeFront, IsForbiddenByte, IsMissingToken}
+use Rattle.go_tree.specs.Faults.{CanGoOn, line, general, raw, string, string_escape, rune, rune_escape, rune_closes, IsEscapeFront, forbidden_byte, missing_token, IsForbiddenByte, IsMissingToken, IsLex}
 use Rattle.go_tree.specs.Literals.{in_raw, is_escape}
-use Rattle.go_scan.specs.declared.next_token.Lex.{Lex}
+use Rattle.go_tree.specs.declared.lex.Lex.{Lex}
 use Rattle.go_scan.specs.Escapes.{IsQuote, NoCharacter}
 use Rattle.go_scan.specs.Reading.{IsStuck}
-use Rattle.go_scan.specs.Runs.{Ends}
-use Rattle.go_scan.proofs.ByteLemmas.{IsPlain, allowed_char, plain_byte, range_length}
+use Rattle.go_tree.proofs.ByteLemmas.{IsPlain, allowed_char, plain_byte, range_length}
 use Rattle.go_scan.proofs.CommentLemmas.{line_stuck, general_stuck}
 use Rattle.go_scan.proofs.LiteralCharacterLemmas.{allowed_itself, bytes_plain, front_allowed, in_range, no_character}
 use Rattle.go_scan.proofs.NextLemmas.{one_place}
 use Rattle.go_scan.proofs.QuotedLemmas.{rune_quote, string_quote, rune_no_character, rune_unclosed, string_stuck}
 use Rattle.go_scan.proofs.RawLemmas.{raw_stuck}
-use Rattle.go_parse_x.specs.Texts.{IsLex}
 
 -- a forbidden byte is no such byte
 unlike : (bytes : List ℕ) (at b : ℕ) → 0 < b → b < 128 → IsForbidden bytes at → slice_index bytes at ≡ b → ⊥
@@ -121,7 +118,7 @@ same_lex m n r s e f = cc
 
 -- which rule is broken, and at which byte
 abbrev IsBroken : List ℕ → ℕ → Option TokenKind → Lex → Type 0
-IsBroken bytes at last e = ((e.rule ≡ FORBIDDEN_BYTE) × IsForbiddenByte bytes at last e.offset) ⊎ ((e.rule ≡ MISSING_TOKEN) × IsMissingToken bytes at last e.offset)
+IsBroken bytes at last e = ((e.rule ≡ forbidden_byte) × IsForbiddenByte bytes at last e.offset) ⊎ ((e.rule ≡ missing_token) × IsMissingToken bytes at last e.offset)
 
 -- a place has at most one lexical fault
 pub one_lex : (bytes : List ℕ) (at : ℕ) (last : Option TokenKind) (d e : Lex) → IsLex bytes at last d → IsLex bytes at last e → d ≡ e

@@ -1,4 +1,5 @@
 pub mod CopyLemmas
+pub mod CountLemmas
 pub mod FileLemmas
 pub mod LawLemmas
 pub mod LexicalLemmas

@@ -3,8 +3,8 @@ use Rattle.std.proofs.Common.{◌≡◌, ℕ, ◌+◌, Bool, true, false, if◌t
 use Rattle.go_tree.specs.Tree.{Tree, branch, Trees, no_trees, more_trees, end_of, node_count, node_count_of_all}
 use Rattle.go_parse_x.specs.Opened.{unnumbered, all_unnumbered}
 use Rattle.go_parse_x.proofs.OpenedLemmas.{start_of-unnumbered}
-use Rattle.go_parse_s.specs.Copies.{with_copies, all_with_copies, specs_with_copies, completed, list_behind, copy_if_any, last_end, is_group}
-use Rattle.go_parse_s.specs.Numbers.{numbered, all_numbered}
+use Rattle.go_text.specs.Copies.{with_copies, all_with_copies, specs_with_copies, completed, list_behind, copy_if_any, last_end, is_group}
+use Rattle.go_text.specs.Numbers.{numbered, all_numbered}
 
 mutual
   node_count-unnumbered : (t : Tree) → node_count (unnumbered t) ≡ node_count t

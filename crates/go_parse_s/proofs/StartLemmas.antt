@@ -5,9 +5,9 @@ use Rattle.go_tree.specs.Scan.{Scan, ScanFrom, IsNext, IsPlace, IsFirst, ends, n
 use Rattle.go_tree.specs.Tree.{Tree, branch, start_of}
 use Rattle.go_tree.specs.Grammar.Spans.{HasRun}
 use Rattle.go_tree.proofs.GrammarSpans.{file_lem}
-use Rattle.go_parse_s.specs.Copies.{with_copies}
-use Rattle.go_parse_s.specs.Files.{IsFileOf}
-use Rattle.go_parse_s.specs.Numbers.{numbered}
+use Rattle.go_text.specs.Copies.{with_copies}
+use Rattle.go_text.specs.Files.{IsFileOf}
+use Rattle.go_text.specs.Numbers.{numbered}
 
 -- blanks and comments lead up to the first token
 gap_to : (bytes : List ℕ) (t : Token) → IsNext bytes 0 None t → Gap false bytes 0 t.start

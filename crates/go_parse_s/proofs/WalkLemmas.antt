@@ -3,7 +3,7 @@ use Rattle.std.proofs.Common.{◌≡◌, ℕ, zero, suc, ◌+◌, ◌<◌, ◌�
 use Rattle.std.proofs.Math.ListN.{set}
 use Rattle.go_tree.specs.declared.node.Node.{Node}
 use Rattle.go_tree.specs.Tree.{Tree, Trees, no_trees, more_trees, tree_of, trees_of, node_count, node_count_of_all}
-use Rattle.go_parse_s.specs.Numbers.{numbered, all_numbered}
+use Rattle.go_text.specs.Numbers.{numbered, all_numbered}
 
 -- the trees of a walk, the first i of which it has changed; s is what it saw before the next
 abbrev pub trees_behind : {S : Type 0} (f : S → Tree → Tree) (g : S → Tree → S) → ℕ → S → List Node → Trees

@@ -1,3 +1,1 @@
-pub mod Files
-pub mod Copies
-pub mod Numbers
+pub mod Counted

@@ -1,7 +1,7 @@
 // The lists that constant specs omit (Go specification, "Constant declarations").
 ghost use Rattle.std.specs.Prelude.{◌≡◌, ◌++◌, IfOk, OnOk, map, option_map};
 ghost use Rattle.go_tree.specs.Tree.{tree_of, trees_of, list_of, no_trees};
-ghost use Rattle.go_parse_s.specs.Copies.{with_copies, all_with_copies, specs_with_copies, completed, list_behind, copy_if_any, copy_of, last_end, is_group};
+ghost use Rattle.go_text.specs.Copies.{with_copies, all_with_copies, specs_with_copies, completed, list_behind, copy_if_any, copy_of, last_end, is_group};
 
 use go_base::{Bytes, NoMemory};
 use go_tree::{Node, NodeId, NodeKind};
@@ -19,7 +19,8 @@ pub fn add_copies(alloc: Global, node: &mut Node) -> Result<(), NoMemory>
     }
 }
 
-fn is_group(kind: NodeKind) -> bool
+/// Whether specs may omit their lists in a node of that kind.
+pub fn is_group(kind: NodeKind) -> bool
     ensures { result ≡ is_group kind }
 {
     match kind {

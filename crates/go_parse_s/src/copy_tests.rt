@@ -1,6 +1,8 @@
 // Lists that constant specs omit (Go specification, "Constant declarations", "Iota").
 use crate::file_tests_support::{Row, have_bodies, have_declarations, read};
+use go_parse_x::ParseFault;
 use go_tree::{NodeId, NodeKind, find};
+use std::alloc::{AllocError, Global};
 use std::test::Fail;
 
 const GROUPS: [Row; 14] = [
@@ -124,5 +126,33 @@ fn numbers_and_places(rt: HostRuntime) -> Result<(), Fail> {
     }
     assert!(&rt; find(&file, NodeId(6)).is_none());
     assert!(&rt; find(&file, NodeId(21)).is_none());
+    Ok(())
+}
+
+// A group in a function literal in a group, so many times, each of which omits a list: the copies have
+// 30 * 2^times - 12 * times - 27 nodes.
+fn nested(alloc: Global, times: usize) -> Result<String, AllocError> {
+    let front = "const(a=func(){".repeat(alloc, times)?;
+    let rest = "};b)".repeat(alloc, times)?;
+    format!(in alloc; "package p;{front}const(a=1;b){rest}\n")
+}
+
+#[test]
+fn few_copies(rt: HostRuntime) -> Result<(), Fail> {
+    for times in [0, 1, 13] {
+        let text = nested(rt.alloc(), times)?;
+        assert_eq!(&rt; read(rt.alloc(), text.as_bytes()).err(), None, "{times}");
+    }
+    Ok(())
+}
+
+// 15,728,385 nodes, about twice as many, and more than a number of 64 bits holds
+#[test]
+fn too_many_copies(rt: HostRuntime) -> Result<(), Fail> {
+    for times in [19, 20, 90] {
+        let text = nested(rt.alloc(), times)?;
+        let fault = read(rt.alloc(), text.as_bytes()).err();
+        assert_eq!(&rt; fault, Some(ParseFault::NoMemory), "{times}");
+    }
     Ok(())
 }

@@ -1,7 +1,7 @@
 // Each front of a file: it is a file, or at fault at its end.
 use crate::file_tests_support::read;
-use go_parse_x::ParseFault;
 use go_scan::tokens;
+use go_text::ParseFault;
 use std::alloc::{AllocError, Global};
 use std::process::Abort;
 use std::test::Fail;

@@ -1,16 +1,20 @@
 // Whole files (Go specification, "Source file organization").
-ghost use Rattle.std.specs.Prelude.{◌≡◌, false, IfOk, IfErr};
+ghost use Rattle.std.specs.Prelude.{◌≡◌, ◌≤◌, false, IfOk, IfErr};
 ghost use Rattle.go_tree.specs.Scan.{Gap};
 ghost use Rattle.go_tree.specs.Tree.{tree_of, start_of};
 ghost use Rattle.go_parse_x.specs.Opened.{tree_without};
-ghost use Rattle.go_parse_s.specs.Copies.{with_copies};
-ghost use Rattle.go_parse_s.specs.Files.{IsFileOf, IsFaultOf};
-ghost use Rattle.go_parse_s.specs.Numbers.{numbered};
+ghost use Rattle.go_text.specs.Copies.{with_copies};
+ghost use Rattle.go_text.specs.CopyCount.{copied_nodes, most_copied_nodes};
+ghost use Rattle.go_text.specs.Faults.{IsFaultOf};
+ghost use Rattle.go_text.specs.Files.{IsFileOf};
+ghost use Rattle.go_text.specs.Numbers.{numbered};
 
 use crate::copies::add_copies;
+use crate::copy_count::copies_fit;
 use crate::numbers::number_nodes;
 use go_base::NoMemory;
-use go_parse_x::{Cursor, ParseFault, Pending, parse_text};
+use go_parse_x::{Cursor, Pending, parse_text};
+use go_text::ParseFault;
 use go_tree::{File, Node, NodeId};
 use std::alloc::Global;
 
@@ -21,7 +25,9 @@ pub const MOST_HEIGHT: usize = 1_000;
 ///
 /// A constant spec that omits its list has a copy of the list before it, a `ConstCopy`, with numbers of
 /// its own and the places of that list (Go specification, "Constant declarations"). Lists that nest in
-/// lists that are omitted are copied with them, so a short text can ask for much memory.
+/// lists that are omitted are copied with them, so a short text can ask for much memory: where all
+/// copies would have more than `MOST_COPIED_NODES` nodes together, the answer is NoMemory, before any
+/// is made.
 ///
 /// Blanks and whole comments lead up to the tree's first byte.
 ///
@@ -36,6 +42,7 @@ pub fn parse_file(
 ) -> Result<File, ParseFault>
     ensures file { IfOk result (λ file. IsFileOf bytes.now first.0 (tree_of file.root)) }
     ensures start { IfOk result (λ file. Gap false bytes.now 0 (start_of (tree_of file.root))) }
+    ensures bounded { IfOk result (λ file. copied_nodes (tree_of file.root) ≤ most_copied_nodes) }
     ensures number { IfOk result (λ file. file.number ≡ number) }
     ensures fault { IfErr result (λ fault. IsFaultOf bytes.now fault) }
 {
@@ -52,8 +59,12 @@ pub fn parse_file(
 
 // The tree that was read, with the copies of omitted lists, its nodes numbered anew.
 fn finished(alloc: Global, read: Node, first: NodeId) -> Result<Node, NoMemory>
-    ensures { IfOk result (λ root. tree_of root ≡ numbered first.0 (with_copies (tree_without read))) }
+    ensures tree { IfOk result (λ root. tree_of root ≡ numbered first.0 (with_copies (tree_without read))) }
+    ensures bounded { IfOk result (λ root. copied_nodes (tree_of root) ≤ most_copied_nodes) }
 {
+    if !copies_fit(&read) {
+        return Err(NoMemory);
+    }
     let mut root = read;
     let mut next = first.0;
     add_copies(alloc, &mut root)?;

@@ -1,6 +1,6 @@
 // Reading whole files: what the tests of this crate share.
 use crate::file::parse_file;
-use go_parse_x::ParseFault;
+use go_text::ParseFault;
 use go_tree::{File, Node, NodeId, NodeKind};
 use std::alloc::{AllocError, Global};
 use std::process::Abort;

@@ -1,6 +1,6 @@
 // How high the tokens of a file may be, and how long a file may be (`Height.antt` of go_tree).
 use crate::file_tests_support::{read, with_body};
-use go_parse_x::ParseFault;
+use go_text::ParseFault;
 use std::alloc::{AllocError, Global};
 use std::test::Fail;
 

@@ -1,9 +1,10 @@
 // Laws of what is read of a file.
 ghost use Rattle.std.specs.Prelude.{◌≡◌, ◌≢◌, ℕ, List};
 ghost use Rattle.go_tree.specs.Tree.{Tree};
-ghost use Rattle.go_parse_x.specs.declared.fault.ParseFault.{ParseFault};
-ghost use Rattle.go_parse_x.specs.declared.fault.ParseFault.TheVariants.{NoMemory};
-ghost use Rattle.go_parse_s.specs.Files.{IsFileOf, IsFaultOf};
+ghost use Rattle.go_text.specs.declared.fault.ParseFault.{ParseFault};
+ghost use Rattle.go_text.specs.declared.fault.ParseFault.TheVariants.{NoMemory};
+ghost use Rattle.go_text.specs.Files.{IsFileOf};
+ghost use Rattle.go_text.specs.Faults.{IsFaultOf};
 
 /// A text is at most one file.
 pub fn one_file()

@@ -1,7 +1,7 @@
 // The numbers of a finished tree.
 ghost use Rattle.std.specs.Prelude.{◌≡◌, ◌+◌, OnOk, map};
 ghost use Rattle.go_tree.specs.Tree.{tree_of, trees_of, node_count, node_count_of_all};
-ghost use Rattle.go_parse_s.specs.Numbers.{numbered, all_numbered};
+ghost use Rattle.go_text.specs.Numbers.{numbered, all_numbered};
 
 use go_base::NoMemory;
 use go_parse_x::next_number;

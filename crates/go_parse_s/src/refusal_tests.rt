@@ -1,8 +1,8 @@
 // Texts that begin no file, and where the first token starts with which none begins.
 use crate::file_tests_support::read;
-use go_base::{FORBIDDEN_BYTE, MISSING_TOKEN, Rule};
-use go_parse_x::ParseFault;
-use go_scan::Lex;
+use go_base::Rule;
+use go_scan::{FORBIDDEN_BYTE, Lex, MISSING_TOKEN};
+use go_text::ParseFault;
 use std::alloc::Global;
 use std::process::Abort;
 use std::test::Fail;

@@ -1,6 +1,6 @@
 // Statements that begin none, and where the first token starts with which no file begins.
 use crate::file_tests_support::{BEFORE_BODY, read, with_body};
-use go_parse_x::ParseFault;
+use go_text::ParseFault;
 use std::alloc::Global;
 use std::process::Abort;
 use std::test::Fail;

@@ -6,7 +6,7 @@ use Rattle.go_tree.specs.declared.token.TokenKind.{TokenKind}
 use Rattle.go_tree.specs.declared.token.TokenKind.TheVariants.{End}
 use Rattle.go_tree.specs.declared.production.Production.{Production}
 use Rattle.go_tree.specs.Height.{height_of}
-use Rattle.go_tree.specs.Scan.{IsNext}
+use Rattle.go_tree.specs.Scan.{IsNext, Stand}
 use Rattle.go_tree.specs.Grammar.RightSide.{Call, RightSide}
 use Rattle.go_tree.specs.Grammar.Reading.{State, OpenNode, before, tree_read}
 use Rattle.go_tree.specs.Grammar.Brackets.{through_all, standing}
@@ -15,21 +15,24 @@ use Rattle.go_tree.specs.Grammar.Sentence.{production, tables, ReadsGo, IsA, Beg
 use Rattle.go_tree.proofs.PredictionLemmas.{unique}
 use Rattle.go_tree.proofs.GrammarLemmas.{tables_right}
 use Rattle.go_tree.proofs.GrammarBalance.{tree_lem}
+use Rattle.go_tree.proofs.StandLemmas.{stand_append}
 use Rattle.go_parse_x.specs.declared.cursor.Cursor.{Cursor}
-use Rattle.go_parse_x.specs.declared.fault.ParseFault.{ParseFault}
-use Rattle.go_parse_x.specs.declared.fault.ParseFault.TheVariants.{Lexical, Syntax, High, NoMemory}
+use Rattle.go_text.specs.declared.fault.ParseFault.{ParseFault}
+use Rattle.go_text.specs.declared.fault.ParseFault.TheVariants.{Lexical, Syntax, High, NoMemory}
 use Rattle.go_parse_x.specs.declared.parsed.Parsed.{Parsed}
 use Rattle.go_parse_x.specs.declared.parsed.Parsed.TheVariants.{Whole, Block}
 use Rattle.go_parse_x.specs.declared.pending.Pending.{Pending}
 use Rattle.go_parse_x.specs.declared.progress.Progress.{Progress}
 use Rattle.go_parse_x.specs.declared.progress.Progress.TheVariants.{Passed, AtBlock}
 use Rattle.go_parse_x.specs.declared.seen.Seen.{Seen}
-use Rattle.go_parse_x.specs.Answers.{Spot, Went, IsAnswer, IsBlock, IsReady, spot_of}
+use Rattle.go_text.specs.Faults.{Spot}
+use Rattle.go_parse_x.specs.Answers.{Went, IsAnswer, IsBlock, IsReady, spot_of}
 use Rattle.go_parse_x.specs.Opened.{tree_without, Rises}
 use Rattle.go_parse_x.specs.Pieces.{HasRead, View, IsNew, IsAsked, IsOpen, IsAwaiting, open_view, OpensBlock, PassesNoBlock, new_view}
 use Rattle.go_parse_x.specs.Steps.{IsTooHigh, IsStray, IsProgress, IsRead, HasNumbers, behind}
 use Rattle.go_parse_x.specs.Targets.{piece, hands}
-use Rattle.go_parse_x.specs.Texts.{one, Stand, IsLex}
+use Rattle.go_parse_x.specs.Texts.{one}
+use Rattle.go_tree.specs.Faults.{IsLex}
 use Rattle.go_parse_x.specs.Turns as turns
 use Rattle.go_parse_x.specs.Turns.{at, is_asked, IsSound, IsStuck, GoesOn}
 use Rattle.go_parse_x.proofs.EndTokenLemmas.{is_file}
@@ -259,10 +262,6 @@ memory_before c p front low ready after q = go p.begun refl
         memory_answer c.bytes.now (new_view p) (piece_is p.reading) front low c.number (spot_of c) (subst P e ready.is_open) after q
 
 -- ---- tokens that were passed before
-
-pub stand_append : (bytes : List ℕ) (at mid to : ℕ) (last kind then : Option TokenKind) (us vs : List Token) → Stand bytes at last us mid kind → Stand bytes mid kind vs to then → Stand bytes at last (us ++ vs) to then
-stand_append bytes at mid to last kind then [] vs h w = subst (λ k. Stand bytes at k vs to then) (sym h.1) (subst (λ m. Stand bytes m kind vs to then) (sym h.0) w)
-stand_append bytes at mid to last kind then (u ∷ us) vs h w = (h.0, h.1, stand_append bytes u.end mid to (Some u.kind) kind then us vs h.2 w)
 
 -- the answer behind them is the answer before them
 pub answer_behind : (bytes text : List ℕ) (n m : Production) (free most : ℕ) (front us : List Token) (from mid to : Spot) (low number : ℕ) (p : Pending) (result : Result Parsed ParseFault) → bytes ≡ text → n ≡ m → free ≡ most → Stand text from.at from.last us mid.at mid.last → PassesNoBlock text m front us → IsAnswer bytes n free (front ++ us) mid to low number p result → IsAnswer text m most front from to low number p result

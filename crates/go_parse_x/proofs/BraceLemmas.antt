@@ -5,10 +5,6 @@ use Rattle.go_tree.specs.declared.token.Token.{Token}
 use Rattle.go_tree.specs.declared.token.TokenKind.{TokenKind}
 use Rattle.go_tree.specs.declared.token.TokenKind.TheVariants.{LeftBrace, Semicolon}
 use Rattle.go_tree.specs.declared.production.Production.{Production}
-use Rattle.go_tree.specs.declared.production.Form.TheVariants.{Plain, Header}
-use Rattle.go_tree.specs.declared.production.Items.TheVariants.{ImportSpecs, ConstSpecs, VarSpecs, TypeSpecs, TypeParamGroups, Types, Parameters, Fields, Elems, Indexes, Elements}
-use Rattle.go_tree.specs.declared.production.Clauses.TheVariants.{Cases, Comms}
-use Rattle.go_tree.specs.declared.production.Production.TheVariants as p
 use Rattle.go_tree.specs.Grammar.RightSide.{RightSide, Do, Call, Nothing, Seq, Or, Many, When, Act, Pass}
 use Rattle.go_tree.specs.Grammar.TokenKinds.{same_kind}
 use Rattle.go_tree.specs.Grammar.Reading.{looks}
@@ -16,57 +12,15 @@ use Rattle.go_tree.specs.Grammar.Prediction.{begins, is_empty, starts, next_of, 
 use Rattle.go_tree.specs.Grammar.Sentence.{production, tables}
 use Rattle.go_tree.proofs.NestingLemmas.{same_kinds}
 use Rattle.go_parse_x.specs.Braces.{is_block, act_is_brace, is_brace, is_braced, all_braced}
+use Rattle.std.specs.Bool.{MatchBool}
+use Rattle.std.proofs.lemmas.Bool.{MatchBool-at_false}
+use Rattle.go_tree.proofs.ByProduction.{by_production}
+
+braces_checked : (n : Production) → MatchBool (is_block n) (Unit {0}) (is_braced (production n) ≡ true)
+braces_checked = by_production _ assumption
 
 pub production_braced : (n : Production) → is_block n ≡ false → is_braced (production n) ≡ true
-production_braced (p.Exprs Plain) h = refl
-production_braced (p.Exprs Header) h = refl
-production_braced (p.More ImportSpecs) h = refl
-production_braced (p.More ConstSpecs) h = refl
-production_braced (p.More VarSpecs) h = refl
-production_braced (p.More TypeSpecs) h = refl
-production_braced (p.More TypeParamGroups) h = refl
-production_braced (p.More Types) h = refl
-production_braced (p.More Parameters) h = refl
-production_braced (p.More Fields) h = refl
-production_braced (p.More Elems) h = refl
-production_braced (p.More Indexes) h = refl
-production_braced (p.More Elements) h = refl
-production_braced (p.Expr Plain) h = refl
-production_braced (p.Expr Header) h = refl
-production_braced (p.OrTail Plain) h = refl
-production_braced (p.OrTail Header) h = refl
-production_braced (p.Conjunction Plain) h = refl
-production_braced (p.Conjunction Header) h = refl
-production_braced (p.AndTail Plain) h = refl
-production_braced (p.AndTail Header) h = refl
-production_braced (p.Comparison Plain) h = refl
-production_braced (p.Comparison Header) h = refl
-production_braced (p.CompareTail Plain) h = refl
-production_braced (p.CompareTail Header) h = refl
-production_braced (p.Sum Plain) h = refl
-production_braced (p.Sum Header) h = refl
-production_braced (p.AddTail Plain) h = refl
-production_braced (p.AddTail Header) h = refl
-production_braced (p.Product Plain) h = refl
-production_braced (p.Product Header) h = refl
-production_braced (p.MulTail Plain) h = refl
-production_braced (p.MulTail Header) h = refl
-production_braced (p.Unary Plain) h = refl
-production_braced (p.Unary Header) h = refl
-production_braced (p.Simple Plain) h = refl
-production_braced (p.Simple Header) h = refl
-production_braced (p.AfterExpr Plain) h = refl
-production_braced (p.AfterExpr Header) h = refl
-production_braced (p.SimpleTail Plain) h = refl
-production_braced (p.SimpleTail Header) h = refl
-production_braced (p.Clause Cases) h = refl
-production_braced (p.Clause Comms) h = refl
-production_braced (p.ClauseBody Cases) h = refl
-production_braced (p.ClauseBody Comms) h = refl
-production_braced (p.AfterClauseStmt Cases) h = refl
-production_braced (p.AfterClauseStmt Comms) h = refl
-production_braced p.Block h = cc
-production_braced _ h = refl
+production_braced n h = MatchBool-at_false _ _ h (braces_checked n)
 
 not_true : (b : Bool) → not b ≡ true → b ≡ false
 not_true true h = cc

@@ -7,7 +7,7 @@ use Rattle.go_tree.specs.declared.token.Token.{Token}
 use Rattle.go_tree.specs.declared.token.TokenKind.{TokenKind}
 use Rattle.go_tree.specs.declared.token.TokenKind.TheVariants.{LeftBrace, RightBrace}
 use Rattle.go_tree.specs.declared.production.Production.TheVariants as p
-use Rattle.go_tree.specs.Height.{Mark, height_of}
+use Rattle.go_tree.specs.Height.{Mark, height_of, AllFit}
 use Rattle.go_tree.specs.Tree.{Tree, branch, no_trees}
 use Rattle.go_tree.specs.Grammar.TokenKinds.{same_kind}
 use Rattle.go_tree.specs.Grammar.Reading.{OpenNode, close_last, at_end, does, calls, nothing, in_turn, right, done}
@@ -18,8 +18,8 @@ use Rattle.go_parse_x.specs.declared.pending.Pending.{Pending}
 use Rattle.go_parse_x.specs.Answers.{spot_of, IsBlockRead}
 use Rattle.go_parse_x.specs.EmptyBlocks.{IsEmptyBlock}
 use Rattle.go_parse_x.specs.Opened.{unnumbered, numbers_in, Rises}
-use Rattle.go_parse_x.specs.Pieces.{AllFit, IsAwaiting, open_view}
-use Rattle.go_parse_x.specs.Texts.{Stand}
+use Rattle.go_parse_x.specs.Pieces.{IsAwaiting, open_view}
+use Rattle.go_tree.specs.Scan.{Stand}
 use Rattle.go_parse_x.specs.Turns.{at}
 use Rattle.go_parse_x.proofs.CountLemmas.{brace_height}
 

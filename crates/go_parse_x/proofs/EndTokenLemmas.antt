@@ -4,9 +4,6 @@ use Rattle.std.proofs.lemmas.Bool.{and_parts, eqb-true}
 use Rattle.go_tree.specs.declared.token.Token.{Token}
 use Rattle.go_tree.specs.declared.token.TokenKind.{TokenKind}
 use Rattle.go_tree.specs.declared.token.TokenKind.TheVariants.{End}
-use Rattle.go_tree.specs.declared.production.Form.TheVariants.{Plain, Header}
-use Rattle.go_tree.specs.declared.production.Items.TheVariants.{ImportSpecs, ConstSpecs, VarSpecs, TypeSpecs, TypeParamGroups, Types, Parameters, Fields, Elems, Indexes, Elements}
-use Rattle.go_tree.specs.declared.production.Clauses.TheVariants.{Cases, Comms}
 use Rattle.go_tree.specs.declared.production.Production.{Production}
 use Rattle.go_tree.specs.declared.production.Production.TheVariants as p
 use Rattle.go_tree.specs.Tree.{Tree}
@@ -16,6 +13,7 @@ use Rattle.go_tree.specs.Grammar.Reading.{State, at_end, does, calls, nothing, i
 use Rattle.go_tree.specs.Grammar.Sentence.{production, ReadsGo, Derives}
 use Rattle.go_tree.proofs.EmptyLemmas.{rest_kept}
 use Rattle.go_tree.proofs.ReadingStepLemmas.{passes}
+use Rattle.go_tree.proofs.ByProduction.{by_test}
 
 abbrev pub is_file : Production → Bool
 is_file p.File = true
@@ -37,54 +35,7 @@ all_endless [] = true
 all_endless (g ∷ gs) = is_endless g && all_endless gs
 
 each_endless : (n : Production) → (is_file n || is_endless (production n)) ≡ true
-each_endless (p.Exprs Plain) = refl
-each_endless (p.Exprs Header) = refl
-each_endless (p.More ImportSpecs) = refl
-each_endless (p.More ConstSpecs) = refl
-each_endless (p.More VarSpecs) = refl
-each_endless (p.More TypeSpecs) = refl
-each_endless (p.More TypeParamGroups) = refl
-each_endless (p.More Types) = refl
-each_endless (p.More Parameters) = refl
-each_endless (p.More Fields) = refl
-each_endless (p.More Elems) = refl
-each_endless (p.More Indexes) = refl
-each_endless (p.More Elements) = refl
-each_endless (p.Expr Plain) = refl
-each_endless (p.Expr Header) = refl
-each_endless (p.OrTail Plain) = refl
-each_endless (p.OrTail Header) = refl
-each_endless (p.Conjunction Plain) = refl
-each_endless (p.Conjunction Header) = refl
-each_endless (p.AndTail Plain) = refl
-each_endless (p.AndTail Header) = refl
-each_endless (p.Comparison Plain) = refl
-each_endless (p.Comparison Header) = refl
-each_endless (p.CompareTail Plain) = refl
-each_endless (p.CompareTail Header) = refl
-each_endless (p.Sum Plain) = refl
-each_endless (p.Sum Header) = refl
-each_endless (p.AddTail Plain) = refl
-each_endless (p.AddTail Header) = refl
-each_endless (p.Product Plain) = refl
-each_endless (p.Product Header) = refl
-each_endless (p.MulTail Plain) = refl
-each_endless (p.MulTail Header) = refl
-each_endless (p.Unary Plain) = refl
-each_endless (p.Unary Header) = refl
-each_endless (p.Simple Plain) = refl
-each_endless (p.Simple Header) = refl
-each_endless (p.AfterExpr Plain) = refl
-each_endless (p.AfterExpr Header) = refl
-each_endless (p.SimpleTail Plain) = refl
-each_endless (p.SimpleTail Header) = refl
-each_endless (p.Clause Cases) = refl
-each_endless (p.Clause Comms) = refl
-each_endless (p.ClauseBody Cases) = refl
-each_endless (p.ClauseBody Comms) = refl
-each_endless (p.AfterClauseStmt Cases) = refl
-each_endless (p.AfterClauseStmt Comms) = refl
-each_endless _ = refl
+each_endless = by_test _ refl
 
 of_call : (b e a : Bool) → (b || e) ≡ true → (not b && a) ≡ true → (e && a) ≡ true
 of_call true e a h w = cc

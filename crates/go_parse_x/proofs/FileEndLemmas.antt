@@ -14,7 +14,7 @@ use Rattle.go_tree.specs.Grammar.Sentence.{production, ReadsGo, IsA, Begins}
 use Rattle.go_tree.proofs.EmptyLemmas.{rest_kept}
 use Rattle.go_tree.proofs.NestingLemmas.{passed_token, same_kinds}
 use Rattle.go_tree.proofs.ReadingLemmas.{split, in_turn_of}
-use Rattle.go_parse_x.specs.Texts.{Stand}
+use Rattle.go_tree.specs.Scan.{Stand}
 use Rattle.go_parse_x.proofs.EndTokenLemmas.{all_endless, from_end, end_stays, end_there}
 
 entered : (bytes : List ℕ) (n : Production) (gs : List (RightSide Production)) (s e : State) → ReadsGo bytes (Call n ∷ gs) s e → ReadsGo bytes (production n ∷ gs) s e

@@ -5,7 +5,7 @@ use Rattle.go_tree.specs.declared.token.Token.{Token}
 use Rattle.go_tree.specs.declared.token.TokenKind.{TokenKind}
 use Rattle.go_tree.specs.declared.production.Production.{Production}
 use Rattle.go_tree.specs.declared.production.Production.TheVariants as p
-use Rattle.go_tree.specs.Height.{height_of}
+use Rattle.go_tree.specs.Height.{height_of, AllFit}
 use Rattle.go_tree.specs.Tree.{Tree}
 use Rattle.go_tree.specs.Grammar.RightSide.{RightSide, Call}
 use Rattle.go_tree.specs.Grammar.Reading.{State, OpenNode, before}
@@ -23,8 +23,9 @@ use Rattle.go_parse_x.specs.declared.heights.Heights.{Heights}
 use Rattle.go_parse_x.specs.Braces.{all_braced}
 use Rattle.go_parse_x.specs.Heights.{Counts}
 use Rattle.go_parse_x.specs.Opened.{added, Rises}
-use Rattle.go_parse_x.specs.Pieces.{AllFit, HasRead, View, IsOpen, IsAwaiting}
-use Rattle.go_parse_x.specs.Texts.{IsBehind, none, one, Stand}
+use Rattle.go_parse_x.specs.Pieces.{HasRead, View, IsOpen, IsAwaiting}
+use Rattle.go_parse_x.specs.Texts.{IsBehind, none, one}
+use Rattle.go_tree.specs.Scan.{Stand}
 use Rattle.go_parse_x.specs.Turns.{at, IsFull, IsSound, IsSolid}
 use Rattle.go_parse_x.proofs.BraceLemmas.{braced_behind}
 use Rattle.go_parse_x.proofs.PieceLemmas.{IsPiece, reads_begin}

@@ -5,7 +5,7 @@ use Rattle.go_tree.specs.declared.token.Token.{Token}
 use Rattle.go_tree.specs.declared.token.TokenKind.{TokenKind}
 use Rattle.go_tree.specs.declared.token.TokenKind.TheVariants.{Arrow, Dot, End}
 use Rattle.go_tree.specs.declared.production.Production.{Production}
-use Rattle.go_tree.specs.Height.{height_of}
+use Rattle.go_tree.specs.Height.{height_of, AllFit}
 use Rattle.go_tree.specs.Tree.{Tree}
 use Rattle.go_tree.specs.Grammar.RightSide.{RightSide, Call}
 use Rattle.go_tree.specs.Grammar.TokenKinds.{same_kind}
@@ -23,7 +23,7 @@ use Rattle.go_parse_x.specs.declared.reading.Target.{Target}
 use Rattle.go_parse_x.specs.declared.reading.Target.TheVariants as target
 use Rattle.go_parse_x.specs.Targets.{reads, piece, hands}
 use Rattle.go_parse_x.specs.declared.seen.Seen.{Seen}
-use Rattle.go_parse_x.specs.Pieces.{AllFit, HasRead}
+use Rattle.go_parse_x.specs.Pieces.{HasRead}
 use Rattle.go_parse_x.specs.Texts.{IsBehind, none, one}
 use Rattle.go_parse_x.specs.Turns.{at, is_asked, IsAsSeen, GoesOn, IsPassed, IsStuck}
 use Rattle.go_parse_x.proofs.EndTokenLemmas.{is_file, no_end_read}

@@ -3,11 +3,7 @@ use Rattle.std.proofs.Common.{◌≡◌, Bool, true, false, List, ◌∷◌, ref
 use Rattle.std.proofs.lemmas.Bool.{and_from, and_parts}
 use Rattle.go_tree.specs.declared.token.Token.{Token}
 use Rattle.go_tree.specs.declared.token.TokenKind.{TokenKind}
-use Rattle.go_tree.specs.declared.production.Form.TheVariants.{Plain, Header}
-use Rattle.go_tree.specs.declared.production.Items.TheVariants.{ImportSpecs, ConstSpecs, VarSpecs, TypeSpecs, TypeParamGroups, Types, Parameters, Fields, Elems, Indexes, Elements}
-use Rattle.go_tree.specs.declared.production.Clauses.TheVariants.{Cases, Comms}
 use Rattle.go_tree.specs.declared.production.Production.{Production}
-use Rattle.go_tree.specs.declared.production.Production.TheVariants as p
 use Rattle.go_tree.specs.Grammar.RightSide.{RightSide, Do, Call, Nothing, Seq, Or, Many, When, Ahead, OneOf, Both}
 use Rattle.go_tree.specs.Grammar.Reading.{looks}
 use Rattle.go_tree.specs.Grammar.Completion.{spell, is_there}
@@ -15,56 +11,10 @@ use Rattle.go_tree.specs.Grammar.Rank.{top_rank}
 use Rattle.go_tree.specs.Grammar.Prediction.{begins, next_of, starts, expand}
 use Rattle.go_tree.specs.Grammar.Sentence.{production, tables, texts}
 use Rattle.go_parse_x.specs.Turns.{pairs_spelled, all_spelled}
+use Rattle.go_tree.proofs.ByProduction.{by_test}
 
 pub production_spelled : (n : Production) → pairs_spelled (production n) ≡ true
-production_spelled (p.Exprs Plain) = refl
-production_spelled (p.Exprs Header) = refl
-production_spelled (p.More ImportSpecs) = refl
-production_spelled (p.More ConstSpecs) = refl
-production_spelled (p.More VarSpecs) = refl
-production_spelled (p.More TypeSpecs) = refl
-production_spelled (p.More TypeParamGroups) = refl
-production_spelled (p.More Types) = refl
-production_spelled (p.More Parameters) = refl
-production_spelled (p.More Fields) = refl
-production_spelled (p.More Elems) = refl
-production_spelled (p.More Indexes) = refl
-production_spelled (p.More Elements) = refl
-production_spelled (p.Expr Plain) = refl
-production_spelled (p.Expr Header) = refl
-production_spelled (p.OrTail Plain) = refl
-production_spelled (p.OrTail Header) = refl
-production_spelled (p.Conjunction Plain) = refl
-production_spelled (p.Conjunction Header) = refl
-production_spelled (p.AndTail Plain) = refl
-production_spelled (p.AndTail Header) = refl
-production_spelled (p.Comparison Plain) = refl
-production_spelled (p.Comparison Header) = refl
-production_spelled (p.CompareTail Plain) = refl
-production_spelled (p.CompareTail Header) = refl
-production_spelled (p.Sum Plain) = refl
-production_spelled (p.Sum Header) = refl
-production_spelled (p.AddTail Plain) = refl
-production_spelled (p.AddTail Header) = refl
-production_spelled (p.Product Plain) = refl
-production_spelled (p.Product Header) = refl
-production_spelled (p.MulTail Plain) = refl
-production_spelled (p.MulTail Header) = refl
-production_spelled (p.Unary Plain) = refl
-production_spelled (p.Unary Header) = refl
-production_spelled (p.Simple Plain) = refl
-production_spelled (p.Simple Header) = refl
-production_spelled (p.AfterExpr Plain) = refl
-production_spelled (p.AfterExpr Header) = refl
-production_spelled (p.SimpleTail Plain) = refl
-production_spelled (p.SimpleTail Header) = refl
-production_spelled (p.Clause Cases) = refl
-production_spelled (p.Clause Comms) = refl
-production_spelled (p.ClauseBody Cases) = refl
-production_spelled (p.ClauseBody Comms) = refl
-production_spelled (p.AfterClauseStmt Cases) = refl
-production_spelled (p.AfterClauseStmt Comms) = refl
-production_spelled _ = refl
+production_spelled = by_test _ refl
 
 -- what is known of the first and of the others
 pub first_spelled : (g : RightSide Production) (gs : List (RightSide Production)) → all_spelled (g ∷ gs) ≡ true → pairs_spelled g ≡ true

@@ -1,67 +1,17 @@
 -- Each expansion of the first right side leaves less to be read before the next token.
 use Rattle.std.proofs.Common.{◌≡◌, ℕ, ◌+◌, ◌<◌, Bool, true, false, nat_lt, List, ◌∷◌, refl, cond, ◌&&◌, ◌||◌, arith}
 use Rattle.std.proofs.lemmas.Bool.Decides.{nat_tests}
-use Rattle.go_tree.specs.declared.production.Form.TheVariants.{Plain, Header}
-use Rattle.go_tree.specs.declared.production.Items.TheVariants.{ImportSpecs, ConstSpecs, VarSpecs, TypeSpecs, TypeParamGroups, Types, Parameters, Fields, Elems, Indexes, Elements}
-use Rattle.go_tree.specs.declared.production.Clauses.TheVariants.{Cases, Comms}
 use Rattle.go_tree.specs.declared.production.Production.{Production}
-use Rattle.go_tree.specs.declared.production.Production.TheVariants as p
 use Rattle.go_tree.specs.Grammar.RightSide.{RightSide, Do, Call, Nothing, Seq, Or, Many, When, Act, Ahead}
 use Rattle.go_tree.specs.Grammar.Prediction.{act_is_empty, is_empty}
 use Rattle.go_tree.specs.Grammar.Sentence.{production, tables}
 use Rattle.go_tree.proofs.GrammarStarts.{empty_exact}
 use Rattle.go_parse_x.specs.Weights.{weight, weigh, cost}
+use Rattle.go_tree.proofs.ByProduction.{by_test}
 
 -- a right side weighs less than the name of its production
 lighter : (n : Production) → nat_lt (weigh (production n)) (weight n) ≡ true
-lighter (p.Exprs Plain) = refl
-lighter (p.Exprs Header) = refl
-lighter (p.More ImportSpecs) = refl
-lighter (p.More ConstSpecs) = refl
-lighter (p.More VarSpecs) = refl
-lighter (p.More TypeSpecs) = refl
-lighter (p.More TypeParamGroups) = refl
-lighter (p.More Types) = refl
-lighter (p.More Parameters) = refl
-lighter (p.More Fields) = refl
-lighter (p.More Elems) = refl
-lighter (p.More Indexes) = refl
-lighter (p.More Elements) = refl
-lighter (p.Expr Plain) = refl
-lighter (p.Expr Header) = refl
-lighter (p.OrTail Plain) = refl
-lighter (p.OrTail Header) = refl
-lighter (p.Conjunction Plain) = refl
-lighter (p.Conjunction Header) = refl
-lighter (p.AndTail Plain) = refl
-lighter (p.AndTail Header) = refl
-lighter (p.Comparison Plain) = refl
-lighter (p.Comparison Header) = refl
-lighter (p.CompareTail Plain) = refl
-lighter (p.CompareTail Header) = refl
-lighter (p.Sum Plain) = refl
-lighter (p.Sum Header) = refl
-lighter (p.AddTail Plain) = refl
-lighter (p.AddTail Header) = refl
-lighter (p.Product Plain) = refl
-lighter (p.Product Header) = refl
-lighter (p.MulTail Plain) = refl
-lighter (p.MulTail Header) = refl
-lighter (p.Unary Plain) = refl
-lighter (p.Unary Header) = refl
-lighter (p.Simple Plain) = refl
-lighter (p.Simple Header) = refl
-lighter (p.AfterExpr Plain) = refl
-lighter (p.AfterExpr Header) = refl
-lighter (p.SimpleTail Plain) = refl
-lighter (p.SimpleTail Header) = refl
-lighter (p.Clause Cases) = refl
-lighter (p.Clause Comms) = refl
-lighter (p.ClauseBody Cases) = refl
-lighter (p.ClauseBody Comms) = refl
-lighter (p.AfterClauseStmt Cases) = refl
-lighter (p.AfterClauseStmt Comms) = refl
-lighter _ = refl
+lighter = by_test _ refl
 
 below_lt : (a b : ℕ) → nat_lt a b ≡ true → a < b
 below_lt a b h = grind (arith, nat_tests, h)

@@ -1,29 +1,24 @@
 -- The answers of `parse_expr`, by the tokens of the piece.
-use Rattle.std.specs.Prelude.{ℕ, ◌≡◌, ◌<◌, ◌-◌, true, false, List, [], ◌∷◌, ◌++◌, Option, Result, Ok, Err}
+use Rattle.std.specs.Prelude.{ℕ, ◌≡◌, ◌<◌, ◌-◌, true, false, List, [], ◌∷◌, ◌++◌, Result, Ok, Err}
 use Rattle.go_tree.specs.declared.node.Node.{Node}
 use Rattle.go_tree.specs.declared.token.Token.{Token}
-use Rattle.go_tree.specs.declared.token.TokenKind.{TokenKind}
 use Rattle.go_tree.specs.declared.production.Production.{Production}
 use Rattle.go_tree.specs.declared.production.Production.TheVariants.{Block}
-use Rattle.go_tree.specs.Height.{height_of}
-use Rattle.go_tree.specs.Scan.{IsNext}
+use Rattle.go_tree.specs.Height.{height_of, AllFit}
+use Rattle.go_tree.specs.Scan.{IsNext, Stand}
 use Rattle.go_tree.specs.Tree.{tree_of}
 use Rattle.go_tree.specs.Grammar.Sentence.{IsA, Derives, Begins}
+use Rattle.go_text.specs.Faults.{Spot}
 use Rattle.go_parse_x.specs.declared.cursor.Cursor.{Cursor}
-use Rattle.go_parse_x.specs.declared.fault.ParseFault.{ParseFault}
-use Rattle.go_parse_x.specs.declared.fault.ParseFault.TheVariants.{Lexical, Syntax, High, NoMemory}
+use Rattle.go_text.specs.declared.fault.ParseFault.{ParseFault}
+use Rattle.go_text.specs.declared.fault.ParseFault.TheVariants.{Lexical, Syntax, High, NoMemory}
 use Rattle.go_parse_x.specs.declared.parsed.Parsed.{Parsed}
 use Rattle.go_parse_x.specs.declared.parsed.Parsed.TheVariants as parsed
 use Rattle.go_parse_x.specs.declared.pending.Pending.{Pending}
 use Rattle.go_parse_x.specs.Opened.{tree_without, numbers_in, Rises}
-use Rattle.go_parse_x.specs.Pieces.{AllFit, OpensBlock, PassesNoBlock, IsNew, open_view, view_of, IsOpen, IsAwaiting}
+use Rattle.go_parse_x.specs.Pieces.{OpensBlock, PassesNoBlock, IsNew, open_view, view_of, IsOpen, IsAwaiting}
 use Rattle.go_parse_x.specs.Targets.{hands}
-use Rattle.go_parse_x.specs.Texts.{Stand, IsLex}
-
--- a place between tokens: its offset, and the kind of the token before it
-pub record Spot : Type 0 where
-  pub at : ℕ
-  pub last : Option TokenKind
+use Rattle.go_tree.specs.Faults.{IsLex}
 
 abbrev pub spot_of : Cursor → Spot
 spot_of c = record { at = c.at; last = c.last }

@@ -6,7 +6,7 @@ use Rattle.go_tree.specs.declared.token.Token.{Token}
 use Rattle.go_tree.specs.declared.token.TokenKind.TheVariants.{LeftBrace, RightBrace}
 use Rattle.go_tree.specs.Tree.{branch, no_trees, tree_of}
 use Rattle.go_parse_x.specs.declared.cursor.Cursor.{Cursor}
-use Rattle.go_parse_x.specs.Texts.{Stand}
+use Rattle.go_tree.specs.Scan.{Stand}
 
 -- the node is the block that stands from the one place to the other
 pub record IsEmptyBlock (from to : Cursor) (node : Node) : Type 0 where

@@ -1,5 +1,5 @@
 -- Heights that are kept up token by token: for each open bracket how many tokens count since it stands.
-use Rattle.std.specs.Prelude.{◌≡◌, ℕ, suc, List, [], ◌∷◌, ◌++◌, length, Some}
+use Rattle.std.specs.Prelude.{◌≡◌, ◌<◌, ◌+◌, ◌^◌, ℕ, suc, List, [], ◌∷◌, ◌++◌, length, Some}
 use Rattle.go_tree.specs.declared.token.Token.{Token}
 use Rattle.go_tree.specs.declared.token.TokenKind.TheVariants.{Ident}
 use Rattle.go_tree.specs.Height.{Mark, Bracket, Lasting, Passing, counted}
@@ -36,6 +36,11 @@ pub record AreLevels (levels : Levels) (ms : List Mark) : Type 0 where
   pub outer : levels.outer.items ≡ enclosing ms
   pub inner : levels.inner ≡ level_in ms
   pub total : levels.total ≡ length ms
+
+-- two passing tokens more can be counted
+pub record HasRoom (levels : Levels) : Type 0 where
+  pub total : levels.total + 2 < 2 ^ 64
+  pub passing : levels.inner.passing + 2 < 2 ^ 64
 
 -- what is known behind these tokens; the kind of the token before the last matters where that is an
 -- identifier

@@ -1,11 +1,11 @@
 -- Pieces: what is read as one, and what is known while it is read.
-use Rattle.std.specs.Prelude.{ℕ, ◌≡◌, ◌≤◌, true, false, List, [], ◌∷◌, ◌++◌, Option, None, Some, if◌then◌else◌, Bool}
+use Rattle.std.specs.Prelude.{ℕ, ◌≡◌, true, false, List, [], ◌∷◌, ◌++◌, Option, None, Some, if◌then◌else◌, Bool}
 use Rattle.go_tree.specs.declared.token.Token.{Token}
 use Rattle.go_tree.specs.declared.token.TokenKind.{TokenKind}
 use Rattle.go_tree.specs.declared.token.TokenKind.TheVariants.{LeftBrace}
 use Rattle.go_tree.specs.declared.production.Production.{Production}
 use Rattle.go_tree.specs.declared.production.Production.TheVariants as p
-use Rattle.go_tree.specs.Height.{height_of}
+use Rattle.go_tree.specs.Height.{AllFit}
 use Rattle.go_tree.specs.Scan.{IsNext}
 use Rattle.go_tree.specs.Grammar.RightSide.{RightSide, Call}
 use Rattle.go_tree.specs.Grammar.Reading.{State, OpenNode, before}
@@ -22,10 +22,6 @@ use Rattle.go_parse_x.specs.Opened.{frames, numbers, Rises}
 use Rattle.go_parse_x.specs.Heights.{Counts}
 use Rattle.go_parse_x.specs.Turns.{at, is_asked, IsAsSeen, IsSound, IsSolid, IsFull}
 use Rattle.go_parse_x.specs.Texts.{IsBehind}
-
--- no token has a height past what is free
-abbrev pub AllFit : ℕ → List Token → Type 0
-AllFit free tokens = (front rest : List Token) → tokens ≡ front ++ rest → height_of front ≤ free
 
 -- behind the tokens, gs reads what makes an n of them, where what follows is as it was assumed
 pub record HasRead (bytes : List ℕ) (n : Production) (front : List Token) (assumed : Option TokenKind) (gs : List (RightSide Production)) (last : ℕ) (fs : List OpenNode) : Type 0 where
@@ -57,6 +53,12 @@ new_view p = record { n = piece p.reading; free = p.free; rest = production (pie
 
 abbrev pub view_of : Pending → View
 view_of p = if p.begun then open_view p else new_view p
+
+-- as before, for all that later calls ask of it
+pub record IsKept (old new : Pending) : Type 0 where
+  pub view : open_view new ≡ open_view old
+  pub begun : new.begun ≡ old.begun
+  pub awaits : new.awaits ≡ old.awaits
 
 -- nothing is read
 pub record IsNew (p : Pending) : Type 0 where

@@ -6,8 +6,8 @@ use Rattle.go_tree.specs.Height.{height_of}
 use Rattle.go_tree.specs.Scan.{IsNext}
 use Rattle.go_tree.specs.Tree.{tree_of}
 use Rattle.go_tree.specs.Grammar.Reading.{OpenNode, tree_read}
-use Rattle.go_parse_x.specs.declared.fault.ParseFault.{ParseFault}
-use Rattle.go_parse_x.specs.declared.fault.ParseFault.TheVariants.{Lexical, Syntax, High, NoMemory}
+use Rattle.go_text.specs.declared.fault.ParseFault.{ParseFault}
+use Rattle.go_text.specs.declared.fault.ParseFault.TheVariants.{Lexical, Syntax, High, NoMemory}
 use Rattle.go_parse_x.specs.declared.heights.Heights.{Heights}
 use Rattle.go_parse_x.specs.declared.pending.Pending.{Pending}
 use Rattle.go_parse_x.specs.declared.progress.Progress.{Progress}
@@ -15,11 +15,12 @@ use Rattle.go_parse_x.specs.declared.progress.Progress.TheVariants.{Passed, AtBl
 use Rattle.go_parse_x.specs.declared.parsed.Parsed.{Parsed}
 use Rattle.go_parse_x.specs.declared.parsed.Parsed.TheVariants.{Whole, Block}
 use Rattle.go_parse_x.specs.Opened.{tree_without, numbers_in, Rises}
-use Rattle.go_parse_x.specs.Answers.{Spot, IsAnswer}
+use Rattle.go_text.specs.Faults.{Spot}
+use Rattle.go_parse_x.specs.Answers.{IsAnswer}
 use Rattle.go_parse_x.specs.Heights.{Counts}
 use Rattle.go_parse_x.specs.Pieces.{OpensBlock, open_view, IsOpen, IsAwaiting}
 use Rattle.go_parse_x.specs.Targets.{hands}
-use Rattle.go_parse_x.specs.Texts.{IsLex}
+use Rattle.go_tree.specs.Faults.{IsLex}
 
 -- the height at the token is free
 abbrev pub Fits : ℕ → Token → Heights → Type 0

@@ -1,26 +1,12 @@
--- Tokens that stand one behind the other in a text.
--- What the next token is: `Scan` of go_tree.
+-- Looking ahead in a text.
+-- Decides which token stands so many places ahead. What the next token is: `Scan` of go_tree.
 use Rattle.std.specs.Prelude.{ℕ, zero, suc, ◌≡◌, ◌≢◌, List, [], ◌∷◌, ◌++◌, Option, Some, ◌⊎◌}
-use Rattle.go_base.specs.declared.rules.TheConstants.{FORBIDDEN_BYTE, MISSING_TOKEN}
 use Rattle.go_tree.specs.declared.token.Token.{Token}
 use Rattle.go_tree.specs.declared.token.TokenKind.{TokenKind}
 use Rattle.go_tree.specs.declared.token.TokenKind.TheVariants.{End}
-use Rattle.go_tree.specs.Faults.{IsForbiddenByte, IsMissingToken}
+use Rattle.go_tree.specs.Faults.{IsLex}
 use Rattle.go_tree.specs.Scan.{IsNext}
-use Rattle.go_scan.specs.declared.next_token.Lex.{Lex}
-
--- these are the tokens from one place to another, where a token of the kind `last` stands before the first place;
--- the end of the file is none of them
-abbrev pub Stand : List ℕ → ℕ → Option TokenKind → List Token → ℕ → Option TokenKind → Type 0
-Stand bytes at last [] to kind = (at ≡ to) × (last ≡ kind)
-Stand bytes at last (t ∷ ts) to kind = IsNext bytes at last t × (t.kind ≢ End) × Stand bytes t.end (Some t.kind) ts to kind
-
--- no token starts at the next place, by that rule at that byte
-abbrev pub IsLex : List ℕ → ℕ → Option TokenKind → Lex → Type 0
-IsLex bytes at last e =
-    ((t : Token) → IsNext bytes at last t → ⊥)
-    × (((e.rule ≡ FORBIDDEN_BYTE) × IsForbiddenByte bytes at last e.offset)
-    ⊎ ((e.rule ≡ MISSING_TOKEN) × IsMissingToken bytes at last e.offset))
+use Rattle.go_tree.specs.declared.lex.Lex.{Lex}
 
 -- the token so many places behind the next one, or the end where there are not as many
 abbrev pub IsAhead : List ℕ → ℕ → Option TokenKind → ℕ → Token → Type 0

@@ -1,10 +1,9 @@
 // Where a piece ends, what stands behind it, blocks that are handed over, and calls after a fault.
-use crate::fault::ParseFault;
 use crate::parsed::Parsed;
 use crate::piece_tests::{AMPLE, Behind, read_again, read_on, shape};
 use crate::reading::Reading;
-use go_base::MISSING_TOKEN;
-use go_scan::Lex;
+use go_scan::{Lex, MISSING_TOKEN};
+use go_text::ParseFault;
 use go_tree::TokenKind::{self, *};
 use std::alloc::{AllocError, Global};
 use std::process::Abort;

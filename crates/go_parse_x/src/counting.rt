@@ -10,10 +10,10 @@ ghost use Rattle.go_parse_x.specs.Pieces.{open_view};
 ghost use Rattle.go_parse_x.specs.Steps.{Fits, IsTooHigh, IsStray, behind};
 
 use crate::cursor::Cursor;
-use crate::fault::ParseFault;
 use crate::heights::Heights;
 use crate::pending::Pending;
 use crate::progress::Progress;
+use go_text::ParseFault;
 use go_tree::Token;
 
 /// Counts a token, or says that its height passes what is free.

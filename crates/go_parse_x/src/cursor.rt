@@ -4,12 +4,13 @@ ghost use Rattle.go_tree.specs.declared.token.Token.{Token as TokenOf};
 ghost use Rattle.go_tree.specs.declared.token.TokenKind.TheVariants.{End};
 ghost use Rattle.go_tree.specs.Scan.{IsNext};
 ghost use Rattle.go_scan.specs.Weight.{scan_weight};
-ghost use Rattle.go_parse_x.specs.Texts.{IsAhead, IsLex, IsLexAhead};
+ghost use Rattle.go_parse_x.specs.Texts.{IsAhead, IsLexAhead};
+ghost use Rattle.go_tree.specs.Faults.{IsLex};
 
 use crate::closing::next_number;
-use crate::fault::ParseFault;
 use go_base::NoMemory;
 use go_scan::{Lex, next};
+use go_text::ParseFault;
 use go_tree::{NodeId, Token, TokenKind};
 
 /// A place between the tokens of a text, the number for the next node, and the fault that ended the

@@ -1,7 +1,6 @@
 // What the cursor shows and takes.
 use crate::cursor::Cursor;
-use go_base::MISSING_TOKEN;
-use go_scan::Lex;
+use go_scan::{Lex, MISSING_TOKEN};
 use go_tree::TokenKind::{self, *};
 use go_tree::{NodeId, Token};
 use std::process::Abort;

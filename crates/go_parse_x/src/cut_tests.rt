@@ -1,9 +1,9 @@
 // Each front of a long expression: it is whole, or at fault at its end.
-use crate::fault::ParseFault;
 use crate::parsed::Parsed;
 use crate::piece_tests::{AMPLE, Behind, read_on};
 use crate::reading::Reading;
 use go_scan::tokens;
+use go_text::ParseFault;
 use std::alloc::{AllocError, Global};
 use std::process::Abort;
 use std::test::Fail;

@@ -1,7 +1,7 @@
 // How high a piece may be, by counting tokens (`Height.antt` of go_tree).
-use crate::fault::ParseFault;
 use crate::piece_tests::read;
 use crate::reading::Reading;
+use go_text::ParseFault;
 use std::alloc::{AllocError, Global};
 use std::process::Abort;
 use std::test::Fail;

@@ -1,14 +1,14 @@
 // The height at the last token, kept up token by token.
-ghost use Rattle.std.specs.Prelude.{◌≡◌, ℕ, ◌+◌, List, [], ◌∷◌, ◌++◌, length, OnOk, IfOk};
+ghost use Rattle.std.specs.Prelude.{◌≡◌, ◌↔◌, ℕ, ◌+◌, List, [], ◌∷◌, ◌++◌, length, OnOk, IfOk, IsTrue};
 ghost use Rattle.go_tree.specs.declared.token.Token.{Token};
 ghost use Rattle.go_tree.specs.declared.production.Production.TheVariants.{Block};
 ghost use Rattle.go_tree.specs.declared.token_height.Role.TheVariants.{Opens, Closes, Separates, CountsOn, Counts as CountsSo};
-ghost use Rattle.go_tree.specs.Height.{Mark, Passing, height_of, before_label, role_of, marks_behind};
+ghost use Rattle.go_tree.specs.Height.{Mark, Passing, height_of, marks_behind};
 ghost use Rattle.go_tree.specs.Grammar.Sentence.{IsA};
-ghost use Rattle.go_parse_x.specs.Heights.{AreLevels, Counts, enclosing, level_in};
+ghost use Rattle.go_parse_x.specs.Heights.{AreLevels, Counts, HasRoom, enclosing, level_in};
 
 use go_base::NoMemory;
-use go_tree::{Role, TokenKind};
+use go_tree::{Role, TokenKind, role_behind};
 use std::alloc::Global;
 
 /// How many tokens count behind the tokens of a piece so far. A level is kept for each open bracket, so
@@ -55,14 +55,21 @@ impl Heights {
         Ok(())
     }
 
-    /// The tokens of a whole block more.
-    pub fn block(&mut self) -> Result<(), NoMemory>
-        ensures { OnOk result ((bytes : List ℕ) (ts bs : List Token) → IsA bytes Block bs → Counts self.old ts → Counts self.new (ts ++ bs)) }
+    /// Whether the tokens of a whole block more can be counted.
+    pub fn has_room(&self) -> bool
+        ensures { IsTrue result ↔ HasRoom self.now.levels }
     {
-        self.levels.braces()?;
+        self.levels.has_room()
+    }
+
+    /// The tokens of a whole block more.
+    pub fn block(&mut self)
+        requires { HasRoom self.old.levels }
+        ensures { (bytes : List ℕ) (ts bs : List Token) → IsA bytes Block bs → Counts self.old ts → Counts self.new (ts ++ bs) }
+    {
+        self.levels.braces();
         self.last = Some(TokenKind::RightBrace);
         self.before = None;
-        Ok(())
     }
 }
 
@@ -148,13 +155,20 @@ impl Levels {
         Ok(())
     }
 
-    // Two passing tokens more.
-    fn braces(&mut self) -> Result<(), NoMemory>
-        ensures { OnOk result ((ms : List Mark) → AreLevels self.old ms → AreLevels self.new (Passing ∷ (Passing ∷ ms))) }
+    // Whether two passing tokens more can be counted.
+    fn has_room(&self) -> bool
+        ensures { IsTrue result ↔ HasRoom self.now }
     {
-        self.counts()?;
-        self.counts()?;
-        Ok(())
+        self.total <= usize::MAX - 2 && self.inner.passing <= usize::MAX - 2
+    }
+
+    // Two passing tokens more.
+    fn braces(&mut self)
+        requires { HasRoom self.old }
+        ensures { (ms : List Mark) → AreLevels self.old ms → AreLevels self.new (Passing ∷ (Passing ∷ ms)) }
+    {
+        self.total += 2;
+        self.inner.passing += 2;
     }
 
     fn separates(&mut self)
@@ -188,32 +202,4 @@ fn sum(a: usize, b: usize) -> Result<usize, NoMemory>
     ensures { IfOk result (λ n. n ≡ a + b) }
 {
     a.checked_add(b).ok_or(NoMemory)
-}
-
-fn role_behind(kind: TokenKind, last: Option<TokenKind>, before: Option<TokenKind>) -> Role
-    ensures { result ≡ role_of kind last before }
-{
-    match kind {
-        TokenKind::LeftParen | TokenKind::LeftBracket | TokenKind::LeftBrace => Role::Opens,
-        TokenKind::RightParen | TokenKind::RightBracket | TokenKind::RightBrace => Role::Closes,
-        TokenKind::Comma | TokenKind::Semicolon | TokenKind::InsertedSemicolon => Role::Separates,
-        TokenKind::KwElse => Role::CountsOn,
-        TokenKind::Colon => match (last, before) {
-            (Some(TokenKind::Ident), Some(kind)) if can_stand_before_label(kind) => Role::CountsOn,
-            _ => Role::Counts,
-        },
-        _ => Role::Counts,
-    }
-}
-
-fn can_stand_before_label(kind: TokenKind) -> bool
-    ensures { result ≡ before_label kind }
-{
-    matches!(
-        kind,
-        TokenKind::LeftBrace
-            | TokenKind::Semicolon
-            | TokenKind::InsertedSemicolon
-            | TokenKind::Colon
-    )
 }

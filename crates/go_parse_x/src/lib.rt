@@ -4,14 +4,13 @@
 //! `reader` reads a piece token by token, `texts` a file, `counting` counts heights, `cursor` is the
 //! place in the text. A machine with an explicit stack does the reading: `machine` makes one step,
 //! `settle` all steps up to a token, `finish` those where no token is left, over the productions as
-//! flat tables (`lines`). The grammar is a definition of go_tree. Where a piece is read, the block of a
+//! flat tables (`lines`). The grammar is a definition of go_tree, what a file is one of go_text. Where a piece is read, the block of a
 //! function literal is read by the caller and handed in (`giving`).
 #![tactic(auto)]
 
 // What a call reads, and what it answers.
 mod counting;
 mod cursor;
-mod fault;
 mod giving;
 mod parsed;
 mod pending;
@@ -49,7 +48,7 @@ mod type_lines;
 
 pub use closing::next_number;
 pub use cursor::Cursor;
-pub use fault::ParseFault;
+pub use go_text::ParseFault;
 pub use parsed::Parsed;
 pub use pending::Pending;
 pub use reader::parse_expr;

@@ -1,5 +1,5 @@
 // Open nodes: what is done with the nodes that are read.
-ghost use Rattle.std.specs.Prelude.{◌≡◌, ℕ, ◌++◌, ◌∷◌, [], OnOk, IfSome, option_map};
+ghost use Rattle.std.specs.Prelude.{◌≡◌, ℕ, ◌++◌, ◌∷◌, [], OnOk, OnErr, IfSome, option_map};
 ghost use Rattle.go_tree.specs.Tree.{tree_of};
 ghost use Rattle.go_tree.specs.Grammar.Reading.{reopen, adopt, tree_read};
 ghost use Rattle.go_parse_x.specs.Opened.{frames, numbers, numbers_in, added, tree_without, Rises};
@@ -72,23 +72,27 @@ pub fn adopt(opened: &mut Vec<OpenNode>) -> Result<(), NoMemory>
     Ok(())
 }
 
-/// The node becomes the newest part of the innermost open node; nothing happens where none is open.
+/// The node becomes the newest part of the innermost open node; nothing happens where none is open, or
+/// where there is no memory for it.
 pub fn add(opened: &mut Vec<OpenNode>, node: Node) -> Result<(), NoMemory>
     ensures nodes { OnOk result (frames opened.new.items ≡ added (tree_without node) (frames opened.old.items)) }
     ensures numbers { OnOk result ((low middle next : ℕ) → Rises low (numbers opened.old.items) middle → Rises middle (numbers_in (tree_of node)) next → Rises low (numbers opened.new.items) next) }
+    ensures kept { OnErr result ((frames opened.new.items ≡ frames opened.old.items) × (numbers opened.new.items ≡ numbers opened.old.items)) }
 {
     let Some(mut inner) = opened.pop() else {
         return Ok(());
     };
-    push_part(&mut inner.parts, node)?;
-    opened.push(inner)?;
-    Ok(())
+    let added = push_part(&mut inner.parts, node);
+    // behind the pop there is room
+    opened.push_reserved(inner);
+    added
 }
 
 /// The node becomes the last part. Most nodes that have parts have one or two, so there is room for
 /// two before there is for more.
 pub fn push_part(parts: &mut Vec<Node>, node: Node) -> Result<(), NoMemory>
-    ensures { OnOk result (parts.new.items ≡ parts.old.items ++ node ∷ []) }
+    ensures pushed { OnOk result (parts.new.items ≡ parts.old.items ++ node ∷ []) }
+    ensures kept { OnErr result (parts.new.items ≡ parts.old.items) }
 {
     if parts.is_empty() {
         parts.reserve_exact(2)?;

@@ -1,11 +1,11 @@
 // Reading single pieces: what the tests of this crate share.
 use crate::cursor::Cursor;
-use crate::fault::ParseFault;
 use crate::parsed::Parsed;
 use crate::pending::Pending;
 use crate::reader::parse_expr;
 use crate::reading::Reading;
 use go_scan::Lex;
+use go_text::ParseFault;
 use go_tree::{Node, NodeId, NodeKind, Token};
 use std::alloc::{AllocError, Global};
 use std::process::Abort;

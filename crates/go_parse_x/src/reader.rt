@@ -6,7 +6,7 @@ ghost use Rattle.go_tree.specs.declared.token.TokenKind.TheVariants.{End};
 ghost use Rattle.go_tree.specs.Scan.{IsNext};
 ghost use Rattle.go_tree.specs.Grammar.Prediction.{starts as starts_so};
 ghost use Rattle.go_tree.specs.Grammar.Sentence.{tables, IsA};
-ghost use Rattle.go_parse_x.specs.declared.fault.ParseFault.{ParseFault as ParseFaultOf};
+ghost use Rattle.go_text.specs.declared.fault.ParseFault.{ParseFault as ParseFaultOf};
 ghost use Rattle.go_parse_x.specs.declared.progress.Progress.TheVariants.{Passed as ThePassed};
 ghost use Rattle.go_parse_x.specs.Answers.{spot_of, IsAnswer, IsReady};
 ghost use Rattle.go_parse_x.specs.Lines.{sides};
@@ -18,7 +18,6 @@ ghost use Rattle.go_parse_x.specs.Turns.{is_asked as is_asked_so, IsSolid};
 
 use crate::counting::{hand_over, pass, stray};
 use crate::cursor::Cursor;
-use crate::fault::ParseFault;
 use crate::finish::finish;
 use crate::opened::last_node;
 use crate::parsed::Parsed;
@@ -27,6 +26,7 @@ use crate::prediction::{is_asked, starts};
 use crate::progress::Progress;
 use crate::seen::{Seen, Turn};
 use crate::settle::settle;
+use go_text::ParseFault;
 use go_tree::{Token, TokenKind};
 use std::alloc::Global;
 

@@ -1,9 +1,9 @@
 // Texts of which no front is a whole piece up to the token at fault, and where that token starts.
-use crate::fault::ParseFault;
 use crate::piece_tests::{AMPLE, read};
 use crate::reading::Reading;
-use go_base::{FORBIDDEN_BYTE, MISSING_TOKEN, Rule};
-use go_scan::Lex;
+use go_base::Rule;
+use go_scan::{FORBIDDEN_BYTE, Lex, MISSING_TOKEN};
+use go_text::ParseFault;
 use std::alloc::Global;
 use std::process::Abort;
 

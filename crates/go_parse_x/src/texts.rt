@@ -1,5 +1,5 @@
 // Reading a whole file.
-ghost use Rattle.std.specs.Prelude.{◌≡◌, ◌≢◌, ℕ, true, List, [], ◌⊎◌, IfOk, IfErr, OnOk, MatchBool};
+ghost use Rattle.std.specs.Prelude.{◌≡◌, ◌≢◌, ℕ, true, List, [], ◌⊎◌, Some, None, IfOk, IfErr, OnOk, MatchBool};
 ghost use Rattle.go_tree.specs.declared.token.Token.{Token as TokenOf};
 ghost use Rattle.go_tree.specs.declared.token.TokenKind.TheVariants.{End};
 ghost use Rattle.go_tree.specs.declared.production.Production.TheVariants.{File};
@@ -18,7 +18,6 @@ ghost use Rattle.go_parse_x.specs.Turns.{IsSolid};
 
 use crate::counting::count;
 use crate::cursor::Cursor;
-use crate::fault::ParseFault;
 use crate::finish::finish;
 use crate::opened::last_node;
 use crate::pending::Pending;
@@ -26,6 +25,7 @@ use crate::progress::Progress;
 use crate::reader::one_token;
 use crate::seen::{Seen, Turn};
 use crate::settle::settle;
+use go_text::ParseFault;
 use go_tree::{Node, Token, TokenKind};
 use std::alloc::Global;
 
@@ -33,7 +33,7 @@ use std::alloc::Global;
 ///
 /// Ok is the tree of all its tokens. The faults say what is wrong at the earliest token: Syntax where
 /// no file begins with the tokens up to it, High at the first whose height passes what is free, and
-/// Lexical where no token starts behind those before.
+/// Lexical where no token starts behind those before. After a fault the cursor is spent with it.
 pub fn parse_text(
     alloc: Global,
     cursor: &mut Cursor,
@@ -41,8 +41,29 @@ pub fn parse_text(
 ) -> Result<Node, ParseFault>
     requires file { pending.old.reading ≡ TheFile }
     requires anew { IsNew pending.old }
+    requires unspent { cursor.old.fault ≡ None }
     ensures answer { IsTextAnswer cursor.old.bytes.now File pending.old.free (spot_of cursor.old) (spot_of cursor.new) cursor.old.number cursor.new.number result }
+    ensures spent { IfErr result (λ fault. cursor.new.fault ≡ Some fault) }
+    ensures unspent { IfOk result (λ _. cursor.new.fault ≡ None) }
     ensures text { cursor.new.bytes.now ≡ cursor.old.bytes.now }
+    ensures piece { (pending.new.reading ≡ pending.old.reading) × (pending.new.free ≡ pending.old.free) }
+{
+    match read(alloc, cursor, pending) {
+        Ok(root) => Ok(root),
+        Err(fault) => {
+            cursor.fault = Some(fault);
+            Err(fault)
+        }
+    }
+}
+
+// Reads all of the text.
+fn read(alloc: Global, cursor: &mut Cursor, pending: &mut Pending) -> Result<Node, ParseFault>
+    requires file { pending.old.reading ≡ TheFile }
+    requires anew { IsNew pending.old }
+    ensures answer { IsTextAnswer cursor.old.bytes.now File pending.old.free (spot_of cursor.old) (spot_of cursor.new) cursor.old.number cursor.new.number result }
+    ensures text { (cursor.new.bytes.now ≡ cursor.old.bytes.now) × (cursor.new.fault ≡ cursor.old.fault) }
+    ensures piece { (pending.new.reading ≡ pending.old.reading) × (pending.new.free ≡ pending.old.free) }
 {
     if pending.begin(alloc).is_err() {
         return Err(ParseFault::NoMemory);
@@ -59,7 +80,8 @@ fn read_tokens(
     requires file { pending.old.reading ≡ TheFile }
     requires open { IsOpen cursor.old.bytes.now (open_view pending.old) [] cursor.old.number cursor.old.number cursor.old.at cursor.old.last }
     ensures answer { IsTextAnswer cursor.old.bytes.now File pending.old.free (spot_of cursor.old) (spot_of cursor.new) cursor.old.number cursor.new.number result }
-    ensures text { cursor.new.bytes.now ≡ cursor.old.bytes.now }
+    ensures text { (cursor.new.bytes.now ≡ cursor.old.bytes.now) × (cursor.new.fault ≡ cursor.old.fault) }
+    ensures piece { (pending.new.reading ≡ pending.old.reading) × (pending.new.free ≡ pending.old.free) }
 {
     loop {
         let token = match cursor.peek() {
@@ -97,7 +119,8 @@ fn last_token(
     requires end { token.kind ≡ End }
     ensures answer { (tokens : List TokenOf) (low : ℕ) → IsOpen cursor.old.bytes.now (open_view pending.old) tokens low cursor.old.number cursor.old.at cursor.old.last →
         EndsText cursor.old.bytes.now pending.old.free tokens token (spot_of cursor.old) low cursor.new.number result }
-    ensures text { (cursor.new.bytes.now ≡ cursor.old.bytes.now) × (spot_of cursor.new ≡ spot_of cursor.old) }
+    ensures text { (cursor.new.bytes.now ≡ cursor.old.bytes.now) × (spot_of cursor.new ≡ spot_of cursor.old) × (cursor.new.fault ≡ cursor.old.fault) }
+    ensures piece { (pending.new.reading ≡ pending.old.reading) × (pending.new.free ≡ pending.old.free) }
 {
     let seen = Seen {
         token,
@@ -137,7 +160,8 @@ fn root(
     ensures fits { OnOk result (Fits pending.old.free token pending.old.heights) }
     ensures tree { IfOk result (λ node. IsFinishedBy cursor.old.bytes.now token.end (sides pending.old.todo.items) (frames pending.old.opened.items) (tree_without node)) }
     ensures numbers { IfOk result (λ node. (low : ℕ) → Rises low (numbers pending.old.opened.items) cursor.old.number → Rises low (numbers_in (tree_of node)) cursor.new.number) }
-    ensures text { (cursor.new.bytes.now ≡ cursor.old.bytes.now) × (spot_of cursor.new ≡ spot_of cursor.old) }
+    ensures text { (cursor.new.bytes.now ≡ cursor.old.bytes.now) × (spot_of cursor.new ≡ spot_of cursor.old) × (cursor.new.fault ≡ cursor.old.fault) }
+    ensures piece { (pending.new.reading ≡ pending.old.reading) × (pending.new.free ≡ pending.old.free) }
 {
     match count(&mut pending.heights, pending.free, token) {
         Err(fault) => Err(fault),

@@ -1,24 +1,15 @@
 -- Lemmas on comments: where they lie, where reading one is stuck, and that one has one end.
-use Rattle.std.proofs.Common.{◌≡◌, ◌≢◌, ℕ, ◌+◌, ◌<◌, ◌≤◌, ◌==◌, ◌&&◌, Bool, true, false, List, length, drop, slice_index, get_or, Some, ◌⊎◌, refl, arith, get_or-drop, sym, ◌∙◌, ap, ⊎_elim}
+use Rattle.std.proofs.Common.{◌≡◌, ◌≢◌, ℕ, ◌+◌, ◌<◌, ◌≤◌, ◌==◌, ◌&&◌, Bool, true, false, List, length, slice_index, Some, ◌⊎◌, refl, arith, sym, ◌∙◌, ⊎_elim}
 use Rattle.std.proofs.lemmas.Bool.{cases_lt, cases_order, eqb-true, false≢true, and_parts}
-use Rattle.bstr.specs.Utf8.{continues}
-use Rattle.bstr.proofs.lemmas.PieceLemmas.{tail-continues}
-use Rattle.go_tree.specs.Characters.{decoded_at, Run, is_allowed, IsForbidden}
+use Rattle.go_tree.specs.Characters.{decoded_at, Run, is_allowed, IsForbidden, Ends}
 use Rattle.go_tree.specs.Comments.{OpensLine, OpensGeneral, Closes, IsOpen, IsLineComment, IsGeneralComment, in_line_comment, in_general_comment}
 use Rattle.go_tree.specs.Faults.{CanGoOn, line, general, raw, string, string_escape, rune, rune_escape, rune_closes}
-use Rattle.go_scan.specs.Runs.{Ends, IsAllowedChar}
+use Rattle.go_scan.specs.Runs.{IsAllowedChar}
 use Rattle.go_scan.specs.Reading.{IsStuck}
-use Rattle.go_scan.proofs.ByteLemmas.{byte_within, byte_char, allowed_char}
-use Rattle.go_scan.proofs.RunLemmas.{run_from, run_within, run_longest, run_one_end, run_inner, char_lies, one_more}
-
-pub opens_within : (bytes : List ℕ) (from : ℕ) → OpensLine bytes from → from + 2 ≤ length bytes
-opens_within bytes from h = let b = byte_within bytes (from + 1) 46 h.1 in omega (arith, b)
-
-pub opens_general_within : (bytes : List ℕ) (from : ℕ) → OpensGeneral bytes from → from + 2 ≤ length bytes
-opens_general_within bytes from h = let b = byte_within bytes (from + 1) 41 h.1 in omega (arith, b)
-
-pub closes_within : (bytes : List ℕ) (at : ℕ) → Closes bytes at → at + 2 ≤ length bytes
-closes_within bytes at h = let b = byte_within bytes (at + 1) 46 h.1 in omega (arith, b)
+use Rattle.go_tree.proofs.ByteLemmas.{allowed_char}
+use Rattle.go_tree.proofs.ContinuationLemmas.{behind_first}
+use Rattle.go_tree.proofs.SpaceLemmas.{opens_within, opens_general_within, line_ends}
+use Rattle.go_tree.proofs.CharacterRunLemmas.{run_from, run_within, run_longest, run_one_end, run_inner, char_lies, one_more}
 
 -- what could go on, by the bytes that open it
 pub on_line : (bytes : List ℕ) (from n : ℕ) → OpensLine bytes from → CanGoOn bytes from n → Run in_line_comment bytes (from + 2) n
@@ -74,55 +65,6 @@ general_stuck bytes from at h r e i =
       only = λ n could forbidden. run_only in_general_comment bytes (from + 2) at n general_allows r e (on_general bytes from n h could) forbidden;
     }
 
--- where a line comment ends, its run ends
-line_ends : (bytes : List ℕ) (to : ℕ) → (to ≡ length bytes) ⊎ (slice_index bytes to ≡ 10) → Ends in_line_comment bytes to
-line_ends bytes to end c char passes = ⊎_elim
-    (λ (last : to ≡ length bytes). let l = char_lies bytes to c char in let w = l.within in let s = l.some in omega (arith, w, s, last))
-    (λ (newline : slice_index bytes to ≡ 10).
-    let ten = byte_char bytes to 9 newline (omega arith) in
-    let same : Some c ≡ Some 10 = sym char ∙ ten in
-    let c10 : c ≡ 10 = some_same c 10 same in
-    let no = (and_parts (is_allowed c) _ passes).1 in
-    false≢true (rw c10 at no))
-    end
-  where
-    some_same : (a b : ℕ) → Some a ≡ Some b → a ≡ b
-    some_same a b e = cc
-
--- a comment has one end
-pub one_line_comment : (bytes : List ℕ) (from m n : ℕ) → IsLineComment bytes from m → IsLineComment bytes from n → m ≡ n
-one_line_comment bytes from m n a b = run_one_end a.inside (line_ends bytes m a.ends) b.inside (line_ends bytes n b.ends)
-
-one_close : (bytes : List ℕ) (from m n : ℕ) → from ≤ m → Closes bytes m → IsOpen bytes from (n + 1) → n ≤ m
-one_close bytes from m n le closes opened = ⊎_elim
-    (λ (lt : m < n). absurd (opened m le (omega (arith, lt)) closes))
-    (λ (ge : n ≤ m). ge)
-    (cases_lt m n)
-
-pub one_general_comment : (bytes : List ℕ) (from m n : ℕ) → IsGeneralComment bytes from m → IsGeneralComment bytes from n → m ≡ n
-one_general_comment bytes from m n a b =
-    let below = one_close bytes (from + 2) a.close b.close (run_from a.inside) a.closes b.first in
-    let above = one_close bytes (from + 2) b.close a.close (run_from b.inside) b.closes a.first in
-    omega (arith, below, above, a.ends, b.ends)
-
--- the bytes of a character behind its first are no `*`
-behind_first : (bytes : List ℕ) (at k : ℕ) → at < k → k < at + (decoded_at bytes at).size → (decoded_at bytes at).size ≤ 4 → slice_index bytes k ≢ 42
-behind_first bytes at k lt below small e =
-    let tails = tail-continues (length (drop at bytes)) (slice_index (drop at bytes) 0) (slice_index (drop at bytes) 1) (slice_index (drop at bytes) 2) (slice_index (drop at bytes) 3) in
-    ⊎_elim
-    (λ (one : k ≡ at + 1). star_continues _ _ (get_or-drop at bytes 1 0) one e (tails.0 (omega (arith, lt, below, one))))
-    (λ more. ⊎_elim
-    (λ (two : k ≡ at + 2). star_continues _ _ (get_or-drop at bytes 2 0) two e (tails.1 (omega (arith, lt, below, two))))
-    (λ (three : k ≡ at + 3). star_continues _ _ (get_or-drop at bytes 3 0) three e (tails.2 (omega (arith, lt, below, three))))
-    more)
-    (places at k lt (omega (arith, below, small)))
-  where
-    places : (at k : ℕ) → at < k → k < at + 4 → (k ≡ at + 1) ⊎ ((k ≡ at + 2) ⊎ (k ≡ at + 3))
-    places at k lt below = grind arith
-
-    star_continues : (b i : ℕ) → b ≡ get_or bytes i 0 → k ≡ i → slice_index bytes k ≡ 42 → continues b ≡ true → ⊥
-    star_continues b i same here star c = let e : b ≡ 42 = same ∙ sym (ap (λ j. get_or bytes j 0) here) ∙ star in false≢true (rw e at c)
-
 -- reading on over a character: no `*/` begins within it
 pub open_on : (bytes : List ℕ) (from at c : ℕ) → IsOpen bytes from (at + 1) → (Closes bytes at → ⊥) → (decoded_at bytes at).char ≡ Some c → IsOpen bytes from (at + (decoded_at bytes at).size + 1)
 open_on bytes from at c opened closed char k low high closes = ⊎_elim
@@ -130,7 +72,7 @@ open_on bytes from at c opened closed char k low high closes = ⊎_elim
     (λ (ge : at ≤ k). ⊎_elim
     (λ (same : at ≡ k). closed (rw same closes))
     (λ apart. ⊎_elim
-    (λ (lt : at < k). behind_first bytes at k lt (omega (arith, high)) (char_lies bytes at c char).small closes.0)
+    (λ (lt : at < k). behind_first bytes 42 at k (omega arith) lt (omega (arith, high)) (char_lies bytes at c char).small closes.0)
     (λ (gt : k < at). absurd (omega (arith, ge, gt)))
     apart)
     (cases_order at k))

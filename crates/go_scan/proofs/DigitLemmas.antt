@@ -10,7 +10,7 @@ use Rattle.go_tree.specs.Numbers.{is_hex, is_octal}
 use Rattle.go_tree.specs.Literals.{number_in, digit_value, is_valid_code_point}
 use Rattle.go_scan.specs.declared.escapes.Digits.{Digits}
 use Rattle.go_scan.specs.declared.escapes.Digits.TheVariants.{Octal, Byte, Little, Big}
-use Rattle.go_scan.specs.Escapes.{base_of, is_digit_of, is_value_of}
+use Rattle.go_scan.specs.Escapes.{base_of, is_escape_digit, is_value_of}
 
 -- what a digit adds to a number
 abbrev pub add_digit : ℕ → ℕ → ℕ → ℕ
@@ -42,19 +42,19 @@ octal_digit b h = record { small = grind (arith, nat_tests); no_blank = λ e. gr
 hex_digit : (b : ℕ) → is_hex b ≡ true → IsDigit 16 b
 hex_digit b h = record { small = grind (arith, nat_tests); no_blank = λ e. grind (arith, nat_tests); some = grind (arith, nat_tests); plain = grind (arith, nat_tests); hex = h }
 
-pub is_digit : (kind : Digits) (b : ℕ) → is_digit_of kind b ≡ true → IsDigit (base_of kind) b
+pub is_digit : (kind : Digits) (b : ℕ) → is_escape_digit kind b ≡ true → IsDigit (base_of kind) b
 is_digit Octal b h = octal_digit b h
 is_digit Byte b h = hex_digit b h
 is_digit Little b h = hex_digit b h
 is_digit Big b h = hex_digit b h
 
-zero_digit : (kind : Digits) → is_digit_of kind 48 ≡ true
+zero_digit : (kind : Digits) → is_escape_digit kind 48 ≡ true
 zero_digit Octal = refl
 zero_digit Byte = refl
 zero_digit Little = refl
 zero_digit Big = refl
 
-pub zero_digits : (kind : Digits) (m : ℕ) → list_all (is_digit_of kind) (replicate m 48) ≡ true
+pub zero_digits : (kind : Digits) (m : ℕ) → list_all (is_escape_digit kind) (replicate m 48) ≡ true
 zero_digits kind zero = refl
 zero_digits kind (suc m) = and_from _ _ (zero_digit kind) (zero_digits kind m)
 
@@ -70,7 +70,7 @@ blocks_step base v d p n more e =
     let b : v * base * p ≡ v * (p * base) = mul_assoc v base p ∙ ap (λ x. v * x) (mul_comm base p) in
     omega arith
 
-pub block : (kind : Digits) (v : ℕ) (zs : List ℕ) → list_all (is_digit_of kind) zs ≡ true → Block (fold (add_digit (base_of kind)) v zs) (base_of kind) (length zs) v
+pub block : (kind : Digits) (v : ℕ) (zs : List ℕ) → list_all (is_escape_digit kind) zs ≡ true → Block (fold (add_digit (base_of kind)) v zs) (base_of kind) (length zs) v
 block kind v [] all = let one : base_of kind ^ 0 ≡ 1 = pow-zero (base_of kind) in record { more = 0; small = omega arith; is = sym (ap (λ x. v * x + 0) one ∙ grind arith) }
 block kind v (z ∷ zs) all =
     let base = base_of kind in

@@ -8,7 +8,7 @@ use Rattle.go_tree.specs.Literals.{is_escape, is_simple_escape, is_octal_byte, a
 use Rattle.go_scan.specs.declared.escapes.Digits.{Digits}
 use Rattle.go_scan.specs.declared.escapes.Digits.TheVariants.{Octal, Byte, Little, Big}
 use Rattle.go_scan.specs.Escapes.{AreDigits, Stops, IsEscape, IsQuote}
-use Rattle.go_scan.proofs.ByteLemmas.{range_cons, range_empty}
+use Rattle.go_tree.proofs.ByteLemmas.{range_cons, range_empty}
 
 -- the letter behind the backslash that asks for such digits
 abbrev pub IsMark : Digits → ℕ → Type 0

@@ -13,11 +13,11 @@ use Rattle.go_tree.specs.Tokens.{IsLongest}
 use Rattle.go_scan.specs.Blame.{IsBlamed}
 use Rattle.go_scan.specs.Gaps.{HasNoSpace}
 use Rattle.go_scan.specs.Reading.{IsStuck}
-use Rattle.go_scan.proofs.ByteLemmas.{byte_within}
+use Rattle.go_tree.proofs.ByteLemmas.{byte_within}
 use Rattle.go_scan.proofs.LexemeLemmas.{Form, form_of, SpelledAt, spelled_at}
 use Rattle.go_scan.proofs.LongestLemmas.{stuck_blamed}
 use Rattle.go_scan.proofs.NextLemmas.{one_place}
-use Rattle.go_scan.proofs.SpaceLemmas.{one_space}
+use Rattle.go_tree.proofs.SpaceLemmas.{one_space}
 use Rattle.go_scan.proofs.TokenLemmas.{no_word, not_number}
 
 -- a place where no space stands, and one where a newline stops

@@ -6,7 +6,7 @@ use Rattle.go_tree.specs.Literals.{IsCharacter, itself, escaped}
 use Rattle.go_tree.specs.LiteralValues.{inside_of}
 use Rattle.go_scan.specs.Escapes.{IsEscape}
 use Rattle.go_scan.specs.Quoted.{IsRuneText, IsRuneInside}
-use Rattle.go_scan.proofs.ByteLemmas.{range_cons, range_length}
+use Rattle.go_tree.proofs.ByteLemmas.{range_cons, range_length}
 use Rattle.go_scan.proofs.LiteralCharacterLemmas.{character_from, not_itself, backslash, in_range}
 use Rattle.go_scan.proofs.QuotedLemmas.{rune_quote, rune_lit_within}
 

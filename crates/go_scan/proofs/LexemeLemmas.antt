@@ -12,7 +12,7 @@ use Rattle.go_tree.specs.Tokens.{spelling, IsSpelled, IsWord, IsToken}
 use Rattle.go_scan.specs.Ascii.{is_small_letter}
 use Rattle.go_scan.specs.Ascii.{is_ascii_letter}
 use Rattle.go_scan.proofs.CharacterLemmas.{ascii_letters}
-use Rattle.go_scan.proofs.ByteLemmas.{byte_char, byte_size}
+use Rattle.go_tree.proofs.ByteLemmas.{byte_char, byte_size}
 use Rattle.go_scan.proofs.WordLemmas.{in_word}
 
 -- a byte that begins an operator or a punctuation mark: printable, and no letter, digit or quote

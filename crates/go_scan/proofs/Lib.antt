@@ -1,4 +1,3 @@
-pub mod RunLemmas
 pub mod CharacterLemmas
 pub mod CommentLemmas
 pub mod SpaceLemmas
@@ -7,7 +6,6 @@ pub mod WordLemmas
 pub mod LexemeLemmas
 pub mod TokenLemmas
 pub mod KindLemmas
-pub mod ByteLemmas
 pub mod RawLemmas
 pub mod DigitLemmas
 pub mod ReadLemmas

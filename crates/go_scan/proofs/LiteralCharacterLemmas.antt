@@ -10,9 +10,9 @@ use Rattle.go_tree.specs.Literals.{is_escape, is_itself, is_simple_escape, IsCha
 use Rattle.go_tree.specs.Faults.{IsEscapeFront}
 use Rattle.go_scan.specs.declared.escapes.Digits.{Digits}
 use Rattle.go_scan.specs.declared.escapes.Digits.TheVariants.{Octal}
-use Rattle.go_scan.specs.Escapes.{is_digit_of, AreDigits, Stops, IsEscape, IsQuote, NoCharacter}
-use Rattle.go_scan.proofs.RunLemmas.{char_lies}
-use Rattle.go_scan.proofs.ByteLemmas.{there, ascii_char, small_char, allowed_char, plain_byte, IsPlain, range_split, range_cons, range_length}
+use Rattle.go_scan.specs.Escapes.{is_escape_digit, AreDigits, Stops, IsEscape, IsQuote, NoCharacter}
+use Rattle.go_tree.proofs.CharacterRunLemmas.{char_lies}
+use Rattle.go_tree.proofs.ByteLemmas.{there, ascii_char, small_char, allowed_char, plain_byte, IsPlain, range_split, range_cons, range_length}
 use Rattle.go_scan.proofs.DigitLemmas.{is_digit}
 use Rattle.go_scan.proofs.EscapeLemmas.{EscapeCase, simple, octal, marked, escape_case, simple_is, mark_plain, mark_simple, octal_first, from_octal, from_mark}
 
@@ -42,7 +42,7 @@ pub all_at : (p : ℕ → Bool) (xs : List ℕ) (i : ℕ) → list_all p xs ≡ 
 all_at p xs i all lt = true_from_ne_false _ (λ wrong. both_ways _ (list_all_at p xs i 0 lt wrong) all)
 
 digit_plain : (kind : Digits) (xs : List ℕ) (i : ℕ) → AreDigits kind xs → i < length xs → IsPlain (slice_index xs i)
-digit_plain kind xs i a lt = let d = is_digit kind (slice_index xs i) (all_at (is_digit_of kind) xs i a.digits lt) in (d.some, d.plain)
+digit_plain kind xs i a lt = let d = is_digit kind (slice_index xs i) (all_at (is_escape_digit kind) xs i a.digits lt) in (d.some, d.plain)
 
 case_plain : (quote e : ℕ) (xs : List ℕ) (i : ℕ) → IsQuote quote → EscapeCase quote e xs → i < length (e ∷ xs) → IsPlain (slice_index (e ∷ xs) i)
 case_plain quote e xs i q (octal a) lt = digit_plain Octal (e ∷ xs) i a lt

@@ -13,7 +13,7 @@ use Rattle.go_tree.specs.Tokens.{IsSpelled, IsWord, IsToken, IsLexeme, IsLongest
 use Rattle.go_tree.specs.Faults.{CanGoOn, line, general, raw, string, string_escape, rune, rune_escape, rune_closes}
 use Rattle.go_scan.specs.Blame.{IsBlamed, OpensLiteral}
 use Rattle.go_scan.specs.Reading.{IsStuck}
-use Rattle.go_scan.proofs.ByteLemmas.{byte_char, allowed_char}
+use Rattle.go_tree.proofs.ByteLemmas.{byte_char, allowed_char}
 use Rattle.go_scan.specs.Ascii.{is_small_letter}
 use Rattle.go_scan.proofs.LexemeLemmas.{Form, form_of, small_word, SpelledAt, spelled_at, slice_at}
 use Rattle.go_scan.proofs.WordLemmas.{word_within}

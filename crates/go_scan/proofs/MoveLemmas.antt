@@ -2,7 +2,7 @@
 use Rattle.std.proofs.Common.{ℕ, ◌<◌, ◌≤◌, List, length, arith}
 use Rattle.go_tree.specs.declared.token.TokenKind.{TokenKind}
 use Rattle.go_tree.specs.Tokens.{IsToken}
-use Rattle.go_scan.proofs.RunLemmas.{run_from}
+use Rattle.go_tree.proofs.CharacterRunLemmas.{run_from}
 use Rattle.go_scan.proofs.WordLemmas.{word_within}
 use Rattle.go_scan.proofs.QuotedLemmas.{rune_lit_within, interpreted_lit_within}
 use Rattle.go_scan.proofs.RawLemmas.{raw_lit_within}

@@ -6,26 +6,11 @@ use Rattle.go_tree.specs.declared.token.TokenKind.{TokenKind}
 use Rattle.go_tree.specs.declared.token.TokenKind.TheVariants.{InsertedSemicolon, End}
 use Rattle.go_tree.specs.Semicolons.{inserts_after}
 use Rattle.go_tree.specs.Tokens.{IsToken, IsLongest}
-use Rattle.go_tree.specs.Scan.{Space, blank, line, general, mark, Passed, Gap, none, more, IsPlace, IsFirst, ends, newline, written, IsFirstNewline, IsNext}
+use Rattle.go_tree.specs.Scan.{Passed, Gap, none, more, IsPlace, IsFirst, ends, newline, written, IsFirstNewline, IsNext}
 use Rattle.go_scan.specs.Weight.{scan_weight}
-use Rattle.go_scan.proofs.RunLemmas.{run_from, run_within}
-use Rattle.go_scan.proofs.CommentLemmas.{opens_within, closes_within}
-use Rattle.go_scan.proofs.SpaceLemmas.{Lies, blank_lies, mark_lies, one_space, one_newline}
+use Rattle.go_tree.proofs.SpaceLemmas.{space_lies, one_space, one_newline}
 use Rattle.go_scan.proofs.KindLemmas.{one_longest}
 use Rattle.go_scan.proofs.MoveLemmas.{token_moves}
-
--- space lies within the text, and has a byte
-pub space_lies : (bytes : List ℕ) (at to : ℕ) → Space bytes at to → Lies bytes at to
-space_lies bytes at to (blank b) = blank_lies bytes at b
-space_lies bytes at to (line c) =
-    let past = run_from c.inside in
-    record { space = line c; behind = omega (arith, past); within = run_within (opens_within bytes at c.opens) c.inside }
-space_lies bytes at to (general c) =
-    let past = run_from c.inside in
-    let close = closes_within bytes c.close c.closes in
-    let end = c.ends in
-    record { space = general c; behind = omega (arith, past, end); within = omega (arith, close, end) }
-space_lies bytes at to (mark start char) = mark_lies bytes at to start char refl
 
 -- the same gap, by what is passed over first
 data GapOn (stops : Bool) (bytes : List ℕ) : ℕ → ℕ → Type 0 where

@@ -4,12 +4,11 @@ use Rattle.std.proofs.lemmas.Bool.{or_left, or_right}
 use Rattle.std.proofs.lemmas.Bool.Decides.{nat_tests}
 use Rattle.go_tree.specs.declared.token.TokenKind.{TokenKind}
 use Rattle.go_tree.specs.declared.token.TokenKind.TheVariants.{Int, Float}
-use Rattle.go_tree.specs.Characters.{decoded_at, Run, none, more}
+use Rattle.go_tree.specs.Characters.{decoded_at, Run, none, more, Ends}
 use Rattle.go_tree.specs.Numbers.{begins_number, goes_on, is_decimal, is_hexadecimal, is_int_lit, is_float_lit, is_imaginary_lit, IsNumberRun, number_kind}
-use Rattle.go_scan.specs.Runs.{Ends}
 use Rattle.go_scan.proofs.CharacterLemmas.{ascii_digits}
-use Rattle.go_scan.proofs.ByteLemmas.{byte_char}
-use Rattle.go_scan.proofs.RunLemmas.{run_longest, char_lies}
+use Rattle.go_tree.proofs.ByteLemmas.{byte_char}
+use Rattle.go_tree.proofs.CharacterRunLemmas.{run_longest, char_lies}
 
 -- a number literal is of kind Int or Float
 pub number_kind_int_or_float : (text : List ℕ) (k : TokenKind) → number_kind text ≡ Some k → (k ≡ Int) ⊎ (k ≡ Float)

@@ -6,7 +6,7 @@ use Rattle.go_tree.specs.Literals.{IsCharacter, AreCharacters, none, more, IsRun
 use Rattle.go_tree.specs.Faults.{CanGoOn, IsEscapeFront}
 use Rattle.go_scan.specs.Escapes.{IsQuote, NoCharacter}
 use Rattle.go_scan.specs.Reading.{IsStuck}
-use Rattle.go_scan.proofs.ByteLemmas.{there}
+use Rattle.go_tree.proofs.ByteLemmas.{there}
 use Rattle.go_scan.proofs.LiteralCharacterLemmas.{character_from, character_one, character_allowed, front_allowed, no_character_byte}
 
 pub rune_quote : IsQuote 39

@@ -10,8 +10,8 @@ use Rattle.std.proofs.Math.Nat.{pow-suc, pow-zero, one-le-pow, add-mul, mul-div_
 use Rattle.go_tree.specs.Literals.{number_in, digit_value}
 use Rattle.go_scan.specs.declared.escapes.Digits.{Digits}
 use Rattle.go_scan.specs.declared.escapes.Digits.TheVariants.{Octal, Byte, Little, Big}
-use Rattle.go_scan.specs.Escapes.{base_of, count_of, is_digit_of, is_value_of, AreDigits, Stops}
-use Rattle.go_scan.proofs.ByteLemmas.{there, range_snoc, range_empty, range_length}
+use Rattle.go_scan.specs.Escapes.{base_of, count_of, is_escape_digit, is_value_of, AreDigits, Stops}
+use Rattle.go_tree.proofs.ByteLemmas.{there, range_snoc, range_empty, range_length}
 use Rattle.go_scan.proofs.DigitLemmas.{add_digit, adds, zeros, is_digit, zero_digits, block, value_block}
 
 -- the digits from `from` up to `at`, and what they write, completed by zeros
@@ -20,8 +20,8 @@ pub record Reads (kind : Digits) (bytes : List ℕ) (from at unit least : ℕ) :
   pub within : at ≤ length bytes
   pub count : at ≤ from + count_of kind
   pub units : unit ≡ base_of kind ^ (from + count_of kind - at)
-  pub digits : list_all (is_digit_of kind) (slice_range bytes from at) ≡ true
-  pub each : (k : ℕ) → from ≤ k → k < at → is_digit_of kind (slice_index bytes k) ≡ true
+  pub digits : list_all (is_escape_digit kind) (slice_range bytes from at) ≡ true
+  pub each : (k : ℕ) → from ≤ k → k < at → is_escape_digit kind (slice_index bytes k) ≡ true
   pub value : least ≡ number_in (base_of kind) (slice_range bytes from at) * unit
   pub fits : is_value_of kind least ≡ true
   pub room : least + unit ≤ base_of kind ^ count_of kind
@@ -58,7 +58,7 @@ reads_first kind bytes from le =
       within = le;
       count = omega arith;
       units = ap (λ m. base_of kind ^ m) (let e : count_of kind ≡ from + count_of kind - from = omega arith in e);
-      digits = ap (λ xs. list_all (is_digit_of kind) xs) empty;
+      digits = ap (λ xs. list_all (is_escape_digit kind) xs) empty;
       each = λ k low high. absurd (omega arith);
       value = sym (ap (λ xs. number_in (base_of kind) xs * base_of kind ^ count_of kind) empty ∙ (let z : 0 * base_of kind ^ count_of kind ≡ 0 = omega arith in z));
       fits = zero_value kind;
@@ -93,7 +93,7 @@ missing kind bytes from at unit least r some =
       whole = whole;
     }
 
-pub number_snoc : (kind : Digits) (xs : List ℕ) (b : ℕ) → is_digit_of kind b ≡ true → number_in (base_of kind) (xs ++ b ∷ []) ≡ number_in (base_of kind) xs * base_of kind + digit_value b
+pub number_snoc : (kind : Digits) (xs : List ℕ) (b : ℕ) → is_escape_digit kind b ≡ true → number_in (base_of kind) (xs ++ b ∷ []) ≡ number_in (base_of kind) xs * base_of kind + digit_value b
 number_snoc kind xs b h = fold-append (add_digit (base_of kind)) 0 xs (b ∷ []) ∙ adds (base_of kind) (number_in (base_of kind) xs) b (is_digit kind b h).no_blank
 
 next_value : (n base d u unit least : ℕ) → unit ≡ u * base → least ≡ n * unit → least + d * u ≡ (n * base + d) * u
@@ -111,7 +111,7 @@ next_room base d u unit least all e small room =
     omega arith
 
 -- one more digit
-pub reads_more : (kind : Digits) (bytes : List ℕ) (from at unit least b : ℕ) → Reads kind bytes from at unit least → 1 < unit → b ≡ slice_index bytes at → is_digit_of kind b ≡ true → is_value_of kind (least + digit_value b * (unit / base_of kind)) ≡ true → Reads kind bytes from (at + 1) (unit / base_of kind) (least + digit_value b * (unit / base_of kind))
+pub reads_more : (kind : Digits) (bytes : List ℕ) (from at unit least b : ℕ) → Reads kind bytes from at unit least → 1 < unit → b ≡ slice_index bytes at → is_escape_digit kind b ≡ true → is_value_of kind (least + digit_value b * (unit / base_of kind)) ≡ true → Reads kind bytes from (at + 1) (unit / base_of kind) (least + digit_value b * (unit / base_of kind))
 reads_more kind bytes from at unit least b r some here digit fits =
     let m = missing kind bytes from at unit least r some in
     let base = base_of kind in
@@ -119,7 +119,7 @@ reads_more kind bytes from at unit least b r some here digit fits =
     let lt : at < length bytes = there bytes at b (sym here) d.some in
     let is = m.is in
     let behind = r.behind in
-    let digit_here : is_digit_of kind (slice_index bytes at) ≡ true = sym (ap (λ x. is_digit_of kind x) here) ∙ digit in
+    let digit_here : is_escape_digit kind (slice_index bytes at) ≡ true = sym (ap (λ x. is_escape_digit kind x) here) ∙ digit in
     let xs = slice_range bytes from at in
     let snoc : slice_range bytes from (at + 1) ≡ xs ++ b ∷ [] = range_snoc bytes from at behind lt ∙ ap (λ x. xs ++ x ∷ []) (sym here) in
     record {
@@ -127,8 +127,8 @@ reads_more kind bytes from at unit least b r some here digit fits =
       within = omega arith;
       count = omega arith;
       units = m.next ∙ ap (λ k. base ^ k) (let e : m.after ≡ from + count_of kind - (at + 1) = omega arith in e);
-      digits = ap (λ l. list_all (is_digit_of kind) l) snoc ∙ list_all-append (is_digit_of kind) xs (b ∷ []) ∙ and_from _ _ r.digits (and_from _ _ digit refl);
-      each = λ k low high. ⊎_elim (λ (old : k < at). r.each k low old) (λ (new : at ≤ k). let e : at ≡ k = omega arith in ap (λ j. is_digit_of kind (slice_index bytes j)) (sym e) ∙ digit_here) (cases_lt k at);
+      digits = ap (λ l. list_all (is_escape_digit kind) l) snoc ∙ list_all-append (is_escape_digit kind) xs (b ∷ []) ∙ and_from _ _ r.digits (and_from _ _ digit refl);
+      each = λ k low high. ⊎_elim (λ (old : k < at). r.each k low old) (λ (new : at ≤ k). let e : at ≡ k = omega arith in ap (λ j. is_escape_digit kind (slice_index bytes j)) (sym e) ∙ digit_here) (cases_lt k at);
       value =
           ap (λ u. least + digit_value b * u) m.next
           ∙ next_value (number_in base xs) base (digit_value b) (base ^ m.after) unit least m.units r.value
@@ -174,7 +174,7 @@ completed kind bytes from at unit least r m =
     let behind = r.behind in
     record {
       count = omega arith;
-      digits = list_all-append (is_digit_of kind) xs zs ∙ and_from _ _ r.digits (zero_digits kind (suc m.after));
+      digits = list_all-append (is_escape_digit kind) xs zs ∙ and_from _ _ r.digits (zero_digits kind (suc m.after));
       value = ap (λ x. is_value_of kind x) (fold-append (add_digit base) 0 xs zs ∙ zeros base (number_in base xs) (suc m.after) ∙ ap (λ u. number_in base xs * u) (sym m.whole) ∙ sym r.value) ∙ r.fits;
     }
 
@@ -182,7 +182,7 @@ plain_digits : (kind : Digits) (bytes : List ℕ) (from at unit least : ℕ) →
 plain_digits kind bytes from at unit least r k low high = let d = is_digit kind (slice_index bytes k) (r.each k low high) in (d.some, d.plain)
 
 -- no digit stands there
-pub no_digit : (kind : Digits) (bytes : List ℕ) (from at unit least b : ℕ) → Reads kind bytes from at unit least → 1 < unit → b ≡ slice_index bytes at → is_digit_of kind b ≡ false → Stops (AreDigits kind) bytes from at
+pub no_digit : (kind : Digits) (bytes : List ℕ) (from at unit least b : ℕ) → Reads kind bytes from at unit least → 1 < unit → b ≡ slice_index bytes at → is_escape_digit kind b ≡ false → Stops (AreDigits kind) bytes from at
 no_digit kind bytes from at unit least b r some here unfit =
     let m = missing kind bytes from at unit least r some in
     record {
@@ -192,12 +192,12 @@ no_digit kind bytes from at unit least b r some here unfit =
       some = λ e. cc;
       could = completed kind bytes from at unit least r m;
       dead = λ more lt all.
-          let parts = and_parts _ _ (sym (list_all-append (is_digit_of kind) (slice_range bytes from at) (slice_index bytes at ∷ more)) ∙ all.digits) in
-          both_ways _ unfit (ap (λ x. is_digit_of kind x) here ∙ (and_parts _ _ parts.1).0);
+          let parts = and_parts _ _ (sym (list_all-append (is_escape_digit kind) (slice_range bytes from at) (slice_index bytes at ∷ more)) ∙ all.digits) in
+          both_ways _ unfit (ap (λ x. is_escape_digit kind x) here ∙ (and_parts _ _ parts.1).0);
       plain = plain_digits kind bytes from at unit least r;
     }
 
-dead_value : (kind : Digits) (bytes : List ℕ) (from at unit least b : ℕ) → Reads kind bytes from at unit least → (m : Missing kind from at unit) → b ≡ slice_index bytes at → is_digit_of kind b ≡ true → is_value_of kind (least + digit_value b * (unit / base_of kind)) ≡ false → (more : List ℕ) → AreDigits kind (slice_range bytes from at ++ slice_index bytes at ∷ more) → ⊥
+dead_value : (kind : Digits) (bytes : List ℕ) (from at unit least b : ℕ) → Reads kind bytes from at unit least → (m : Missing kind from at unit) → b ≡ slice_index bytes at → is_escape_digit kind b ≡ true → is_value_of kind (least + digit_value b * (unit / base_of kind)) ≡ false → (more : List ℕ) → AreDigits kind (slice_range bytes from at ++ slice_index bytes at ∷ more) → ⊥
 dead_value kind bytes from at unit least b r m here digit unfit more all =
     let base = base_of kind in
     let xs = slice_range bytes from at in
@@ -208,7 +208,7 @@ dead_value kind bytes from at unit least b r m here digit unfit more all =
     let is = m.is in
     let behind = r.behind in
     let same : length more ≡ m.after = omega arith in
-    let parts = and_parts _ _ (sym (list_all-append (is_digit_of kind) xs (b2 ∷ more)) ∙ all.digits) in
+    let parts = and_parts _ _ (sym (list_all-append (is_escape_digit kind) xs (b2 ∷ more)) ∙ all.digits) in
     let others = (and_parts _ _ parts.1).1 in
     let w = number_in base xs * base + digit_value b in
     let k = block kind (add_digit base (number_in base xs) b2) more others in
@@ -221,7 +221,7 @@ dead_value kind bytes from at unit least b r m here digit unfit more all =
     both_ways _ (value_block kind w m.after k.more small (sym (ap (λ x. is_value_of kind x) next_is) ∙ unfit)) (sym (ap (λ x. is_value_of kind x) n_is) ∙ all.value)
 
 -- a digit stands there that does not fit
-pub no_value : (kind : Digits) (bytes : List ℕ) (from at unit least b : ℕ) → Reads kind bytes from at unit least → 1 < unit → b ≡ slice_index bytes at → is_digit_of kind b ≡ true → is_value_of kind (least + digit_value b * (unit / base_of kind)) ≡ false → Stops (AreDigits kind) bytes from at
+pub no_value : (kind : Digits) (bytes : List ℕ) (from at unit least b : ℕ) → Reads kind bytes from at unit least → 1 < unit → b ≡ slice_index bytes at → is_escape_digit kind b ≡ true → is_value_of kind (least + digit_value b * (unit / base_of kind)) ≡ false → Stops (AreDigits kind) bytes from at
 no_value kind bytes from at unit least b r some here digit unfit =
     let m = missing kind bytes from at unit least r some in
     record {

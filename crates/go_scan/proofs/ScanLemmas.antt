@@ -3,7 +3,11 @@ use Rattle.std.proofs.Common.{◌≡◌, ◌≢◌, ℕ, List, [], ◌∷◌, �
 use Rattle.go_tree.specs.declared.token.Token.{Token}
 use Rattle.go_tree.specs.declared.token.TokenKind.{TokenKind}
 use Rattle.go_tree.specs.declared.token.TokenKind.TheVariants.{End}
-use Rattle.go_tree.specs.Scan.{IsNext, ScanFrom, Scan}
+use Rattle.go_tree.specs.Faults.{IsLex}
+use Rattle.go_tree.specs.Scan.{IsNext, ScanFrom, Scan, Stand}
+use Rattle.go_tree.proofs.StandLemmas.{stand_append}
+use Rattle.go_tree.specs.declared.lex.Lex.{Lex}
+use Rattle.go_scan.specs.Lists.{EndsEarly}
 use Rattle.go_scan.proofs.NextLemmas.{one_next}
 
 -- the first of a list, and what follows it
@@ -51,14 +55,15 @@ one_list bytes at last (t ∷ ts) us a b = one_head (λ end kind vs c d. one_lis
 
 -- what a loop over the tokens has taken: these and what can follow are the lists of the text
 pub record Taken (bytes : List ℕ) (at : ℕ) (last : Option TokenKind) (tokens : List Token) : Type 0 where
+  pub stand : Stand bytes 0 None tokens at last
   pub goes : (rest : List Token) → ScanFrom bytes at last rest → Scan bytes (tokens ++ rest)
   pub only : (ts : List Token) → Scan bytes ts → (rest : List Token) × (ts ≡ tokens ++ rest) × ScanFrom bytes at last rest
 
 pub nothing_taken : (bytes : List ℕ) → Taken bytes 0 None []
-nothing_taken bytes = record { goes = λ rest h. h; only = λ ts h. (ts, refl, h) }
+nothing_taken bytes = record { stand = (refl, refl); goes = λ rest h. h; only = λ ts h. (ts, refl, h) }
 
 pub one_taken : (bytes : List ℕ) (at : ℕ) (last : Option TokenKind) (tokens : List Token) (t : Token) → Taken bytes at last tokens → IsNext bytes at last t → t.kind ≢ End → Taken bytes t.end (Some t.kind) (tokens ++ t ∷ [])
-one_taken bytes at last tokens t taken h other = record { goes = goes; only = only }
+one_taken bytes at last tokens t taken h other = record { stand = stand_append bytes 0 at t.end None last (Some t.kind) tokens (t ∷ []) taken.stand (h, other, (refl, refl)); goes = goes; only = only }
   where
     goes : (rest : List Token) → ScanFrom bytes t.end (Some t.kind) rest → Scan bytes ((tokens ++ t ∷ []) ++ rest)
     goes rest r = rw (append_assoc tokens (t ∷ []) rest) (taken.goes (t ∷ rest) (one_more bytes at last t rest h other r))
@@ -85,6 +90,9 @@ all_taken bytes at last tokens t taken h end = taken.goes (t ∷ []) (h, end)
 -- where no token is next, the text has no list of tokens
 pub none_taken : (bytes : List ℕ) (at : ℕ) (last : Option TokenKind) (tokens : List Token) → Taken bytes at last tokens → ((t : Token) → IsNext bytes at last t → ⊥) → (ts : List Token) → Scan bytes ts → ⊥
 none_taken bytes at last tokens taken nothing ts s = let o = taken.only ts s in let g = head_of bytes at last o.0 o.2 in nothing g.t g.next
+
+pub ends_early : (bytes : List ℕ) (at : ℕ) (last : Option TokenKind) (tokens : List Token) (lex : Lex) → Taken bytes at last tokens → IsLex bytes at last lex → EndsEarly bytes lex
+ends_early bytes at last tokens lex taken is = record { no_list = none_taken bytes at last tokens taken is.0; tokens = tokens; at = at; last = last; stand = taken.stand; none_starts = is }
 
 pub one_scan : (bytes : List ℕ) (ts us : List Token) → Scan bytes ts → Scan bytes us → ts ≡ us
 one_scan bytes = one_list bytes 0 None

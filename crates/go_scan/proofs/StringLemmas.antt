@@ -11,7 +11,7 @@ use Rattle.go_tree.specs.LiteralValues.{inside_of, string_lit_value, unescaped, 
 use Rattle.go_scan.proofs.InsideLemmas.{inside_range}
 use Rattle.go_scan.proofs.RawLemmas.{raw_lit_within}
 use Rattle.go_scan.specs.Quoted.{IsStringLit, Escapes, done, byte, escape}
-use Rattle.go_scan.proofs.ByteLemmas.{range_cons, bad_none}
+use Rattle.go_tree.proofs.ByteLemmas.{range_cons, bad_none}
 use Rattle.go_scan.proofs.LiteralCharacterLemmas.{backslash, not_itself}
 use Rattle.go_scan.proofs.QuotedLemmas.{CharactersOn, stop, step, characters_on, on_from, interpreted_lit_within}
 

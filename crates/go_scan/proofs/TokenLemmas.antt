@@ -10,7 +10,7 @@ use Rattle.go_tree.specs.Tokens.{IsSpelled, IsWord, IsLexeme}
 use Rattle.go_scan.specs.Blame.{OpensLiteral}
 use Rattle.go_scan.specs.Ascii.{is_ascii_letter}
 use Rattle.go_scan.proofs.CharacterLemmas.{ascii_letters}
-use Rattle.go_scan.proofs.ByteLemmas.{byte_char}
+use Rattle.go_tree.proofs.ByteLemmas.{byte_char}
 use Rattle.go_scan.proofs.LexemeLemmas.{is_mark, SpelledAt, spelled_at, Form, form_of}
 
 -- what a lexeme is, by its form

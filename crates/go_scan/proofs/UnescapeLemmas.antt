@@ -13,7 +13,7 @@ use Rattle.go_scan.specs.declared.escapes.Digits.{Digits}
 use Rattle.go_scan.specs.declared.escapes.Digits.TheVariants.{Octal, Byte, Little, Big}
 use Rattle.go_scan.specs.Escapes.{AreDigits, IsEscape, IsQuote}
 use Rattle.go_scan.specs.Quoted.{Escapes, done, byte, escape, IsEscapeText}
-use Rattle.go_scan.proofs.ByteLemmas.{range_cons, range_split, range_length}
+use Rattle.go_tree.proofs.ByteLemmas.{range_cons, range_split, range_length}
 use Rattle.go_scan.proofs.EscapeLemmas.{IsMark, EscapeCase, simple, octal, marked, escape_case, simple_is, octal_first, from_mark}
 use Rattle.go_scan.proofs.LiteralCharacterLemmas.{escape_some}
 use Rattle.go_scan.proofs.QuotedLemmas.{string_quote}

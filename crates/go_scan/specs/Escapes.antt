@@ -4,14 +4,20 @@ use Rattle.std.specs.Prelude.{◌≡◌, ◌≢◌, ℕ, ◌<◌, ◌≤◌, nat
 use Rattle.std.specs.List.{list_all}
 use Rattle.go_tree.specs.Characters.{IsForbidden}
 use Rattle.go_tree.specs.Faults.{IsEscapeFront}
-use Rattle.go_tree.specs.Numbers.{is_hex, is_octal}
 use Rattle.go_tree.specs.Literals.{number_in, is_valid_code_point, is_escape, IsCharacter}
+use Rattle.go_scan.specs.Digits.{is_digit_of, size_of_base}
+use Rattle.go_scan.specs.declared.digits.Base.{Base}
+use Rattle.go_scan.specs.declared.digits.Base.TheVariants as base
 use Rattle.go_scan.specs.declared.escapes.Digits.{Digits}
 use Rattle.go_scan.specs.declared.escapes.Digits.TheVariants.{Octal, Byte, Little, Big}
 
+-- the base in which its digits are written
+abbrev pub base_in : Digits → Base
+base_in Octal = base.Octal
+base_in _ = base.Hex
+
 abbrev pub base_of : Digits → ℕ
-base_of Octal = 8
-base_of _ = 16
+base_of kind = size_of_base (base_in kind)
 
 abbrev pub count_of : Digits → ℕ
 count_of Octal = 3
@@ -19,9 +25,8 @@ count_of Byte = 2
 count_of Little = 4
 count_of Big = 8
 
-abbrev pub is_digit_of : Digits → ℕ → Bool
-is_digit_of Octal = is_octal
-is_digit_of _ = is_hex
+abbrev pub is_escape_digit : Digits → ℕ → Bool
+is_escape_digit kind = is_digit_of (base_in kind)
 
 -- the digits may write this number
 abbrev pub is_value_of : Digits → ℕ → Bool
@@ -33,7 +38,7 @@ is_value_of Big v = is_valid_code_point v
 -- all the digits of an escape
 pub record AreDigits (kind : Digits) (xs : List ℕ) : Type 0 where
   pub count : length xs ≡ count_of kind
-  pub digits : list_all (is_digit_of kind) xs ≡ true
+  pub digits : list_all (is_escape_digit kind) xs ≡ true
   pub value : is_value_of kind (number_in (base_of kind) xs) ≡ true
 
 -- the bytes from `from` up to `at` could go on to bytes that have P, but not with the byte at `at`

@@ -1,6 +1,6 @@
 -- Runs of characters.
--- Says for each kind of run which test its characters pass, each with the byte before it, and where a run ends.
-use Rattle.std.specs.Prelude.{◌≡◌, ℕ, ◌-◌, Bool, true, List, Some, slice_index}
+-- Says for each kind of run which test its characters pass, each with the byte before it.
+use Rattle.std.specs.Prelude.{◌≡◌, ℕ, Bool, true, List, Some}
 use Rattle.go_tree.specs.Characters.{decoded_at, is_allowed, is_letter_or_digit}
 use Rattle.go_tree.specs.Comments.{in_line_comment}
 use Rattle.go_tree.specs.Literals.{in_raw}
@@ -13,10 +13,6 @@ passes_of Word = λ before c. is_letter_or_digit c
 passes_of (Number hexadecimal) = goes_on hexadecimal
 passes_of LineComment = in_line_comment
 passes_of RawLit = in_raw
-
--- no character that passes stands at the offset
-abbrev pub Ends : (ℕ → ℕ → Bool) → List ℕ → ℕ → Type 0
-Ends p bytes at = (c : ℕ) → (decoded_at bytes at).char ≡ Some c → p (slice_index bytes (at - 1)) c ≡ true → ⊥
 
 -- a character of that length stands at the offset that may stand in a comment
 pub record IsAllowedChar (bytes : List ℕ) (at len : ℕ) : Type 0 where

@@ -2,14 +2,15 @@
 ghost use Rattle.std.specs.Prelude.{◌≡◌, ℕ, ◌+◌, ◌≤◌, length, slice_index, IfOk, IfErr, IfSome, IfNone, ◌==◌, ◌&&◌};
 ghost use Rattle.go_tree.specs.Comments.{OpensLine, OpensGeneral, IsLineComment, IsGeneralComment, in_general_comment};
 ghost use Rattle.go_scan.specs.Reading.{IsStuck};
-ghost use Rattle.go_scan.specs.Runs.{Ends, IsAllowedChar};
+ghost use Rattle.go_tree.specs.Characters.{Ends};
+ghost use Rattle.go_scan.specs.Runs.{IsAllowedChar};
 
 use crate::characters::{byte_at, char_at, is_allowed};
 use crate::reading::Stuck;
 use crate::runs::{Test, run_end};
 
 /// A line comment from the byte `from` on: Ok with the offset behind it.
-#[tactic(auto, using(crate::proofs::CommentLemmas::opens_within))]
+#[tactic(auto, using(go_tree::proofs::SpaceLemmas::opens_within))]
 pub(crate) fn line_comment(bytes: &[u8], from: usize) -> Result<usize, Stuck>
     requires { OpensLine bytes.now from }
     ensures whole { IfOk result (λ to. IsLineComment bytes.now from to) }

@@ -2,8 +2,7 @@
 ghost use Rattle.std.specs.Prelude.{◌≡◌, ◌≤◌, ◌<◌, ◌+◌, ◌-◌, ◌^◌, ℕ, true, length, slice_index, slice_range, IfOk, IfErr};
 ghost use Rattle.go_tree.specs.Numbers.{is_hex};
 ghost use Rattle.go_tree.specs.Literals.{digit_value, is_simple_escape, IsCharacter};
-ghost use Rattle.go_scan.specs.Digits.{size_of_base, is_digit_of as is_digit_of_base};
-ghost use Rattle.go_scan.specs.Escapes.{base_of, count_of, is_digit_of, is_value_of, AreDigits, IsEscape, IsQuote, NoCharacter, Stops};
+ghost use Rattle.go_scan.specs.Escapes.{base_in, base_of, count_of, is_escape_digit, is_value_of, AreDigits, IsEscape, IsQuote, NoCharacter, Stops};
 
 use crate::characters::{byte_at, char_at, is_allowed};
 use crate::digits::{self, Base, digit_value, size_of_base};
@@ -18,8 +17,8 @@ pub(crate) enum Digits {
 }
 
 // The base of the digits.
-fn base_of(kind: Digits) -> Base
-    ensures { (size_of_base result ≡ base_of kind) × (is_digit_of_base result ≡ is_digit_of kind) }
+fn base_in(kind: Digits) -> Base
+    ensures { result ≡ base_in kind }
 {
     match kind {
         Digits::Octal => Base::Octal,
@@ -30,7 +29,7 @@ fn base_of(kind: Digits) -> Base
 pub(crate) fn base(kind: Digits) -> u64
     ensures { result ≡ base_of kind }
 {
-    u64::from(size_of_base(base_of(kind)))
+    u64::from(size_of_base(base_in(kind)))
 }
 
 // One more than the greatest number that as many digits write.
@@ -46,9 +45,9 @@ fn places(kind: Digits) -> u64
 }
 
 pub(crate) fn is_digit(kind: Digits, byte: u8) -> bool
-    ensures { result ≡ is_digit_of kind byte }
+    ensures { result ≡ is_escape_digit kind byte }
 {
-    digits::is_digit(base_of(kind), byte)
+    digits::is_digit(base_in(kind), byte)
 }
 
 // The digits may write this number: a byte, or a code point that is no surrogate.

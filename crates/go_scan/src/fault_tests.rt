@@ -1,7 +1,7 @@
 // Where no token starts: which byte is to blame, and by which rule.
-use crate::Lex;
 use crate::scan_tests::{joined, scan};
-use go_base::{FORBIDDEN_BYTE, MISSING_TOKEN, Rule};
+use crate::{FORBIDDEN_BYTE, Lex, MISSING_TOKEN};
+use go_base::Rule;
 use std::alloc::{AllocError, Global};
 use std::process::Abort;
 

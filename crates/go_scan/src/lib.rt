@@ -20,16 +20,18 @@ mod next_token;
 mod numbers;
 mod quoted;
 mod reading;
+mod rules;
 mod runs;
 mod token;
 mod token_list;
 mod values;
 mod words;
 
-pub use go_tree::{Token, TokenKind};
+pub use go_tree::{Lex, Token, TokenKind};
 pub use laws::{one_next, one_scan};
 pub use literals::{int_lit_value, int_value, literal_text};
-pub use next_token::{Lex, next};
+pub use next_token::next;
+pub use rules::{FORBIDDEN_BYTE, MISSING_TOKEN};
 pub use token_list::{ScanFault, tokens};
 
 #[cfg(test)]

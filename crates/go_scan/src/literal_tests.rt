@@ -1,7 +1,6 @@
 // Rune and string literals: texts that are one as a whole, and texts that start none.
 use crate::scan_tests::joined;
-use crate::{Lex, next};
-use go_base::MISSING_TOKEN;
+use crate::{Lex, MISSING_TOKEN, next};
 use go_tree::TokenKind::{Rune, Text};
 use go_tree::{Token, TokenKind};
 use std::alloc::{AllocError, Global};

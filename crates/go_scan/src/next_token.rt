@@ -4,7 +4,7 @@ ghost use Rattle.go_tree.specs.declared.token.Token.{Token as TokenOf};
 ghost use Rattle.go_tree.specs.declared.token.TokenKind.TheVariants.{InsertedSemicolon, End};
 ghost use Rattle.go_tree.specs.Characters.{decoded_at, is_forbidden, IsForbidden};
 ghost use Rattle.go_tree.specs.Comments.{OpensLine, OpensGeneral};
-ghost use Rattle.go_tree.specs.Faults.{IsForbiddenByte, IsMissingToken};
+ghost use Rattle.go_tree.specs.Faults.{forbidden_byte, missing_token, IsForbiddenByte, IsMissingToken};
 ghost use Rattle.go_tree.specs.Scan.{IsFirst, IsNext};
 ghost use Rattle.go_tree.specs.Semicolons.{inserts_after};
 ghost use Rattle.go_scan.specs.Blame.{IsBlamed};
@@ -13,16 +13,9 @@ ghost use Rattle.go_scan.specs.Weight.{scan_weight};
 
 use crate::characters::char_at;
 use crate::gap::{Here, place};
+use crate::rules::{FORBIDDEN_BYTE, MISSING_TOKEN};
 use crate::token::token;
-use go_base::{FORBIDDEN_BYTE, MISSING_TOKEN, Rule};
-use go_tree::{Token, TokenKind};
-
-/// Why there is no next token: the offset of a byte, from 0, and the rule that is broken there.
-#[derive(Clone, Copy, Debug, PartialEq, Eq)]
-pub struct Lex {
-    pub offset: usize,
-    pub rule: Rule,
-}
+use go_tree::{Lex, Token, TokenKind};
 
 /// The next token from the byte `at` on, where a token of the kind `last` stands before.
 ///
@@ -40,8 +33,8 @@ pub fn next(bytes: &[u8], at: usize, last: Option<TokenKind>) -> Result<Token, L
 
     ensures no_token { IfErr result (λ _. (t : TokenOf) → IsNext bytes.now at last t → ⊥) }
     ensures rule { IfErr result (λ e.
-        ((e.rule ≡ FORBIDDEN_BYTE) × IsForbiddenByte bytes.now at last e.offset)
-        ⊎ ((e.rule ≡ MISSING_TOKEN) × IsMissingToken bytes.now at last e.offset)) }
+        ((e.rule ≡ forbidden_byte) × IsForbiddenByte bytes.now at last e.offset)
+        ⊎ ((e.rule ≡ missing_token) × IsMissingToken bytes.now at last e.offset)) }
     ensures inside { IfErr result (λ e. e.offset < length bytes.now) }
 {
     let (place, here) = place(bytes, at, inserts_after(last));
@@ -103,8 +96,8 @@ fn end_token(place: usize, last: Option<TokenKind>) -> Token
 
 // The fault at a place where no token starts: at the byte to blame, if it may not stand there.
 fn fault(bytes: &[u8], place: usize, blamed: usize) -> Lex
-    ensures { ((result.rule ≡ FORBIDDEN_BYTE) × (result.offset ≡ blamed) × IsForbidden bytes.now blamed)
-        ⊎ ((result.rule ≡ MISSING_TOKEN) × (result.offset ≡ place) × (IsForbidden bytes.now blamed → ⊥)) }
+    ensures { ((result.rule ≡ forbidden_byte) × (result.offset ≡ blamed) × IsForbidden bytes.now blamed)
+        ⊎ ((result.rule ≡ missing_token) × (result.offset ≡ place) × (IsForbidden bytes.now blamed → ⊥)) }
 {
     if is_forbidden(bytes, blamed) {
         Lex {

@@ -1,6 +1,6 @@
 // Whole texts, tokens from a place in the middle, and values of the integer literals in a text.
-use crate::{Lex, int_value, next};
-use go_base::{FORBIDDEN_BYTE, MISSING_TOKEN, Rule};
+use crate::{FORBIDDEN_BYTE, Lex, MISSING_TOKEN, int_value, next};
+use go_base::Rule;
 use go_tree::TokenKind::*;
 use go_tree::{Token, TokenKind};
 use std::alloc::{AllocError, Global};

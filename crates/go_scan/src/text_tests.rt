@@ -1,6 +1,6 @@
 // What literals stand for, and all tokens of a text, by the public calls.
-use crate::{Lex, ScanFault, int_value, literal_text, next, tokens};
-use go_base::{Bytes, FORBIDDEN_BYTE, MISSING_TOKEN};
+use crate::{FORBIDDEN_BYTE, Lex, MISSING_TOKEN, ScanFault, int_value, literal_text, next, tokens};
+use go_base::Bytes;
 use go_num::TextFault;
 use go_tree::{Token, TokenKind};
 use std::alloc::{AllocError, Global};

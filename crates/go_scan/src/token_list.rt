@@ -4,8 +4,8 @@ ghost use Rattle.go_tree.specs.Scan.{Scan};
 ghost use Rattle.go_scan.specs.Lists.{HasNoTokens};
 ghost use Rattle.go_scan.specs.declared.token_list.ScanFault.TheVariants.{NoMemory as OutOfMemory};
 
-use crate::next_token::{Lex, next};
-use go_tree::{Token, TokenKind};
+use crate::next_token::next;
+use go_tree::{Lex, Token, TokenKind};
 use std::alloc::{AllocError, AllocFailed, Global};
 
 /// Why there is no list of tokens.
@@ -33,7 +33,8 @@ impl<T: Drop> From<AllocFailed<T>> for ScanFault {
     }
 }
 
-/// The tokens of a text, the end last; Lexical exactly where it has no list of tokens.
+/// The tokens of a text, the end last; Lexical exactly where it has no list of tokens, since behind
+/// some tokens none starts: with the rule that is broken there and the byte to blame.
 pub fn tokens(alloc: Global, bytes: &[u8]) -> Result<Vec<Token>, ScanFault>
     ensures tokens { IfOk result (λ tokens. Scan bytes.now tokens.items) }
     ensures none { IfErr result (λ fault. HasNoTokens bytes.now fault) }

@@ -1,7 +1,6 @@
 // Operators, keywords and identifiers, and how far each runs.
 use crate::scan_tests::joined;
-use crate::{Lex, next};
-use go_base::MISSING_TOKEN;
+use crate::{Lex, MISSING_TOKEN, next};
 use go_tree::TokenKind::*;
 use go_tree::{Token, TokenKind};
 use std::alloc::{AllocError, Global};

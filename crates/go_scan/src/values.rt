@@ -3,7 +3,7 @@ ghost use Rattle.std.specs.Prelude.{◌≡◌, ◌≤◌, ◌<◌, ◌+◌, ◌+
 ghost use Rattle.std.specs.List.{list_all};
 ghost use Rattle.go_tree.specs.Literals.{number_in};
 ghost use Rattle.go_tree.specs.LiteralValues.{code_point_of, escape_len, escape_text, escape_value, inside_of, rune_lit_value, simple_value, string_lit_value, unescaped, without_returns};
-ghost use Rattle.go_scan.specs.Escapes.{base_of, count_of, is_digit_of};
+ghost use Rattle.go_scan.specs.Escapes.{base_of, count_of, is_escape_digit};
 ghost use Rattle.go_scan.specs.Quoted.{Escapes, IsEscapeText, IsRuneInside, IsRuneText, IsStringLit, piece_text};
 
 use crate::characters::{byte_at, char_at};
@@ -74,7 +74,7 @@ fn escape_value(text: &[u8]) -> u32
 // The number that the digits of an escape write.
 fn number(digits: &[u8], kind: Digits) -> u32
     requires count { length digits.now ≤ count_of kind }
-    requires digits { list_all (is_digit_of kind) digits.now ≡ true }
+    requires digits { list_all (is_escape_digit kind) digits.now ≡ true }
     ensures { result ≡ number_in (base_of kind) digits.now }
 {
     let mut value = 0;

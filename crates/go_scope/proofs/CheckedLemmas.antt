@@ -7,26 +7,26 @@ use Rattle.std.proofs.lemmas.List.{map-append}
 use Rattle.go_tree.specs.declared.node.NodeId.{NodeId}
 use Rattle.go_tree.specs.declared.node_kind.NodeKind.TheVariants.{Name, SelectorExpr}
 use Rattle.go_tree.specs.Tree.{Tree, branch, Trees, no_trees, more_trees, parts_of}
-use Rattle.go_model.specs.BrokenImports.{broken_at, told_if}
-use Rattle.go_model.specs.declared.block.Import.{Import}
-use Rattle.go_model.specs.declared.block.Occurrence.{Occurrence}
-use Rattle.go_model.specs.declared.block.Region.{Region}
-use Rattle.go_model.specs.declared.object.ObjId.{ObjId}
-use Rattle.go_model.specs.FormRules.Parameters.{is_identifier}
-use Rattle.go_model.specs.FormRules.Parts.{all_but_first}
-use Rattle.go_model.specs.Heads.{import_specs}
-use Rattle.go_model.specs.Module.{FileData, PackageData}
-use Rattle.go_model.specs.Scopes.{same_node}
-use Rattle.go_model.specs.Names.BlockRules.{missing_main_at, reserved, repeated}
-use Rattle.go_model.specs.Names.BrokenNames.{broken_file, broken_files}
-use Rattle.go_model.specs.Names.Constants.{const_specs, object_id, package_block}
-use Rattle.go_model.specs.Names.ImportRules.{conflicting, declares, is_repeated_by, uses_import, unused, unused_import}
-use Rattle.go_model.specs.Names.Imports.{PackageNames, Importing, file_block, import_of, imports_from, imports_of}
-use Rattle.go_model.specs.Names.OccurrenceRules.{broken_occurrence, broken_occurrences, blank_at, missing_in, misplaced_package, undeclared_at, complex_name, is_complex}
-use Rattle.go_model.specs.Names.Occurrences.{selecting, occurrences_in, occurrences_among, occurrences_in_spec, occurrences_in_file}
-use Rattle.go_model.specs.Names.Regions.{regions_of, resolution, is_held}
-use Rattle.go_model.specs.Names.Tables.{member_of, members_at, uses_at, occurrences_from}
-use Rattle.go_model.specs.Names.Universe.{universe}
+use Rattle.go_module.specs.Broken.{broken_at, told_if}
+use Rattle.go_module.specs.declared.block.Import.{Import}
+use Rattle.go_module.specs.declared.block.Occurrence.{Occurrence}
+use Rattle.go_module.specs.declared.block.Region.{Region}
+use Rattle.go_module.specs.declared.object.ObjId.{ObjId}
+use Rattle.go_tree.specs.Grammar.TypeTrees.{is_name}
+use Rattle.go_module.specs.NodeParts.{all_but_first}
+use Rattle.go_module.specs.Modules.Heads.{import_specs}
+use Rattle.go_module.specs.Modules.Module.{FileData, PackageData}
+use Rattle.go_module.specs.Scopes.{same_node}
+use Rattle.go_module.specs.Names.BlockRules.{missing_main_at, reserved, repeated}
+use Rattle.go_module.specs.Names.BrokenNames.{broken_file, broken_files}
+use Rattle.go_module.specs.Names.Constants.{const_specs, object_id, package_block}
+use Rattle.go_module.specs.Names.ImportRules.{conflicting, declares, is_repeated_by, uses_import, unused, unused_import}
+use Rattle.go_module.specs.Names.Imports.{PackageNames, Importing, file_block, import_of, imports_from, imports_of}
+use Rattle.go_module.specs.Names.OccurrenceRules.{broken_occurrence, broken_occurrences, blank_at, missing_in, misplaced_package, undeclared_at, complex_name, is_complex}
+use Rattle.go_module.specs.Names.Occurrences.{selecting, occurrences_in, occurrences_among, occurrences_in_spec, occurrences_in_file}
+use Rattle.go_module.specs.Names.Regions.{regions_of, resolution, is_held}
+use Rattle.go_module.specs.Names.Tables.{member_of, members_at, uses_at, occurrences_from}
+use Rattle.go_module.specs.Names.Universe.{universe}
 use Rattle.go_scope.specs.declared.resolved.Denoted.{Denoted}
 use Rattle.go_scope.specs.declared.resolved.Resolved.{Resolved}
 use Rattle.go_scope.specs.Blocks.{block_data}
@@ -107,7 +107,7 @@ at_with file name false xs all = all
 mutual
   at_tree : (file : ℕ) (t : Tree) → AllAt file (occurrences_in file t)
   at_tree file (branch id from to Name text parts) = (refl, tt)
-  at_tree file (branch id from to SelectorExpr text (more_trees operand (more_trees name no_trees))) = at_with file name (is_identifier operand) (occurrences_in file operand) (at_tree file operand)
+  at_tree file (branch id from to SelectorExpr text (more_trees operand (more_trees name no_trees))) = at_with file name (is_name operand) (occurrences_in file operand) (at_tree file operand)
   at_tree file (branch id from to kind text parts) = at_trees file parts
 
   at_trees : (file : ℕ) (ts : Trees) → AllAt file (occurrences_among file ts)

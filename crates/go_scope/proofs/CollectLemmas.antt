@@ -5,18 +5,19 @@ use Rattle.std.specs.List.{Contains, flat_map}
 use Rattle.std.proofs.lemmas.Bool.Decides.{nat_tests}
 use Rattle.std.proofs.lemmas.List.{length-map}
 use Rattle.go_base.specs.declared.rule.Broken.{Broken}
-use Rattle.go_model.specs.declared.block.Region.{Region}
-use Rattle.go_model.specs.declared.module.Package.{Package}
-use Rattle.go_model.specs.FormRules.Order.{IsListOf}
-use Rattle.go_model.specs.Module.{FileData, ModuleData, package_view}
-use Rattle.go_model.specs.Names.BlockRules.{is_main_name}
-use Rattle.go_model.specs.Names.BrokenNames.{broken_block, broken_names}
-use Rattle.go_model.specs.Names.Constants.{package_block}
-use Rattle.go_model.specs.Names.Imports.{PackageNames, Importing, known_in, file_block, imports_from, imports_of}
-use Rattle.go_model.specs.Names.Regions.{regions_of}
-use Rattle.go_model.specs.Names.Tables.{region_entries, objects_of, uses_of, occurrences_from}
-use Rattle.go_model.specs.Names.Universe.{universe}
-use Rattle.go_model.proofs.MemberLemmas.{contains_head, contains_none}
+use Rattle.go_module.specs.declared.block.Region.{Region}
+use Rattle.go_module.specs.declared.module.Package.{Package}
+use Rattle.go_module.specs.declared.module.SourceFile.{SourceFile}
+use Rattle.go_module.specs.Order.{IsListOf}
+use Rattle.go_module.specs.Modules.Module.{FileData, PackageData, ModuleData, file_view, package_view}
+use Rattle.go_module.specs.Names.BlockRules.{is_main_name}
+use Rattle.go_module.specs.Names.BrokenNames.{broken_block, broken_in_files}
+use Rattle.go_module.specs.Names.Constants.{package_block}
+use Rattle.go_module.specs.Names.Imports.{PackageNames, Importing, known_in, file_block, imports_from, imports_of}
+use Rattle.go_module.specs.Names.Regions.{regions_of}
+use Rattle.go_module.specs.Names.Tables.{region_entries, objects_of, uses_of, occurrences_from}
+use Rattle.go_module.specs.Names.Universe.{universe}
+use Rattle.go_module.proofs.MemberLemmas.{contains_head, contains_none}
 use Rattle.go_scope.specs.declared.file_block.FileBlock.{FileBlock}
 use Rattle.go_scope.specs.declared.known.KnownPackage.{KnownPackage}
 use Rattle.go_scope.specs.declared.resolved.Resolved.{Resolved}
@@ -45,30 +46,41 @@ regions_made : (known : ℕ → PackageNames) (lists : List (List Importing)) �
 regions_made known [] = refl
 regions_made known (imports ∷ lists) = ap (λ rest. file_block known imports ++ rest) (regions_made known lists)
 
+-- the blocks that the code has are those of the package
+pub record AreBlocks (known : ℕ → PackageNames) (k : ℕ) (p : PackageData) (outer block : List Region) (blocks : List FileBlock) : Type 0 where
+  pub outer_is : outer ≡ universe
+  pub block_is : block ≡ package_block k 0 p.files
+  pub blocks_are : map block_of blocks ≡ map (block_data known) (imports_of k p)
+
+-- so it is where they are made of its files and imports
+pub are_blocks : (known : ℕ → PackageNames) (k : ℕ) (own : Package) {outer all block declared : List Region} {blocks imported : List FileBlock} {files others : List SourceFile} {imports : List ℕ} → outer ≡ all → all ≡ universe → block ≡ declared → declared ≡ package_block k 0 (map file_view files) → files ≡ own.files.items → blocks ≡ imported → map block_of imported ≡ map (block_data known) (imports_from k 0 (map file_view others) imports) → others ≡ own.files.items → imports ≡ own.imports.items → AreBlocks known k (package_view own) outer block blocks
+are_blocks known k own outer_at all_is block_at declared_is files_at blocks_at imported_is others_at imports_at = record {
+  outer_is = outer_at ∙ all_is;
+  block_is = block_at ∙ declared_is ∙ ap (λ files. package_block k 0 (map file_view files)) files_at;
+  blocks_are = ap (map block_of) blocks_at ∙ imported_is ∙ (λ j. map (block_data known) (imports_from k 0 (map file_view (others_at j)) (imports_at j)));
+}
+
 module _ (m : ModuleData) (K : List KnownPackage) (k : ℕ) (own : Package) (stands : StandsIn m k own K) where
-  module _ (outer block : List Region) (blocks : List FileBlock) (outer_is : outer ≡ universe) (block_is : block ≡ package_block k 0 (package_view own).files) (blocks_are : map block_of blocks ≡ map (block_data (known_by K)) (imports_of k (package_view own))) where
+  module _ (outer block : List Region) (blocks : List FileBlock) (are : AreBlocks (known_by K) k (package_view own) outer block blocks) where
     -- what is found is what the names break
-    pub found_is : (found : List Broken) → found ≡ broken_block (is_main_name own.name) block ++ broken_from (known_by K) (is_main_name own.name) outer block 0 (map block_of blocks) (package_view own).files → found ≡ broken_names (known_in m) k (package_view own)
-    found_is found is =
+    pub found_from : (start found : List Broken) → start ≡ [] → found ≡ start ++ (broken_block (is_main_name own.name) block ++ broken_from (known_by K) (is_main_name own.name) outer block 0 (map block_of blocks) (package_view own).files) → found ≡ broken_in_files (known_in m) k (package_view own)
+    found_from start found none is =
         is
-        ∙ (λ j. broken_block (is_main_name own.name) (block_is j) ++ broken_from (known_by K) (is_main_name own.name) (outer_is j) (block_is j) 0 (blocks_are j) (package_view own).files)
+        ∙ (λ j. none j ++ (broken_block (is_main_name own.name) (are.block_is j) ++ broken_from (known_by K) (is_main_name own.name) (are.outer_is j) (are.block_is j) 0 (are.blocks_are j) (package_view own).files))
         ∙ ap (λ rest. broken_block (is_main_name own.name) (package_block k 0 (package_view own).files) ++ rest) (package_breaks (known_by K) k (package_view own) (is_main_name own.name))
         ∙ names_alike (known_by K) (known_in m) k (package_view own) stands.imported
-
-    pub found_from : (start found : List Broken) → start ≡ [] → found ≡ start ++ (broken_block (is_main_name own.name) block ++ broken_from (known_by K) (is_main_name own.name) outer block 0 (map block_of blocks) (package_view own).files) → found ≡ broken_names (known_in m) k (package_view own)
-    found_from start found none is = found_is found (is ∙ ap (λ s. s ++ (broken_block (is_main_name own.name) block ++ broken_from (known_by K) (is_main_name own.name) outer block 0 (map block_of blocks) (package_view own).files)) none)
 
     module _ (lists : List (List Resolved)) (lists_are : lists ≡ resolved_from outer block 0 (map block_of blocks) (package_view own).files) where
       all_resolved : all_of lists ≡ map (resolved_of (regions_of (known_by K) k (package_view own))) (occurrences_from 0 (package_view own).files)
       all_resolved =
           ap all_of lists_are
-          ∙ (λ j. all_of (resolved_from (outer_is j) (block_is j) 0 (blocks_are j) (package_view own).files))
+          ∙ (λ j. all_of (resolved_from (are.outer_is j) (are.block_is j) 0 (are.blocks_are j) (package_view own).files))
           ∙ package_resolves (known_by K) k (package_view own)
 
       regions_are : outer ++ (block ++ flat_map (λ b. b.regions.items) blocks) ≡ regions_of (known_by K) k (package_view own)
       regions_are =
-          (λ j. outer_is j ++ (block_is j ++ regions_in blocks j))
-          ∙ ap (λ rest. universe ++ (package_block k 0 (package_view own).files ++ rest)) (ap (flat_map (λ (d : BlockData). d.regions)) blocks_are ∙ regions_made (known_by K) (imports_of k (package_view own)))
+          (λ j. are.outer_is j ++ (are.block_is j ++ regions_in blocks j))
+          ∙ ap (λ rest. universe ++ (package_block k 0 (package_view own).files ++ rest)) (ap (flat_map (λ (d : BlockData). d.regions)) are.blocks_are ∙ regions_made (known_by K) (imports_of k (package_view own)))
 
       pub uses_are : flat_map (pairs_by (known_by K)) (all_of lists) ≡ uses_of (known_in m) k (package_view own)
       uses_are =
@@ -81,6 +93,11 @@ module _ (m : ModuleData) (K : List KnownPackage) (k : ℕ) (own : Package) (sta
           (λ j. region_entries (regions_are j) ++ map member_entry (flat_map (members_by (known_by K)) (all_resolved j)))
           ∙ ap (λ members. region_entries (regions_of (known_by K) k (package_view own)) ++ map member_entry members) (all_members (known_by K) (regions_of (known_by K) k (package_view own)) (occurrences_from 0 (package_view own).files))
           ∙ objects_alike (known_by K) (known_in m) k (package_view own) stands.imported
+
+-- what is told by the numbers of files is empty where what was found is
+pub some_numbered : (f : Broken → Broken) (found told : List Broken) → told ≡ map f found → (found ≡ [] → ⊥) → told ≡ [] → ⊥
+some_numbered f [] told is some none = some refl
+some_numbered f (b ∷ found) told is some none = cc
 
 -- a list of something is not empty
 pub some_told : (found list : List Broken) → IsListOf found list → (found ≡ [] → ⊥) → list ≡ [] → ⊥

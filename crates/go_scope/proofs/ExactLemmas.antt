@@ -9,28 +9,28 @@ use Rattle.std.proofs.lemmas.Option.{slice_get-map}
 use Rattle.indexmap.specs.IndexMap.{insert_all}
 use Rattle.go_tree.specs.declared.node.NodeId.{NodeId}
 use Rattle.go_tree.specs.Tree.{Tree, branch, id_of, node_count}
-use Rattle.go_parse_s.specs.Copies.{with_copies}
-use Rattle.go_parse_s.specs.Files.{IsFileOf}
-use Rattle.go_parse_s.specs.Numbers.{numbered}
-use Rattle.go_model.specs.declared.block.Occurrence.{Occurrence}
-use Rattle.go_model.specs.declared.block.Region.{Region}
-use Rattle.go_model.specs.declared.block.Selected.{Selected}
-use Rattle.go_model.specs.declared.object.ObjId.{ObjId}
-use Rattle.go_model.specs.declared.scopes.Scopes.{Scopes}
-use Rattle.go_model.specs.Folders.{Folder, SourceText}
-use Rattle.go_model.specs.Loading.{IsModule}
-use Rattle.go_model.specs.Module.{FileData, PackageData, ModuleData, AreTrees, files_from, first_number, in_order, package_at, row_at}
-use Rattle.go_model.specs.Paths.{homes, own_paths}
-use Rattle.go_model.specs.Packages.{files_of, is_home}
-use Rattle.go_model.specs.Scopes.{same_node}
-use Rattle.go_model.specs.Names.Constants.{object_id}
-use Rattle.go_model.specs.Names.Imports.{PackageNames, exported, known_in}
-use Rattle.go_model.specs.Names.OccurrenceRules.{denoted_package}
-use Rattle.go_model.specs.Names.Occurrences.{occurrences_in_file}
-use Rattle.go_model.specs.Names.Regions.{resolution, regions_of}
-use Rattle.go_model.specs.Names.Tables.{Member, member_of, members_at, HasTables, uses_at, uses_of, occurrences_from}
-use Rattle.go_model.proofs.MemberLemmas.{cons_cases, contains_none}
-use Rattle.go_model.proofs.TableLemmas.{node_denotes, node_found}
+use Rattle.go_text.specs.Copies.{with_copies}
+use Rattle.go_text.specs.Files.{IsFileOf}
+use Rattle.go_text.specs.Numbers.{numbered}
+use Rattle.go_module.specs.declared.block.Occurrence.{Occurrence}
+use Rattle.go_module.specs.declared.block.Region.{Region}
+use Rattle.go_module.specs.declared.block.Selected.{Selected}
+use Rattle.go_module.specs.declared.object.ObjId.{ObjId}
+use Rattle.go_module.specs.declared.scopes.Scopes.{Scopes}
+use Rattle.go_module.specs.Modules.Texts.{SourceText}
+use Rattle.go_module.specs.Modules.Module.{FileData, PackageData, ModuleData, IsLoaded, AreTrees, files_from, first_number, in_order, package_at}
+use Rattle.go_graph.specs.Graph.{row_at}
+use Rattle.go_module.specs.Modules.Paths.{homes, own_paths}
+use Rattle.go_module.specs.Modules.Packages.{files_of, is_home}
+use Rattle.go_module.specs.Scopes.{same_node}
+use Rattle.go_module.specs.Names.Constants.{object_id}
+use Rattle.go_module.specs.Names.Imports.{PackageNames, exported, known_in}
+use Rattle.go_module.specs.Names.OccurrenceRules.{denoted_package}
+use Rattle.go_module.specs.Names.Occurrences.{occurrences_in_file}
+use Rattle.go_module.specs.Names.Regions.{resolution, regions_of}
+use Rattle.go_module.specs.Names.Tables.{Member, member_of, members_at, HasTables, uses_at, uses_of, occurrences_from}
+use Rattle.go_module.proofs.MemberLemmas.{cons_cases, contains_head, contains_none, contains_tail}
+use Rattle.go_module.proofs.TableLemmas.{node_denotes, node_found}
 use Rattle.go_scope.proofs.RisingLemmas.{Rises, IsBehind, last_of, rises_append, rises_lower, rises_higher, file_rises}
 
 -- pairs whose numbers rise, from a number on
@@ -200,27 +200,28 @@ module _ (first : ℕ) (texts : List SourceText) (trees : List Tree) (are : AreT
   files_rise a i [] rise = record { high = bound first trees a; rises = omega arith }
   files_rise a i (j ∷ js) rise = one_more i a j (slice_get (files_from 0 texts trees) j) js rise.0 refl (λ n. files_rise (suc j) n js rise.1)
 
--- a package of a module is made of one of its table
-record IsMade (f : ℕ → PackageData) (p : PackageData) : Type 0 where
-  place : ℕ
-  is : f place ≡ p
+-- a package of a module is one of its table, in the order
+pub record IsPlaced (f : ℕ → PackageData) (order : List ℕ) (p : PackageData) : Type 0 where
+  pub place : ℕ
+  pub stands : Contains order place
+  pub is : f place ≡ p
 
-made_at : (f : ℕ → PackageData) (order : List ℕ) (k : ℕ) (p : PackageData) → slice_get (map f order) k ≡ Some p → IsMade f p
-made_at f [] k p at = cc
-made_at f (j ∷ order) zero p at = record { place = j; is = ap (λ o. unwrap_or o (f j)) at }
-made_at f (j ∷ order) (suc k) p at = made_at f order k p at
+pub placed_at : (f : ℕ → PackageData) (order : List ℕ) (k : ℕ) (p : PackageData) → slice_get (map f order) k ≡ Some p → IsPlaced f order p
+placed_at f [] k p at = cc
+placed_at f (j ∷ order) zero p at = record { place = j; stands = contains_head j order j refl; is = ap (λ o. unwrap_or o (f j)) at }
+placed_at f (j ∷ order) (suc k) p at = let rest = placed_at f order k p at in record { place = rest.place; stands = contains_tail j order rest.place rest.stands; is = rest.is }
 
 -- the uses of a package of a module that is loaded
-module_uses : (own stubs : Folder) (m : ModuleData) (known : ℕ → PackageNames) (k : ℕ) (p : PackageData) → IsModule own stubs m → slice_get m.packages k ≡ Some p → Ascends (bound first_number [] 0) (uses_of known k p)
-module_uses own stubs m known k p is at =
+module_uses : (m : ModuleData) (known : ℕ → PackageNames) (k : ℕ) (p : PackageData) → IsLoaded m → slice_get m.packages k ≡ Some p → Ascends (bound first_number [] 0) (uses_of known k p)
+module_uses m known k p is at =
     let order = in_order is.table is.is_module.order in
     let files = files_from 0 is.texts is.trees in
-    let made : IsMade (package_at files is.heads is.table order) p = made_at (package_at files is.heads is.table order) order k p (sym (ap (λ (n : ModuleData). slice_get n.packages k) is.is_module.module_is) ∙ at) in
+    let made : IsPlaced (package_at files is.heads is.table order) order p = placed_at (package_at files is.heads is.table order) order k p (sym (ap (λ (n : ModuleData). slice_get n.packages k) is.is_module.module_is) ∙ at) in
     let row : PlacesRise 0 (row_at is.table.files made.place) = row_rises (slice_get is.table.files made.place) (homes is.path (own_paths is.path is.heads) is.heads) (slice_get is.table.paths made.place) (ap (λ rows. slice_get rows made.place) is.parts.is_table.files ∙ slice_get-map (files_of (homes is.path (own_paths is.path is.heads) is.heads)) is.table.paths made.place) in
     let rise = files_rise first_number is.texts is.trees is.parts.are_trees 0 0 (row_at is.table.files made.place) row in
     let all = uses_ascend known (regions_of known k p) first_number rise.high (occurrences_from 0 (filter_map (slice_get files) (row_at is.table.files made.place))) rise.rises in
     let same : filter_map (slice_get files) (row_at is.table.files made.place) ≡ p.files = ap (λ (q : PackageData). q.files) made.is in
     subst (λ (fs : List FileData). Ascends first_number (flat_map (uses_at known (regions_of known k p)) (occurrences_from 0 fs))) same all
 
-pub resolves_exactly : (own stubs : Folder) (m : ModuleData) (k : ℕ) (p : PackageData) (scopes : Scopes) → IsModule own stubs m → slice_get m.packages k ≡ Some p → HasTables m k p scopes → (id : NodeId) (d : ObjId) → Contains (uses_of (known_in m) k p) (id, d) → lookup (same_node id) scopes.uses.entries ≡ Some d
-resolves_exactly own stubs m k p scopes is at tables id d here = table_exact first_number scopes.uses.entries (uses_of (known_in m) k p) id d (module_uses own stubs m (known_in m) k p is at) tables.uses here
+pub resolves_exactly : (m : ModuleData) (k : ℕ) (p : PackageData) (scopes : Scopes) → IsLoaded m → slice_get m.packages k ≡ Some p → HasTables m k p scopes → (id : NodeId) (d : ObjId) → Contains (uses_of (known_in m) k p) (id, d) → lookup (same_node id) scopes.uses.entries ≡ Some d
+resolves_exactly m k p scopes is at tables id d here = table_exact first_number scopes.uses.entries (uses_of (known_in m) k p) id d (module_uses m (known_in m) k p is at) tables.uses here

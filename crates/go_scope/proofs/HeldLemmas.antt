@@ -10,10 +10,10 @@ use Rattle.std.proofs.lemmas.List.{take_more, length-take}
 use Rattle.std.proofs.lemmas.List.Folds.{find_at, position_or_len_push}
 use Rattle.std.proofs.lemmas.List.Sums.{length-filter, prefix_len-le-length, sum_by_push}
 use Rattle.std.proofs.lemmas.Option.{slice_get_past, slice_get_read}
-use Rattle.go_model.specs.declared.block.Region.{Region}
-use Rattle.go_model.specs.Paths.{same_text}
-use Rattle.go_model.specs.Names.BlockRules.{is_repeated}
-use Rattle.go_model.specs.Names.Regions.{has_name}
+use Rattle.go_module.specs.declared.block.Region.{Region}
+use Rattle.go_module.specs.Modules.Paths.{same_text}
+use Rattle.go_module.specs.Names.BlockRules.{is_repeated}
+use Rattle.go_module.specs.Names.Regions.{has_name}
 use Rattle.go_scope.specs.declared.held.Held.{Held}
 use Rattle.go_scope.specs.Held.{held_of, ArePlaces, only_of, declared_at, with_place}
 

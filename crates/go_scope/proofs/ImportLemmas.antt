@@ -6,7 +6,7 @@ use Rattle.std.proofs.lemmas.List.{append_assoc, append-nil, drop_all, map-appen
 use Rattle.std.proofs.lemmas.List.Elements.{filter-append}
 use Rattle.go_tree.specs.declared.node.Node.{Node}
 use Rattle.go_tree.specs.Tree.{tree_of}
-use Rattle.go_model.specs.Names.Imports.{Importing, imports_in}
+use Rattle.go_module.specs.Names.Imports.{Importing, imports_in}
 use Rattle.go_scope.specs.Blocks.{trees_at}
 
 -- behind one more entry of a table, of which those that pass are pushed
@@ -25,7 +25,7 @@ no_pairs [] = refl
 no_pairs (x ∷ xs) = refl
 
 -- behind the shorter of two lists nothing is left to pair
-pairs_done : {A B C : Type 0} (f : A → C) (xs : List A) (ys : List B) (i : ℕ) → min (length xs) (length ys) ≤ i → zip (map f (drop i xs)) (drop i ys) ≡ []
+pub pairs_done : {A B C : Type 0} (f : A → C) (xs : List A) (ys : List B) (i : ℕ) → min (length xs) (length ys) ≤ i → zip (map f (drop i xs)) (drop i ys) ≡ []
 pairs_done f xs ys i behind =
     elim (cases_lt i (length xs)) [
       | inl within ↦ ap (zip (map f (drop i xs))) (drop_all i ys (omega arith)) ∙ no_pairs (map f (drop i xs))

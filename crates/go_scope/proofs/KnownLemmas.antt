@@ -1,43 +1,38 @@
 -- What packages are known by: two ways of knowing that agree on all imported packages tell the same.
-use Rattle.std.proofs.Common.{◌≡◌, ℕ, zero, suc, ◌+◌, Bool, true, false, cond, Option, Some, None, List, [], ◌∷◌, ◌++◌, ◌⊎◌, inl, inr, map, filter, find, take, drop, length, not, refl, subst, ap, ◌∙◌}
+use Rattle.std.proofs.Common.{◌≡◌, ℕ, ◌+◌, Bool, true, false, cond, Option, Some, None, List, [], ◌∷◌, ◌++◌, map, filter, find, take, drop, length, not, refl, subst, ap, ◌∙◌}
 use Rattle.std.specs.Prelude.{if◌then◌else◌, option_and_then}
-use Rattle.go_model.specs.declared.object.ObjId.{ObjId}
+use Rattle.go_module.specs.declared.object.ObjId.{ObjId}
 use Rattle.std.specs.Option.{is_none, option_map_or}
 use Rattle.std.specs.List.{Contains, flat_map}
+use Rattle.std.proofs.lemmas.List.{take-append-drop}
+use Rattle.std.proofs.lemmas.List.Elements.{Contains-append_left, Contains-append_right}
 use Rattle.go_tree.specs.Tree.{Tree, Trees, no_trees, more_trees, parts_of}
-use Rattle.go_model.specs.declared.block.Region.{Region}
-use Rattle.go_model.specs.declared.block.Occurrence.{Occurrence}
-use Rattle.go_model.specs.declared.block.Selected.{Selected}
-use Rattle.go_model.specs.BrokenImports.{broken_at, told_if}
-use Rattle.go_model.specs.FormRules.TakenNames.{predeclared}
-use Rattle.go_model.specs.Heads.{import_specs}
-use Rattle.go_model.specs.Module.{FileData, PackageData}
-use Rattle.go_model.specs.Names.BlockRules.{missing_main_at, reserved, repeated, is_main_name}
-use Rattle.go_model.specs.Names.BrokenNames.{broken_block, broken_file, broken_files, broken_names}
-use Rattle.go_model.specs.Names.Constants.{constant_object, name_text, object_id, package_block, constants_in_file, constants_in_spec, const_specs, constant_region, names_in_spec}
-use Rattle.go_model.specs.Names.Exported.{is_blank}
-use Rattle.go_model.specs.Names.ImportRules.{conflicting, unused}
-use Rattle.go_model.specs.Names.Imports.{PackageNames, Importing, import_region, dot_region, is_dot, import_parts, import_regions, file_block, import_of, imports_in, imports_from, imports_of, exports_of, exported}
-use Rattle.go_model.specs.Names.OccurrenceRules.{missing_member, denoted_package, missing_in, broken_occurrence, broken_occurrences, undeclared_at, blank_at, misplaced_at, complex_at}
-use Rattle.go_model.specs.Names.Occurrences.{occurrences_in_file}
-use Rattle.go_model.specs.Names.Regions.{regions_of, resolution, holds, lies_inside_others}
-use Rattle.go_model.specs.Names.Tables.{region_entries, members_at, member_of, uses_at, uses_of, objects_of, occurrences_from}
-use Rattle.go_model.specs.Names.Universe.{universe, universe_from}
-use Rattle.go_model.proofs.MemberLemmas.{cons_cases, contains_head, contains_tail, contains_none}
+use Rattle.go_module.specs.declared.block.Region.{Region}
+use Rattle.go_module.specs.declared.block.Occurrence.{Occurrence}
+use Rattle.go_module.specs.declared.block.Selected.{Selected}
+use Rattle.go_module.specs.Broken.{broken_at, told_if}
+use Rattle.go_module.specs.Names.Universe.{Predeclared, predeclared, universe, universe_from}
+use Rattle.go_module.specs.Modules.Heads.{import_specs}
+use Rattle.go_module.specs.Modules.Module.{FileData, PackageData}
+use Rattle.go_module.specs.Names.BlockRules.{missing_main_at, reserved, repeated, is_main_name}
+use Rattle.go_module.specs.Names.BrokenNames.{broken_block, broken_file, broken_files, broken_in_files}
+use Rattle.go_module.specs.Names.Constants.{constant_object, name_text, object_id, package_block, constants_in_file, constants_in_spec, const_specs, constant_region, names_in_spec}
+use Rattle.go_module.specs.Names.Exported.{is_blank}
+use Rattle.go_module.specs.Names.ImportRules.{conflicting, unused}
+use Rattle.go_module.specs.Names.Imports.{PackageNames, Importing, import_region, dot_region, is_dot, import_parts, import_regions, file_block, import_of, imports_in, imports_from, imports_of, exports_of, exported}
+use Rattle.go_module.specs.Names.OccurrenceRules.{missing_member, denoted_package, missing_in, broken_occurrence, broken_occurrences, undeclared_at, blank_at, misplaced_at, complex_at}
+use Rattle.go_module.specs.Names.Occurrences.{occurrences_in_file}
+use Rattle.go_module.specs.Names.Regions.{regions_of, resolution, holds, lies_inside_others}
+use Rattle.go_module.specs.Names.Tables.{region_entries, members_at, member_of, uses_at, uses_of, objects_of, occurrences_from}
+use Rattle.go_module.proofs.MemberLemmas.{contains_head, contains_tail}
 
--- parts of a list have its elements
-pub in_front : {X : Type 0} (n : ℕ) (xs : List X) (x : X) → Contains (take n xs) x → Contains xs x
-in_front zero xs x h = absurd (contains_none x h)
-in_front (suc n) [] x h = h
-in_front (suc n) (y ∷ xs) x h = by_place (cons_cases y (take n xs) x h) (in_front n xs x) where
-  by_place : (y ≡ x) ⊎ Contains (take n xs) x → (Contains (take n xs) x → Contains xs x) → Contains (y ∷ xs) x
-  by_place (inl here) go_on = contains_head y xs x here
-  by_place (inr later) go_on = contains_tail y xs x (go_on later)
+-- parts of a list have no other elements
+
+in_front : {X : Type 0} (n : ℕ) (xs : List X) (x : X) → Contains (take n xs) x → Contains xs x
+in_front n xs x h = subst (λ ys. Contains ys x) (take-append-drop n xs) (Contains-append_left (take n xs) (drop n xs) x h)
 
 in_rest : {X : Type 0} (n : ℕ) (xs : List X) (x : X) → Contains (drop n xs) x → Contains xs x
-in_rest zero xs x h = h
-in_rest (suc n) [] x h = h
-in_rest (suc n) (y ∷ xs) x h = contains_tail y xs x (in_rest n xs x h)
+in_rest n xs x h = subst (λ ys. Contains ys x) (take-append-drop n xs) (Contains-append_right (take n xs) (drop n xs) x h)
 
 module _ (f g : ℕ → PackageNames) where
   -- both know the packages of these imports alike
@@ -86,7 +81,7 @@ module _ (f g : ℕ → PackageNames) where
   denoted_append [] ys xs_are ys_are = ys_are
   denoted_append (x ∷ xs) ys xs_are ys_are = (xs_are.0, denoted_append xs ys xs_are.1 ys_are)
 
-  universe_denotes : (i : ℕ) (names : List (List ℕ)) → AllDenoted (universe_from i names)
+  universe_denotes : (i : ℕ) (names : List Predeclared) → AllDenoted (universe_from i names)
   universe_denotes i [] = tt
   universe_denotes i (name ∷ names) = ((λ q e. cc), universe_denotes (i + 1) names)
 
@@ -200,7 +195,7 @@ module _ (f g : ℕ → PackageNames) where
     files_alike is_main block file (x ∷ files) (imports ∷ lists) same = (λ at. file_alike is_main block file x imports same.0 at ++ files_alike is_main block (file + 1) files lists same.1 at)
 
   -- so the package breaks the same, and has the same tables
-  pub names_alike : (k : ℕ) (p : PackageData) → ((q : ℕ) → Contains p.imports q → f q ≡ g q) → broken_names f k p ≡ broken_names g k p
+  pub names_alike : (k : ℕ) (p : PackageData) → ((q : ℕ) → Contains p.imports q → f q ≡ g q) → broken_in_files f k p ≡ broken_in_files g k p
   names_alike k p same =
       let all : AllAlike (imports_of k p) = alike_from k 0 p.files p.imports same in
       let block = package_block k 0 p.files in

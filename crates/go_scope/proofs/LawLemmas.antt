@@ -3,12 +3,12 @@ use Rattle.std.proofs.Common.{◌≡◌, ℕ, ◌+◌, ◌==◌, Bool, true, fal
 use Rattle.std.proofs.lemmas.Bool.Decides.{nat_tests}
 use Rattle.std.proofs.lemmas.List.{append_assoc}
 use Rattle.std.proofs.lemmas.List.Sums.{sum_by-append}
-use Rattle.go_model.specs.declared.block.Block.{Block}
-use Rattle.go_model.specs.declared.block.Block.TheVariants.{Universe, Package, File}
-use Rattle.go_model.specs.declared.block.Occurrence.{Occurrence}
-use Rattle.go_model.specs.declared.block.Region.{Region}
-use Rattle.go_model.specs.Names.Blocks.{lies_inside}
-use Rattle.go_model.specs.Names.Regions.{holds, lies_inside_others, resolution}
+use Rattle.go_module.specs.declared.block.Block.{Block}
+use Rattle.go_module.specs.declared.block.Block.TheVariants.{Universe, Package, File}
+use Rattle.go_module.specs.declared.block.Occurrence.{Occurrence}
+use Rattle.go_module.specs.declared.block.Region.{Region}
+use Rattle.go_module.specs.Names.Blocks.{lies_inside}
+use Rattle.go_module.specs.Names.Regions.{holds, lies_inside_others, resolution}
 use Rattle.go_scope.specs.Laws.{LiesInsideAll, IsInnermost}
 
 -- a block lies not inside itself, and of two blocks at most one lies inside the other

@@ -2,7 +2,7 @@
 use Rattle.std.proofs.Common.{◌≡◌, ℕ, List, refl, ap, ◌∙◌}
 use Rattle.go_tree.specs.declared.node_kind.NodeKind.TheVariants.{SelectorExpr}
 use Rattle.go_tree.specs.Tree.{Tree, branch, Trees, no_trees, more_trees, kind_of, parts_of}
-use Rattle.go_model.specs.Names.Occurrences.{occurrences_in, occurrences_among, with_selected}
+use Rattle.go_module.specs.Names.Occurrences.{occurrences_in, occurrences_among, with_selected}
 
 -- what occurs in `x.f`, by its two parts
 selector_of : (file id from to : ℕ) (text : List ℕ) (operand name : Tree) (parts : Trees) → parts ≡ more_trees operand (more_trees name no_trees) → occurrences_in file (branch id from to SelectorExpr text parts) ≡ with_selected operand name (occurrences_in file operand)

@@ -9,19 +9,18 @@ use Rattle.std.proofs.lemmas.List.Elements.{filter-append}
 use Rattle.std.proofs.lemmas.List.Folds.{find-append}
 use Rattle.std.proofs.lemmas.List.Sums.{length-filter}
 use Rattle.go_tree.specs.Tree.{Tree, Trees, no_trees, more_trees, parts_of}
-use Rattle.go_model.specs.declared.block.Block.{Block}
-use Rattle.go_model.specs.declared.block.Block.TheVariants.{Universe, Package, File}
-use Rattle.go_model.specs.declared.block.Occurrence.{Occurrence}
-use Rattle.go_model.specs.declared.block.Region.{Region}
-use Rattle.go_model.specs.FormRules.TakenNames.{predeclared}
-use Rattle.go_model.specs.Heads.{import_specs}
-use Rattle.go_model.specs.Module.{FileData, PackageData}
-use Rattle.go_model.specs.Names.Blocks.{holds_file, lies_inside}
-use Rattle.go_model.specs.Names.Constants.{name_text, package_block, constants_in_file, constants_in_spec, const_specs}
-use Rattle.go_model.specs.Names.Exported.{is_blank}
-use Rattle.go_model.specs.Names.Imports.{PackageNames, Importing, file_block, imports_in, imports_from, imports_of, import_parts, import_regions, import_region, named_regions, dot_region, exports_of, is_dot}
-use Rattle.go_model.specs.Names.Regions.{regions_of, has_name, holds, lies_inside_others, resolution, is_held}
-use Rattle.go_model.specs.Names.Universe.{universe, universe_from}
+use Rattle.go_module.specs.declared.block.Block.{Block}
+use Rattle.go_module.specs.declared.block.Block.TheVariants.{Universe, Package, File}
+use Rattle.go_module.specs.declared.block.Occurrence.{Occurrence}
+use Rattle.go_module.specs.declared.block.Region.{Region}
+use Rattle.go_module.specs.Names.Universe.{Predeclared, predeclared, universe, universe_from}
+use Rattle.go_module.specs.Modules.Heads.{import_specs}
+use Rattle.go_module.specs.Modules.Module.{FileData, PackageData}
+use Rattle.go_module.specs.Names.Blocks.{holds_file, lies_inside}
+use Rattle.go_module.specs.Names.Constants.{name_text, package_block, constants_in_file, constants_in_spec, const_specs}
+use Rattle.go_module.specs.Names.Exported.{is_blank}
+use Rattle.go_module.specs.Names.Imports.{PackageNames, Importing, file_block, imports_in, imports_from, imports_of, import_parts, import_regions, import_region, named_regions, dot_region, exports_of, is_dot}
+use Rattle.go_module.specs.Names.Regions.{regions_of, has_name, holds, lies_inside_others, resolution, is_held}
 use Rattle.go_scope.specs.Held.{innermost, is_declared, only_of}
 
 -- regions of one block
@@ -55,7 +54,7 @@ of_if b false xs ys left right = right
 
 -- the blocks of a package, each with its regions
 
-universe_from_own : (i : ℕ) (names : List (List ℕ)) → OfBlock Universe (universe_from i names)
+universe_from_own : (i : ℕ) (names : List Predeclared) → OfBlock Universe (universe_from i names)
 universe_from_own i [] = tt
 universe_from_own i (name ∷ names) = (refl, universe_from_own (i + 1) names)
 

@@ -4,11 +4,11 @@ use Rattle.std.specs.List.{flat_map}
 use Rattle.std.proofs.lemmas.Grind.{flat_map-append}
 use Rattle.go_tree.specs.declared.node_kind.NodeKind.TheVariants.{Name, SelectorExpr, ConstDecl, ConstGroup}
 use Rattle.go_tree.specs.Tree.{Tree, branch, Trees, no_trees, more_trees, list_of, node_count, node_count_of_all}
-use Rattle.go_parse_s.specs.Numbers.{numbered, all_numbered}
-use Rattle.go_model.specs.declared.block.Occurrence.{Occurrence}
-use Rattle.go_model.specs.declared.block.Selected.{Selected}
-use Rattle.go_model.specs.Names.Constants.{const_specs_in}
-use Rattle.go_model.specs.Names.Occurrences.{with_selected, occurrences_in, occurrences_among, occurrences_in_spec, occurrences_in_file}
+use Rattle.go_text.specs.Numbers.{numbered, all_numbered}
+use Rattle.go_module.specs.declared.block.Occurrence.{Occurrence}
+use Rattle.go_module.specs.declared.block.Selected.{Selected}
+use Rattle.go_module.specs.Names.Constants.{const_specs_in}
+use Rattle.go_module.specs.Names.Occurrences.{with_selected, occurrences_in, occurrences_among, occurrences_in_spec, occurrences_in_file}
 
 -- the last number of an occurrence: that of the name behind its `.`, if one stands there
 abbrev pub last_of : ℕ → Option Selected → ℕ

@@ -1,27 +1,31 @@
 -- In a module that is loaded, each import spec of a package stands beside the package that it names.
-use Rattle.std.proofs.Common.{◌≡◌, ℕ, zero, suc, ◌+◌, ◌<◌, ◌≤◌, ◌==◌, Bool, true, false, not, ◌||◌, ◌&&◌, cond, Option, Some, None, List, [], ◌∷◌, ◌++◌, ◌⊎◌, inl, inr, length, map, filter, position, nat_lt, refl, sym, ap, ◌∙◌, subst, arith}
-use Rattle.std.specs.Prelude.{if◌then◌else◌, slice_get, slice_index, unwrap_or, is_none, is_some}
-use Rattle.std.specs.List.{Contains, cons_option, filter_map, flat_map, list_any, position_or_len, range_with_len}
+use Rattle.std.proofs.Common.{◌≡◌, ℕ, zero, suc, ◌+◌, ◌<◌, ◌==◌, Bool, true, false, not, ◌&&◌, cond, Option, Some, None, List, [], ◌∷◌, ◌++◌, ◌⊎◌, inl, inr, length, map, filter, position, nat_lt, get_or, refl, sym, ap, ◌∙◌, subst, zero-add, arith}
+use Rattle.std.specs.Prelude.{if◌then◌else◌, slice_get, unwrap_or, is_none, is_some}
+use Rattle.std.specs.List.{Contains, cons_option, filter_map, flat_map, position_or_len, range_with_len}
 use Rattle.std.specs.Option.{option_map, option_map_or}
-use Rattle.std.proofs.lemmas.Bool.Decides.{nat_tests}
-use Rattle.std.proofs.lemmas.List.{get_or_default}
-use Rattle.std.proofs.lemmas.List.Elements.{Contains-append_cases as append_cases}
-use Rattle.std.proofs.lemmas.Option.{slice_get-map, slice_get_within, unwrap_or-slice_get}
-use Rattle.go_base.specs.declared.rule.Broken.{Broken}
-use Rattle.go_tree.specs.Tree.{Tree}
-use Rattle.go_model.specs.BrokenImports.{broken_at, told_if, is_unnamed, is_unbuilt, unnamed_import, unbuilt_import, broken_import, broken_imports_at, broken_names, broken_package, broken_if_reached, broken_imports_in}
-use Rattle.go_model.specs.Folders.{Folder, SourceText, as_text}
-use Rattle.go_model.specs.Heads.{FileHead, ImportSpec, AreImports, IsImportOf, import_specs}
-use Rattle.go_model.specs.ImportOrder.{IsOrder, imports_of as graph_row}
-use Rattle.go_model.specs.Loading.{IsModule}
-use Rattle.go_model.specs.Module.{FileData, PackageData, ModuleData, AreHeads, files_from, in_order, package_at, places_in, row_at}
+use Rattle.std.proofs.lemmas.Bool.{eq-eqb, eqb-true, or_parts}
+use Rattle.std.proofs.lemmas.List.Elements.{All-contains, All-contains_itself, All-filter, Contains-append_cases as append_cases, filter_passes}
+use Rattle.std.proofs.lemmas.List.Folds.{list_any_at}
+use Rattle.std.proofs.lemmas.List.FromFn.{get_or-range_with_len, length-range_with_len}
+use Rattle.std.proofs.lemmas.List.Quantifiers.{position-Some}
+use Rattle.std.proofs.lemmas.Option.{slice_get-get_or, slice_get-map, slice_get_within, unwrap_or-slice_get}
 use Rattle.std.proofs.lemmas.Slice.Eq.{bytes_eq-Decides}
-use Rattle.go_model.specs.Packages.{Leads, imported, files_of, imports_at, imports_in, imports_of, is_marked, named, visible}
-use Rattle.go_model.specs.Paths.{same_text, has_path, homes, own_paths}
+use Rattle.go_base.specs.declared.rule.Broken.{Broken}
+use Rattle.go_graph.specs.Graph.{further, is_marked, row_at}
+use Rattle.go_graph.proofs.OrderLemmas.{closed}
+use Rattle.go_tree.specs.Tree.{Tree}
+use Rattle.go_module.specs.Broken.{broken_at, told_if}
+use Rattle.go_module.specs.Modules.BrokenImports.{is_unnamed, is_unbuilt, unnamed_import, unbuilt_import, broken_import, broken_imports_at, broken_names, broken_package, broken_if_reached, broken_imports_in}
+use Rattle.go_module.specs.Modules.Texts.{SourceText, as_text}
+use Rattle.go_module.specs.Modules.Heads.{FileHead, ImportSpec, AreImports, IsImportOf, import_specs}
+use Rattle.go_module.specs.Modules.Module.{FileData, PackageData, ModuleData, IsLoaded, AreHeads, files_from, in_order, package_at, places_in}
+use Rattle.go_module.specs.Modules.Packages.{files_of, imports_at, imports_in, imports_of, named, visible}
+use Rattle.go_module.specs.Modules.Paths.{same_text, has_path, homes, own_paths}
+use Rattle.go_module.proofs.BrokenListLemmas.{none_found}
+use Rattle.go_module.proofs.MemberLemmas.{cons_cases, contains_head, contains_tail, contains_none}
 use Rattle.go_scope.specs.Laws.{NamesPackage, SideBySide}
+use Rattle.go_scope.proofs.ExactLemmas.{IsPlaced, placed_at}
 use Rattle.go_scope.proofs.HeldLemmas.{within_any}
-use Rattle.go_scope.proofs.KnownLemmas.{in_front}
-use Rattle.go_model.proofs.MemberLemmas.{cons_cases, contains_head, contains_tail, contains_none}
 
 -- what is put together of nothing is nothing
 nil_parts : {X : Type 0} (xs ys : List X) → xs ++ ys ≡ [] → (xs ≡ []) × (ys ≡ [])
@@ -34,17 +38,6 @@ each_nil f (y ∷ xs) x e here = by_place (cons_cases y xs x here) (each_nil f x
   by_place : (y ≡ x) ⊎ Contains xs x → (Contains xs x → f x ≡ []) → f x ≡ []
   by_place (inl same) go_on = ap f (sym same) ∙ (nil_parts (f y) (flat_map f xs) e).0
   by_place (inr later) go_on = go_on later
-
-no_element : {X : Type 0} (xs : List X) → ((x : X) → Contains xs x → ⊥) → xs ≡ []
-no_element [] none = refl
-no_element (x ∷ xs) none = absurd (none x (contains_head x xs x refl))
-
-in_left : {X : Type 0} (xs ys : List X) (x : X) → Contains xs x → Contains (xs ++ ys) x
-in_left [] ys x here = absurd (contains_none x here)
-in_left (y ∷ xs) ys x here = by_place (cons_cases y xs x here) (in_left xs ys x) where
-  by_place : (y ≡ x) ⊎ Contains xs x → (Contains xs x → Contains (xs ++ ys) x) → Contains (y ∷ (xs ++ ys)) x
-  by_place (inl same) go_on = contains_head y (xs ++ ys) x same
-  by_place (inr later) go_on = contains_tail y (xs ++ ys) x (go_on later)
 
 -- nothing is left out where each gives something
 all_kept : {X Y : Type 0} (f : X → Option Y) (xs : List X) → ((x : X) → Contains xs x → is_some (f x) ≡ true) → SideBySide (λ x y. f x ≡ Some y) xs (filter_map f xs)
@@ -75,49 +68,23 @@ side_append R [] more (y ∷ ys) others r s = absurd r
 side_append R (x ∷ xs) more [] others r s = absurd r
 side_append R (x ∷ xs) more (y ∷ ys) others r s = (r.0, side_append R xs more ys others r.1 s)
 
-or_true : (b : Bool) → (b || true) ≡ true
-or_true true = refl
-or_true false = refl
-
 -- a number of a list has a place in it
-any_has : (xs : List ℕ) (q : ℕ) → Contains xs q → list_any (λ p. p == q) xs ≡ true
-any_has [] q here = absurd (contains_none q here)
-any_has (x ∷ xs) q here = by_place (cons_cases x xs q here) (any_has xs q) where
-  by_place : (x ≡ q) ⊎ Contains xs q → (Contains xs q → list_any (λ p. p == q) xs ≡ true) → ((x == q) || list_any (λ p. p == q) xs) ≡ true
-  by_place (inl same) go_on = let at : (x == q) ≡ true = grind (arith, nat_tests) in ap (λ b. b || list_any (λ p. p == q) xs) at
-  by_place (inr later) go_on = ap (λ b. (x == q) || b) (go_on later) ∙ or_true (x == q)
 
 some_of : {X : Type 0} (b : Bool) (x : X) → is_some (cond b (Some x) None) ≡ b
 some_of true x = refl
 some_of false x = refl
 
 has_place : (xs : List ℕ) (q : ℕ) → Contains xs q → is_some (position (λ p. p == q) xs) ≡ true
-has_place xs q here = some_of (nat_lt (position_or_len (λ p. p == q) xs) (length xs)) (position_or_len (λ p. p == q) xs) ∙ within_any (λ p. p == q) xs ∙ any_has xs q here
+has_place xs q here =
+    some_of (nat_lt (position_or_len (λ p. p == q) xs) (length xs)) (position_or_len (λ p. p == q) xs)
+    ∙ within_any (λ p. p == q) xs
+    ∙ list_any_at (λ p. p == q) xs here.0 q here.1 (eq-eqb (get_or xs here.0 q) q here.2)
 
--- what stands at the first place where a test passes
-record Passes {X : Type 0} (p : X → Bool) (xs : List X) (i : ℕ) : Type 0 where
-  x : X
-  at : slice_get xs i ≡ Some x
-  passes : p x ≡ true
-
-place_of : (b : Bool) (n i : ℕ) → cond b (Some n) None ≡ Some i → (b ≡ true) × (n ≡ i)
-place_of true n i e = (refl, cc)
-place_of false n i e = cc
-
-passes_at : {X : Type 0} (p : X → Bool) (xs : List X) (i : ℕ) → position p xs ≡ Some i → Passes p xs i
-passes_at p [] i e = cc
-passes_at {X = X} p (x ∷ xs) i e = by_test (p x) refl e (passes_at p xs) where
-  by_test : (b : Bool) → p x ≡ b → cond (nat_lt (cond (not b) (1 + position_or_len p xs) 0) (length (x ∷ xs))) (Some (cond (not b) (1 + position_or_len p xs) 0)) None ≡ Some i → ((j : ℕ) → position p xs ≡ Some j → Passes p xs j) → Passes p (x ∷ xs) i
-  by_test true passes here go_on =
-      let at = place_of (nat_lt 0 (length (x ∷ xs))) 0 i here in
-      subst (Passes p (x ∷ xs)) at.1 (record { x = x; at = refl; passes = passes })
-  by_test false fails here go_on =
-      let n = position_or_len p xs in
-      let at = place_of (nat_lt (1 + n) (length (x ∷ xs))) (1 + n) i here in
-      let lt : nat_lt n (length xs) ≡ true = (let big = at.0 in grind (arith, nat_tests)) in
-      let rest = go_on n (ap (λ b. cond b (Some n) None) lt) in
-      let next : suc n ≡ i = (let same = at.1 in omega (arith, same)) in
-      subst (Passes p (x ∷ xs)) next (record { x = rest.x; at = rest.at; passes = rest.passes })
+-- what stands at a place that was found
+found_at : (xs : List ℕ) (q i : ℕ) → position (λ p. p == q) xs ≡ Some i → slice_get xs i ≡ Some q
+found_at xs q i e =
+    let at = position-Some (λ p. p == q) xs i q e in
+    slice_get-get_or xs i q at.0 ∙ ap Some (eqb-true (get_or xs i q) q at.1)
 
 -- what passes a test is kept, and what is kept passes it
 kept_by : {X : Type 0} (test : X → Bool) (xs : List X) (x : X) → Contains xs x → test x ≡ true → Contains (filter test xs) x
@@ -130,18 +97,10 @@ kept_by test (y ∷ xs) x here passes = by_place (cons_cases y xs x here) (test 
   by_place (inr later) false at go_on = go_on later passes
 
 passes_kept : {X : Type 0} (test : X → Bool) (xs : List X) (x : X) → Contains (filter test xs) x → Contains xs x × (test x ≡ true)
-passes_kept test [] x here = absurd (contains_none x here)
-passes_kept test (y ∷ xs) x here = by_test (test y) refl here (passes_kept test xs x) where
-  later : Contains xs x × (test x ≡ true) → Contains (y ∷ xs) x × (test x ≡ true)
-  later rest = (contains_tail y xs x rest.0, rest.1)
-
-  by_place : test y ≡ true → (y ≡ x) ⊎ Contains (filter test xs) x → (Contains (filter test xs) x → Contains xs x × (test x ≡ true)) → Contains (y ∷ xs) x × (test x ≡ true)
-  by_place at (inl same) go_on = (contains_head y xs x same, ap test (sym same) ∙ at)
-  by_place at (inr rest) go_on = later (go_on rest)
-
-  by_test : (b : Bool) → test y ≡ b → Contains (cond b (y ∷ filter test xs) (filter test xs)) x → (Contains (filter test xs) x → Contains xs x × (test x ≡ true)) → Contains (y ∷ xs) x × (test x ≡ true)
-  by_test true at there go_on = by_place at (cons_cases y (filter test xs) x there) go_on
-  by_test false at there go_on = later (go_on there)
+passes_kept test xs x here = (
+  All-contains (Contains xs) (filter test xs) x (All-filter test (Contains xs) xs (All-contains_itself xs)) here,
+  All-contains (λ y. test y ≡ true) (filter test xs) x (filter_passes test xs) here,
+)
 
 -- the imports of a file beside its specs
 beside : (specs : List Tree) (imports : List ImportSpec) → AreImports specs imports → SideBySide IsImportOf specs imports
@@ -178,10 +137,6 @@ told_nothing : (b : Bool) (x : Broken) → told_if b x ≡ [] → b ≡ false
 told_nothing true x e = cc
 told_nothing false x e = refl
 
-second_false : (a b : Bool) → (a || b) ≡ false → b ≡ false
-second_false true b e = cc
-second_false false b e = e
-
 is_named : {X : Type 0} (o : Option X) → is_none o ≡ false → is_some o ≡ true
 is_named None e = cc
 is_named (Some x) e = refl
@@ -190,7 +145,7 @@ import_named : (paths : List (List ℕ)) (stubs : List Bool) (from_stub : Bool) 
 import_named paths stubs from_stub file spec none =
     let first = nil_parts (told_if (is_unnamed paths stubs from_stub spec.path) (broken_at file spec.at unnamed_import)) (told_if (is_unbuilt spec.path) (broken_at file spec.at unbuilt_import)) none in
     let kept = told_nothing (is_unnamed paths stubs from_stub spec.path) (broken_at file spec.at unnamed_import) first.0 in
-    is_named (named paths stubs from_stub spec.path) (second_false (length spec.path == 0) (is_none (named paths stubs from_stub spec.path)) kept)
+    is_named (named paths stubs from_stub spec.path) (or_parts (length spec.path == 0) (is_none (named paths stubs from_stub spec.path)) kept).1
 
 -- which package is seen
 visible_is : (stubs : List Bool) (from_stub : Bool) (o : Option ℕ) (q : ℕ) → visible stubs from_stub o ≡ Some q → o ≡ Some q
@@ -219,49 +174,12 @@ all_named_whole paths stubs heads from_stub files none =
     import_named paths stubs from_stub at.0 spec (each_nil (broken_import paths stubs from_stub at.0) (imports_at heads at.0) spec file at.2))
 
 -- a number of a range
-in_range : (a n k : ℕ) → a ≤ k → k < a + n → Contains (range_with_len a n) k
-in_range a zero k low high = absurd (omega arith)
-in_range a (suc n) k low high = by_place (a == k) refl (in_range (a + 1) n k) where
-  by_place : (b : Bool) → (a == k) ≡ b → (a + 1 ≤ k → k < (a + 1) + n → Contains (range_with_len (a + 1) n) k) → Contains (a ∷ range_with_len (a + 1) n) k
-  by_place true at go_on = contains_head a (range_with_len (a + 1) n) k (grind (arith, nat_tests))
-  by_place false at go_on =
-      let other : a ≡ k → ⊥ = λ same. (let yes_at : (a == k) ≡ true = grind (arith, nat_tests) in let wrong : true ≡ false = sym yes_at ∙ at in cc) in
-      contains_tail a (range_with_len (a + 1) n) k (go_on (omega arith) (omega arith))
+in_range : (n k : ℕ) → k < n → Contains (range_with_len 0 n) k
+in_range n k lt = (k, omega (arith, lt, length-range_with_len 0 n), get_or-range_with_len 0 n k k lt ∙ zero-add k)
 
-no_more : {X Y : Type 0} (f : X → Y) (xs : List X) → [] ≡ map f xs → xs ≡ []
-no_more f [] e = refl
-no_more f (x ∷ xs) e = cc
-
--- a row that has something stands in the table
-leads_to : (rows : List (List ℕ)) (k q : ℕ) (o : Option (List ℕ)) → slice_get rows k ≡ o → Contains (unwrap_or o []) q → Leads rows k q
-leads_to rows k q None at here = absurd (contains_none q here)
-leads_to rows k q (Some row) at here = record { row = row; at = at; has = here }
-
--- a package of a module is one of its table, in the order
-record IsPlaced (f : ℕ → PackageData) (order : List ℕ) (p : PackageData) : Type 0 where
-  place : ℕ
-  stands : Contains order place
-  is : f place ≡ p
-
-placed_at : (f : ℕ → PackageData) (order : List ℕ) (k : ℕ) (p : PackageData) → slice_get (map f order) k ≡ Some p → IsPlaced f order p
-placed_at f [] k p at = cc
-placed_at f (j ∷ order) zero p at = record { place = j; stands = contains_head j order j refl; is = ap (λ o. unwrap_or o (f j)) at }
-placed_at f (j ∷ order) (suc k) p at = let rest = placed_at f order k p at in record { place = rest.place; stands = contains_tail j order rest.place rest.stands; is = rest.is }
-
--- what a package in the order imports stands in the order
-behind_it : (rows : List (List ℕ)) (order : List ℕ) (place q : ℕ) → IsOrder rows order → Contains order place → Contains (row_at rows place) q → Contains order q
-behind_it rows order place q is stands here =
-    let i = stands.0 in
-    let at : slice_index order i ≡ place = get_or_default order i 0 place stands.1 ∙ stands.2 in
-    let row : row_at rows place ≡ graph_row rows place = unwrap_or-slice_get rows place [] in
-    let there : Contains (graph_row rows (slice_index order i)) q = subst (λ (n : ℕ). Contains (graph_row rows n) q) (sym at) (subst (λ (l : List ℕ). Contains l q) row here) in
-    in_front i order q ((is.run i stands.1).ready.has_imports q there)
-
-module _ (own stubs : Folder) (m : ModuleData) (is : IsModule own stubs m) where
+module _ (m : ModuleData) (is : IsLoaded m) where
   nothing_broken : broken_imports_in is.heads is.table ≡ []
-  nothing_broken =
-      let none : is.whole.broken ≡ [] = no_more _ is.whole.broken is.whole.placed in
-      no_element (broken_imports_in is.heads is.table) (λ b here. contains_none b (subst (λ (l : List Broken). Contains l b) none ((is.whole.are_broken.is_list.same b).1 (in_left (broken_imports_in is.heads is.table) is.whole.are_broken.cyclic b here))))
+  nothing_broken = (nil_parts (broken_imports_in is.heads is.table) is.sound.cyclic (none_found (broken_imports_in is.heads is.table ++ is.sound.cyclic) is.sound.is_list)).0
 
   -- the import specs of a package of the table that is reached, beside what they name
   abbrev Names : ImportSpec → ℕ → Type 0
@@ -283,7 +201,7 @@ module _ (own stubs : Folder) (m : ModuleData) (is : IsModule own stubs m) where
       let files : row_at t.files place ≡ files_of hs path = ap (λ rows. row_at rows place) is.parts.is_table.files ∙ ap (λ r. unwrap_or r []) (slice_get-map (files_of hs) t.paths place ∙ ap (option_map (files_of hs)) at) in
       let stub : is_marked t.stubs place ≡ not (own_path path) = ap (λ marks. is_marked marks place) is.parts.is_table.stubs ∙ ap (λ r. unwrap_or r false) (slice_get-map (λ x. not (own_path x)) t.paths place ∙ ap (option_map (λ x. not (own_path x))) at) in
       let within : place < length t.paths = slice_get_within t.paths place path at in
-      let here = each_nil (broken_if_reached heads t) (range_with_len 0 (length t.paths)) place nothing_broken (in_range 0 (length t.paths) place (omega arith) (omega arith)) in
+      let here = each_nil (broken_if_reached heads t) (range_with_len 0 (length t.paths)) place nothing_broken (in_range (length t.paths) place within) in
       let of_package : broken_package heads t.paths t.stubs (is_marked t.stubs place) (unwrap_or (slice_get t.files place) []) ≡ [] = sym (ap (λ b. if b then broken_package heads t.paths t.stubs (is_marked t.stubs place) (unwrap_or (slice_get t.files place) []) else []) reached) ∙ here in
       let imports = (nil_parts (broken_names heads (row_at t.files place)) (flat_map (broken_imports_at t.paths t.stubs heads (is_marked t.stubs place)) (row_at t.files place)) of_package).1 in
       let none : flat_map (broken_imports_at t.paths t.stubs heads (not (own_path path))) (files_of hs path) ≡ [] = (λ i. flat_map (broken_imports_at t.paths t.stubs heads (sym stub i)) (sym files i)) ∙ imports in
@@ -294,14 +212,13 @@ module _ (own stubs : Folder) (m : ModuleData) (is : IsModule own stubs m) where
   -- what an import names has its path
   path_named : (i : ImportSpec) (from_stub : Bool) (q : ℕ) → named is.table.paths is.table.stubs from_stub i.path ≡ Some q → row_at is.table.paths q ≡ i.path
   path_named i from_stub q e =
-      let at = passes_at (same_text i.path) is.table.paths q (visible_is is.table.stubs from_stub (position (same_text i.path) is.table.paths) q e) in
-      ap (λ o. unwrap_or o []) at.at ∙ sym (same_is i.path at.x at.passes)
+      let place = visible_is is.table.stubs from_stub (position (same_text i.path) is.table.paths) q e in
+      let at = position-Some (same_text i.path) is.table.paths q [] place in
+      unwrap_or-slice_get is.table.paths q [] ∙ sym (same_is i.path (get_or is.table.paths q []) at.1)
 
   join_names : (order : List ℕ) (files : List FileData) → m.packages ≡ map (package_at files is.heads is.table order) order → (i : ImportSpec) (q0 q : ℕ) → Names i q0 → position (λ x. x == q0) order ≡ Some q → (spec : Tree) → IsImportOf spec i → NamesPackage m spec q
   join_names order files packages i q0 q names at spec import =
-      let place = passes_at (λ x. x == q0) order q at in
-      let same : place.x ≡ q0 = (let e = place.passes in grind (arith, nat_tests)) in
-      let there : slice_get order q ≡ Some q0 = place.at ∙ ap Some same in
+      let there = found_at order q0 q at in
       let stands = ap (λ ps. slice_get ps q) packages ∙ slice_get-map (package_at files is.heads is.table order) order q ∙ ap (option_map (package_at files is.heads is.table order)) there in
       record { path = i.path; is_path = import.path; p = package_at files is.heads is.table order q0; at = stands; path_is = ap as_text (path_named i names.0 q0 names.1) }
 
@@ -314,8 +231,8 @@ module _ (own stubs : Folder) (m : ModuleData) (is : IsModule own stubs m) where
       let made : IsPlaced (package_at files is.heads t order) order p = placed_at (package_at files is.heads t order) order k p (sym (ap (λ ps. slice_get ps k) packages) ∙ at) in
       let kept = passes_kept (is_marked t.reached) is.is_module.order made.place made.stands in
       let each : (q : ℕ) → Contains (row_at t.imports made.place) q → is_some (position (λ x. x == q) order) ≡ true = λ q here.
-      let marked : is_marked t.reached q ≡ true = (is.parts.is_table.reached q).1 (imported made.place q ((is.parts.is_table.reached made.place).0 kept.1) (leads_to t.imports made.place q (slice_get t.imports made.place) refl here)) in
-      has_place order q (kept_by (is_marked t.reached) is.is_module.order q (behind_it t.imports is.is_module.order made.place q is.is_module.is_order kept.0 here) marked) in
+      let marked : is_marked t.reached q ≡ true = (is.parts.is_table.reached q).1 (further made.place q ((is.parts.is_table.reached made.place).0 kept.1) here) in
+      has_place order q (kept_by (is_marked t.reached) is.is_module.order q (closed t.imports is.is_module.order is.is_module.is_order.run made.place kept.0 q here) marked) in
       let specs = flat_map (λ (f : FileData). import_specs f.tree) (filter_map (slice_get files) (row_at t.files made.place)) in
       let row = row_at t.imports made.place in
       let of_specs = specs_beside is.texts is.trees is.heads is.parts.are_heads (row_at t.files made.place) in

@@ -4,9 +4,9 @@ use Rattle.std.specs.List.{flat_map}
 use Rattle.std.specs.Borrow.{Bor}
 use Rattle.go_tree.specs.declared.node.Node.{Node}
 use Rattle.go_tree.specs.Tree.{Tree, tree_of}
-use Rattle.go_model.specs.declared.block.Import.{Import}
-use Rattle.go_model.specs.declared.block.Region.{Region}
-use Rattle.go_model.specs.Names.Imports.{PackageNames, Importing, file_block, import_of}
+use Rattle.go_module.specs.declared.block.Import.{Import}
+use Rattle.go_module.specs.declared.block.Region.{Region}
+use Rattle.go_module.specs.Names.Imports.{PackageNames, Importing, file_block, import_of}
 use Rattle.go_scope.specs.declared.file_block.FileBlock.{FileBlock}
 
 pub record BlockData : Type 0 where

@@ -2,10 +2,10 @@
 use Rattle.std.specs.Prelude.{ℕ, ◌+◌, Bool, List, [], ◌∷◌, ◌++◌, map}
 use Rattle.std.specs.List.{flat_map}
 use Rattle.go_base.specs.declared.rule.Broken.{Broken}
-use Rattle.go_model.specs.declared.block.Region.{Region}
-use Rattle.go_model.specs.Module.{FileData}
-use Rattle.go_model.specs.Names.Imports.{PackageNames}
-use Rattle.go_model.specs.Names.Occurrences.{occurrences_in_file}
+use Rattle.go_module.specs.declared.block.Region.{Region}
+use Rattle.go_module.specs.Modules.Module.{FileData}
+use Rattle.go_module.specs.Names.Imports.{PackageNames}
+use Rattle.go_module.specs.Names.Occurrences.{occurrences_in_file}
 use Rattle.go_scope.specs.declared.resolved.Resolved.{Resolved}
 use Rattle.go_scope.specs.Blocks.{BlockData}
 use Rattle.go_scope.specs.Resolved.{resolved_in, broken_file_by}

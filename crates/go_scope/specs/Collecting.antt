@@ -1,11 +1,11 @@
 -- What is asked of what packages are known by, and what there is in the place of scopes.
 use Rattle.std.specs.Prelude.{◌≡◌, ◌≢◌, ℕ, List, [], Some, Contains, slice_get}
 use Rattle.go_base.specs.declared.rule.Broken.{Broken as BrokenRule}
-use Rattle.go_model.specs.declared.module.Package.{Package}
-use Rattle.go_model.specs.FormRules.Order.{IsListOf}
-use Rattle.go_model.specs.Module.{PackageData, ModuleData, package_view}
-use Rattle.go_model.specs.Names.BrokenNames.{broken_names}
-use Rattle.go_model.specs.Names.Imports.{known_in}
+use Rattle.go_module.specs.declared.module.Package.{Package}
+use Rattle.go_module.specs.Order.{IsListOf}
+use Rattle.go_module.specs.Modules.Module.{PackageData, ModuleData, package_view}
+use Rattle.go_module.specs.Names.BrokenNames.{broken_names}
+use Rattle.go_module.specs.Names.Imports.{known_in}
 use Rattle.go_scope.specs.declared.known.KnownPackage.{KnownPackage}
 use Rattle.go_scope.specs.declared.scope_fault.ScopeFault.{ScopeFault}
 use Rattle.go_scope.specs.declared.scope_fault.ScopeFault.TheVariants.{Broken, NoMemory}

@@ -3,10 +3,10 @@ use Rattle.std.specs.Prelude.{◌≡◌, ◌||◌, ℕ, Bool, true, false, if◌
 use Rattle.std.specs.List.{list_any}
 use Rattle.std.specs.Map.{lookup}
 use Rattle.std.specs.Option.{option_map}
-use Rattle.go_model.specs.declared.block.Region.{Region}
-use Rattle.go_model.specs.Paths.{same_text}
-use Rattle.go_model.specs.Names.BlockRules.{is_repeated}
-use Rattle.go_model.specs.Names.Regions.{has_name}
+use Rattle.go_module.specs.declared.block.Region.{Region}
+use Rattle.go_module.specs.Modules.Paths.{same_text}
+use Rattle.go_module.specs.Names.BlockRules.{is_repeated}
+use Rattle.go_module.specs.Names.Regions.{has_name}
 use Rattle.go_scope.specs.declared.held.Held.{Held}
 
 -- where a name is declared first, and whether again

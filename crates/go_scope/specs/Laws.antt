@@ -1,25 +1,24 @@
 -- Declarations and scope (Go specification).
 -- Says once more, as a relation, which region an occurrence denotes, and that it is the one of `resolution`;
--- and what stands in modules that are loaded: each identifier has a number of its own, so that the scopes of
--- its package answer exactly so for it; each import spec has a package that it names.
+-- and what stands in modules that are loaded: each identifier in a constant spec has a number of its own, so
+-- that the scopes of its package answer exactly so for it; each import spec has a package that it names.
 use Rattle.std.specs.Prelude.{◌≡◌, ◌↔◌, ℕ, true, Some, List, [], ◌∷◌, ◌++◌, filter, slice_get, Contains}
 use Rattle.std.specs.List.{flat_map}
 use Rattle.indexmap.specs.IndexMap.{get}
 use Rattle.go_tree.specs.declared.node.NodeId.{NodeId}
 use Rattle.go_tree.specs.Tree.{Tree, text_of}
-use Rattle.go_model.specs.declared.object.ObjId.{ObjId}
-use Rattle.go_model.specs.declared.scopes.Scopes.{Scopes}
-use Rattle.go_model.specs.Folders.{Folder, as_text}
-use Rattle.go_model.specs.Heads.{IsImportPath, import_specs, import_string}
-use Rattle.go_model.specs.Loading.{IsModule}
-use Rattle.go_model.specs.Module.{FileData, PackageData, ModuleData}
-use Rattle.go_model.specs.Scopes.{same_node}
-use Rattle.go_model.specs.Names.Imports.{known_in}
-use Rattle.go_model.specs.Names.Tables.{HasTables, uses_of}
-use Rattle.go_model.specs.declared.block.Occurrence.{Occurrence}
-use Rattle.go_model.specs.declared.block.Region.{Region}
-use Rattle.go_model.specs.Names.Blocks.{lies_inside}
-use Rattle.go_model.specs.Names.Regions.{holds, resolution}
+use Rattle.go_module.specs.declared.object.ObjId.{ObjId}
+use Rattle.go_module.specs.declared.scopes.Scopes.{Scopes}
+use Rattle.go_module.specs.Modules.Texts.{as_text}
+use Rattle.go_module.specs.Modules.Heads.{IsImportPath, import_specs, import_string}
+use Rattle.go_module.specs.Modules.Module.{FileData, PackageData, ModuleData, IsLoaded}
+use Rattle.go_module.specs.Scopes.{same_node}
+use Rattle.go_module.specs.Names.Imports.{known_in}
+use Rattle.go_module.specs.Names.Tables.{HasTables, uses_of}
+use Rattle.go_module.specs.declared.block.Occurrence.{Occurrence}
+use Rattle.go_module.specs.declared.block.Region.{Region}
+use Rattle.go_module.specs.Names.Blocks.{lies_inside}
+use Rattle.go_module.specs.Names.Regions.{holds, resolution}
 
 -- a region lies inside each of these
 abbrev pub LiesInsideAll : Region → List Region → Type 0
@@ -36,11 +35,11 @@ pub record IsInnermost (regions : List Region) (o : Occurrence) (r : Region) : T
 abbrev pub DenotesInnermost : Type 0
 DenotesInnermost = (regions : List Region) (o : Occurrence) (r : Region) → (resolution regions o ≡ Some r) ↔ IsInnermost regions o r
 
--- each identifier of a package of a module has one use, and the table of uses has it
+-- each identifier that occurs in the constant specs of a package of a module has one use, and the table of uses has it
 abbrev pub ResolvesExactly : Type 0
 ResolvesExactly =
-    (own stubs : Folder) (m : ModuleData) (k : ℕ) (p : PackageData) (scopes : Scopes)
-    → IsModule own stubs m → slice_get m.packages k ≡ Some p → HasTables m k p scopes
+    (m : ModuleData) (k : ℕ) (p : PackageData) (scopes : Scopes)
+    → IsLoaded m → slice_get m.packages k ≡ Some p → HasTables m k p scopes
     → (id : NodeId) (d : ObjId) → Contains (uses_of (known_in m) k p) (id, d) → get same_node scopes.uses id ≡ Some d
 
 -- two lists stand side by side, each entry of the one so to that of the other
@@ -61,5 +60,5 @@ pub record NamesPackage (m : ModuleData) (spec : Tree) (q : ℕ) : Type 0 where
 -- the import specs of a package's files stand beside its imports, each beside the package that it names
 abbrev pub EachSpecIsNamed : Type 0
 EachSpecIsNamed =
-    (own stubs : Folder) (m : ModuleData) (k : ℕ) (p : PackageData) → IsModule own stubs m → slice_get m.packages k ≡ Some p
+    (m : ModuleData) (k : ℕ) (p : PackageData) → IsLoaded m → slice_get m.packages k ≡ Some p
     → SideBySide (NamesPackage m) (flat_map (λ (f : FileData). import_specs f.tree) p.files) p.imports

@@ -3,10 +3,10 @@ use Rattle.std.specs.Prelude.{Bool, false, ◌&&◌, List, Option}
 use Rattle.std.specs.List.{list_any}
 use Rattle.std.specs.Option.{option_map_or}
 use Rattle.go_tree.specs.declared.node.NodeId.{NodeId}
-use Rattle.go_model.specs.declared.block.Region.{Region}
-use Rattle.go_model.specs.Scopes.{same_node}
-use Rattle.go_model.specs.Names.BlockRules.{is_repeated}
-use Rattle.go_model.specs.Names.Regions.{has_name}
+use Rattle.go_module.specs.declared.block.Region.{Region}
+use Rattle.go_module.specs.Scopes.{same_node}
+use Rattle.go_module.specs.Names.BlockRules.{is_repeated}
+use Rattle.go_module.specs.Names.Regions.{has_name}
 
 abbrev pub is_import : NodeId → Option NodeId → Bool
 is_import id import = option_map_or (λ spec. same_node id spec) import false

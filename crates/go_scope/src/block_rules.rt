@@ -2,14 +2,14 @@
 // initialization", "Program execution").
 ghost use Rattle.std.specs.Prelude.{◌≡◌, ◌++◌, OnOk};
 ghost use Rattle.go_tree.specs.Tree.{tree_of};
-ghost use Rattle.go_model.specs.Module.{file_view};
-ghost use Rattle.go_model.specs.Names.BlockRules as rule;
+ghost use Rattle.go_module.specs.Modules.Module.{file_view};
+ghost use Rattle.go_module.specs.Names.BlockRules as rule;
 
 use crate::held::Declared;
-use crate::rules::{MISSING_MAIN, RESERVED_NAME};
+use crate::rules::{MISSING_MAIN, REPEATED_NAME, RESERVED_NAME};
 use crate::words::is_word;
-use go_base::{Broken, Name, NoMemory, REPEATED_NAME};
-use go_model::{Block, Region, SourceFile, add_if, broken_at, first_part};
+use go_base::{Broken, Name, NoMemory};
+use go_module::{Block, Region, SourceFile, add_if, broken_at, first_part};
 
 /// Adds the rule P4 at each declaration of a name that the block declares several times.
 pub fn add_repeated(block: &Declared, found: &mut Vec<Broken>) -> Result<(), NoMemory>

@@ -2,9 +2,9 @@
 // and scope").
 ghost use Rattle.std.specs.Prelude.{◌≡◌, ◌++◌, IfOk, length, map};
 ghost use Rattle.go_tree.specs.Tree.{tree_of};
-ghost use Rattle.go_model.specs.Module.{file_view};
-ghost use Rattle.go_model.specs.Names.BrokenNames.{broken_block};
-ghost use Rattle.go_model.specs.Names.Occurrences as occurrences;
+ghost use Rattle.go_module.specs.Modules.Module.{file_view};
+ghost use Rattle.go_module.specs.Names.BrokenNames.{broken_block};
+ghost use Rattle.go_module.specs.Names.Occurrences as occurrences;
 ghost use Rattle.go_scope.specs.Blocks.{block_of};
 ghost use Rattle.go_scope.specs.Checked.{broken_from, resolved_from};
 ghost use Rattle.go_scope.specs.Known.{known_by};
@@ -19,11 +19,11 @@ use crate::occurrence_rules::add_broken_occurrences;
 use crate::occurrences::occurrences_in_file;
 use crate::resolved::{Around, Resolved, resolve_all};
 use go_base::{Broken, NoMemory};
-use go_model::SourceFile;
+use go_module::SourceFile;
 use std::alloc::Global;
 
-/// Adds what the files of a package break, and gives what their occurrences denote, a list for each file.
-/// Each file has its block. An error is want of memory.
+/// Adds what the files of a package break, by their places, and gives what their occurrences denote, a list
+/// for each file. Each file has its block. An error is want of memory.
 pub fn check_files(
     alloc: Global,
     known: &[KnownPackage],

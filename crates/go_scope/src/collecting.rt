@@ -2,12 +2,12 @@
 ghost use Rattle.std.specs.Prelude.{◌≡◌, ◌++◌, [], IfOk, IfErr, OnOk, length, map};
 ghost use Rattle.std.specs.List.{flat_map};
 ghost use Rattle.indexmap.specs.IndexMap.{insert_all};
-ghost use Rattle.go_model.specs.Module.{ModuleData, file_view};
-ghost use Rattle.go_model.specs.Names.BlockRules as rule;
-ghost use Rattle.go_model.specs.Names.BrokenNames.{broken_block};
-ghost use Rattle.go_model.specs.Names.Constants as constants;
-ghost use Rattle.go_model.specs.Names.Tables.{IsScopesOf, region_entries};
-ghost use Rattle.go_model.specs.Scopes.{same_node, same_object};
+ghost use Rattle.go_module.specs.Modules.Module.{ModuleData, file_view};
+ghost use Rattle.go_module.specs.Names.BlockRules as rule;
+ghost use Rattle.go_module.specs.Names.BrokenNames.{broken_block};
+ghost use Rattle.go_module.specs.Names.Constants as constants;
+ghost use Rattle.go_module.specs.Names.Tables.{IsScopesOf, region_entries};
+ghost use Rattle.go_module.specs.Scopes.{same_node, same_object};
 ghost use Rattle.go_scope.specs.Blocks.{block_of};
 ghost use Rattle.go_scope.specs.Checked.{all_of, broken_from, resolved_from};
 ghost use Rattle.go_scope.specs.Collecting.{IsScopeFault, StandsIn};
@@ -24,7 +24,9 @@ use crate::resolved::{Around, Resolved};
 use crate::scope_fault::ScopeFault;
 use crate::tables::{add_members, add_uses, names_of};
 use go_base::{Broken, NoMemory};
-use go_model::{ObjId, Object, Package, Region, Scopes, add_objects, ordered, universe};
+use go_module::{
+    ObjId, Object, Package, Region, Scopes, add_objects, ordered, universe, with_numbers,
+};
 use go_tree::NodeId;
 use indexmap::IndexMap;
 use std::alloc::Global;
@@ -50,13 +52,15 @@ pub fn collect(
     let mut found = Vec::new(alloc);
     let lists = check_names(alloc, known, own, outer, block, blocks, &mut found)?;
     if !found.is_empty() {
-        return Err(ScopeFault::Broken(ordered(found)));
+        let told = with_numbers(alloc, &own.files, &found)?;
+        return Err(ScopeFault::Broken(ordered(told)));
     }
     let scopes = scopes_of(alloc, known, outer, block, blocks, &lists)?;
     Ok(scopes)
 }
 
-// Adds what the names of a package break, and gives what the occurrences in its files denote.
+// Adds what the names of a package break, by the places of its files, and gives what the occurrences in them
+// denote.
 fn check_names(
     alloc: Global,
     known: &[KnownPackage],

@@ -2,13 +2,13 @@
 ghost use Rattle.std.specs.Prelude.{◌≡◌, ◌∷◌, ◌++◌, [], IfOk, OnOk, not, map, filter};
 ghost use Rattle.std.specs.List.{flat_map};
 ghost use Rattle.go_tree.specs.Tree.{tree_of};
-ghost use Rattle.go_model.specs.Module.{file_view};
-ghost use Rattle.go_model.specs.Names.Constants as spec;
-ghost use Rattle.go_model.specs.Names.Exported as exported;
+ghost use Rattle.go_module.specs.Modules.Module.{file_view};
+ghost use Rattle.go_module.specs.Names.Constants as spec;
+ghost use Rattle.go_module.specs.Names.Exported as exported;
 
 use crate::words::{is_blank, name_of};
 use go_base::{Name, NoMemory};
-use go_model::{Block, ObjKind, Object, Region, SourceFile, first_part, part_list};
+use go_module::{Block, ObjKind, Object, Region, SourceFile, first_part, part_list};
 use go_tree::{Node, NodeId, NodeKind};
 use std::alloc::Global;
 

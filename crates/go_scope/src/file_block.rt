@@ -1,8 +1,8 @@
 // The blocks of the files of a package (Go specification, "Import declarations").
 ghost use Rattle.std.specs.Prelude.{◌≡◌, ◌++◌, IfOk, OnOk, map, take, drop, length};
 ghost use Rattle.std.specs.List.{flat_map};
-ghost use Rattle.go_model.specs.Module.{file_view};
-ghost use Rattle.go_model.specs.Names.Imports as rule;
+ghost use Rattle.go_module.specs.Modules.Module.{file_view};
+ghost use Rattle.go_module.specs.Names.Imports as rule;
 ghost use Rattle.go_scope.specs.Blocks.{block_data, block_of, trees_at};
 ghost use Rattle.go_scope.specs.Known.{known_by};
 
@@ -10,7 +10,7 @@ use crate::imports::{ImportAt, add_import, add_import_regions};
 use crate::known::KnownPackage;
 use crate::spec_lists::import_specs;
 use go_base::NoMemory;
-use go_model::{Import, Region, SourceFile};
+use go_module::{Import, Region, SourceFile};
 use go_tree::Node;
 use std::alloc::Global;
 

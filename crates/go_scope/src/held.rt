@@ -2,14 +2,14 @@
 ghost use Rattle.std.specs.Prelude.{◌≡◌, ℕ, List, IfOk, OnOk};
 ghost use Rattle.std.specs.List.{list_any};
 ghost use Rattle.std.specs.Option.{option_copied};
-ghost use Rattle.go_model.specs.Names.BlockRules as rules;
-ghost use Rattle.go_model.specs.Names.Regions.{has_name};
-ghost use Rattle.go_model.specs.Paths.{same_text};
+ghost use Rattle.go_module.specs.Names.BlockRules as rules;
+ghost use Rattle.go_module.specs.Names.Regions.{has_name};
+ghost use Rattle.go_module.specs.Modules.Paths.{same_text};
 ghost use Rattle.std.specs.Map.{lookup};
 ghost use Rattle.go_scope.specs.Held.{ArePlaces, only_of, with_place};
 
 use go_base::{Name, NoMemory};
-use go_model::Region;
+use go_module::Region;
 use indexmap::IndexMap;
 use std::alloc::Global;
 use std::marker::Model;
@@ -30,7 +30,7 @@ pub struct Declared<'a> {
 
 impl<'a> Model for Declared<'a> {
     ghost use Rattle.std.specs.Prelude.{List};
-    ghost use Rattle.go_model.specs.declared.block.Region.{Region};
+    ghost use Rattle.go_module.specs.declared.block.Region.{Region};
     ghost use Rattle.go_scope.specs.Held.{ArePlaces};
 
     ghost Value = { List Region };

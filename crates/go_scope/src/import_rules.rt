@@ -4,11 +4,10 @@ ghost use Rattle.std.specs.List.{flat_map, list_any};
 ghost use Rattle.std.specs.Option.{option_map_or};
 ghost use Rattle.indexmap.specs.IndexSet.{contains};
 ghost use Rattle.go_tree.specs.declared.node.NodeId.{NodeId};
-ghost use Rattle.go_model.specs.BrokenImports as places;
-ghost use Rattle.go_model.specs.BrokenImports.{told_if};
-ghost use Rattle.go_model.specs.Names.ImportRules as rule;
-ghost use Rattle.go_model.specs.Names.Regions.{has_name};
-ghost use Rattle.go_model.specs.Scopes.{same_node};
+ghost use Rattle.go_module.specs.Broken as broken;
+ghost use Rattle.go_module.specs.Names.ImportRules as rule;
+ghost use Rattle.go_module.specs.Names.Regions.{has_name};
+ghost use Rattle.go_module.specs.Scopes.{same_node};
 ghost use Rattle.go_scope.specs.Marks.{is_import, marks_conflict, marks_repeat};
 ghost use Rattle.go_scope.specs.Resolved as spec;
 
@@ -16,7 +15,7 @@ use crate::held::Declared;
 use crate::resolved::Resolved;
 use crate::rules::{CONFLICTING_IMPORT, UNUSED_IMPORT};
 use go_base::{Broken, NoMemory};
-use go_model::{Import, add_if, broken_at};
+use go_module::{Import, add_if, broken_at};
 use go_tree::NodeId;
 use indexmap::IndexSet;
 use std::alloc::Global;
@@ -46,8 +45,8 @@ fn add_conflict(
     found: &mut Vec<Broken>,
 ) -> Result<(), NoMemory>
     ensures { OnOk result (found.new.items ≡ found.old.items
-        ++ told_if (contains same_node conflicts.now import.now.id)
-        (places.broken_at import.now.file import.now.at rule.conflicting_import)) }
+        ++ broken.told_if (contains same_node conflicts.now import.now.id)
+        (broken.broken_at import.now.file import.now.at rule.conflicting_import)) }
 {
     let at = broken_at(import.file, import.at, CONFLICTING_IMPORT);
     add_if(found, conflicts.contains(&import.id), at)
@@ -81,9 +80,9 @@ fn add_unused_import(
     found: &mut Vec<Broken>,
 ) -> Result<(), NoMemory>
     ensures { OnOk result (found.new.items ≡ found.old.items
-        ++ told_if (not (contains same_node repeats.now import.now.id)
+        ++ broken.told_if (not (contains same_node repeats.now import.now.id)
         && not (contains same_node uses.now import.now.id))
-        (places.broken_at import.now.file import.now.at rule.unused_import)) }
+        (broken.broken_at import.now.file import.now.at rule.unused_import)) }
 {
     let unused = !repeats.contains(&import.id) && !uses.contains(&import.id);
     let at = broken_at(import.file, import.at, UNUSED_IMPORT);

@@ -1,16 +1,16 @@
 // The names that imports declare in the block of their file (Go specification, "Import declarations").
 ghost use Rattle.std.specs.Prelude.{◌≡◌, ◌++◌, ◌∷◌, [], IfOk, OnOk, map, filter};
 ghost use Rattle.go_tree.specs.Tree.{tree_of, parts_of};
-ghost use Rattle.go_model.specs.Names.Constants.{name_text};
-ghost use Rattle.go_model.specs.Names.Exported as exported;
-ghost use Rattle.go_model.specs.Names.Imports as rule;
+ghost use Rattle.go_module.specs.Names.Constants.{name_text};
+ghost use Rattle.go_module.specs.Names.Exported as exported;
+ghost use Rattle.go_module.specs.Names.Imports as rule;
 ghost use Rattle.go_scope.specs.Known.{known_by, importing};
 
 use crate::constants::constant_object;
 use crate::known::{KnownPackage, clause_name};
 use crate::words::{is_blank, is_exported, name_of};
 use go_base::{Name, NoMemory};
-use go_model::{Block, Import, ObjId, ObjKind, Object, Region};
+use go_module::{Block, Import, ObjId, ObjKind, Object, Region};
 use go_tree::{Node, NodeId, NodeKind};
 use std::alloc::Global;
 

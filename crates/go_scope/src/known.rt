@@ -1,12 +1,12 @@
 // What the packages of a module are known by to those that import them (Go specification, "Import
 // declarations", "Qualified identifiers").
 ghost use Rattle.std.specs.Prelude.{◌≡◌, IfOk};
-ghost use Rattle.go_model.specs.Names.Imports as spec;
+ghost use Rattle.go_module.specs.Names.Imports as spec;
 ghost use Rattle.go_scope.specs.Known.{known_by};
 
 use crate::words::is_exported;
 use go_base::{Name, NoMemory};
-use go_model::ObjId;
+use go_module::ObjId;
 use indexmap::IndexMap;
 use std::alloc::Global;
 

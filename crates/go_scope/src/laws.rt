@@ -1,4 +1,5 @@
-// Laws of what names denote.
+// Laws of what names denote. A module that is loaded is one as `IsLoaded` says; each module that `load` of
+// go_load answers is such.
 ghost use Rattle.go_scope.specs.Laws.{DenotesInnermost, EachSpecIsNamed, ResolvesExactly};
 
 /// An occurrence denotes the region that holds it and lies inside all others of its name that hold it, and
@@ -7,8 +8,8 @@ pub fn denotes_innermost()
     ensures { DenotesInnermost }
 {}
 
-/// In the scopes of a package of a module that is loaded, `Scopes::resolve` answers for each identifier
-/// exactly the object that it denotes: no two nodes of such a module have one number.
+/// In the scopes of a package of a module that is loaded, `Scopes::resolve` answers for each identifier in a
+/// constant spec exactly the object that it denotes: no two nodes of such a module have one number.
 pub fn resolves_exactly()
     ensures { ResolvesExactly }
 {}

@@ -34,13 +34,9 @@ mod tables;
 
 pub use collecting::collect;
 pub use file_block::{behind, front};
-pub use go_model::{ObjId, ObjKind, Object, Scopes};
+pub use go_module::{ObjId, ObjKind, Object, Scopes};
 pub use known::KnownPackage;
 pub use laws::{denotes_innermost, each_spec_is_named, resolves_exactly};
 pub use occurrences::occurrences_in_file;
-pub use rules::{
-    BLANK_VALUE, COMPLEX_NAME, CONFLICTING_IMPORT, MISPLACED_PACKAGE, MISSING_MAIN, MISSING_MEMBER,
-    RESERVED_NAME, UNUSED_IMPORT,
-};
 pub use scope_fault::ScopeFault;
 pub use spec_lists::{const_specs, import_specs};

@@ -2,16 +2,16 @@
 // scope", "Blank identifier", "Qualified identifiers").
 ghost use Rattle.std.specs.Prelude.{◌≡◌, ◌++◌, OnOk};
 ghost use Rattle.std.specs.List.{flat_map};
-ghost use Rattle.go_model.specs.Names.OccurrenceRules as rule;
+ghost use Rattle.go_module.specs.Names.OccurrenceRules as rule;
 ghost use Rattle.go_scope.specs.Known.{known_by};
 ghost use Rattle.go_scope.specs.Resolved as spec;
 
 use crate::known::{KnownPackage, exported};
 use crate::resolved::Resolved;
-use crate::rules::{BLANK_VALUE, COMPLEX_NAME, MISPLACED_PACKAGE, MISSING_MEMBER};
+use crate::rules::{BLANK_VALUE, COMPLEX_NAME, MISPLACED_PACKAGE, MISSING_MEMBER, UNDECLARED_NAME};
 use crate::words::is_blank;
-use go_base::{Broken, NoMemory, UNDECLARED_NAME};
-use go_model::{add_if, broken_at};
+use go_base::{Broken, NoMemory};
+use go_module::{add_if, broken_at};
 
 /// Adds what these occurrences break, one after another.
 pub fn add_broken_occurrences(

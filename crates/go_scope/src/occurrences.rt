@@ -2,12 +2,12 @@
 ghost use Rattle.std.specs.Prelude.{◌≡◌, ◌∷◌, [], ◌++◌, IfOk, OnOk, Some, map};
 ghost use Rattle.std.specs.List.{flat_map};
 ghost use Rattle.go_tree.specs.Tree.{tree_of, trees_of};
-ghost use Rattle.go_model.specs.Names.Constants.{const_specs_in};
-ghost use Rattle.go_model.specs.Names.Occurrences as spec;
+ghost use Rattle.go_module.specs.Names.Constants.{const_specs_in};
+ghost use Rattle.go_module.specs.Names.Occurrences as spec;
 
 use crate::words::name_of;
 use go_base::NoMemory;
-use go_model::{Occurrence, Selected, all_but_first, part_list};
+use go_module::{Occurrence, Selected, all_but_first, part_list};
 use go_tree::{Node, NodeKind};
 use std::alloc::Global;
 

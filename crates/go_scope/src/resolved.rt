@@ -2,14 +2,14 @@
 ghost use Rattle.std.specs.Prelude.{◌≡◌, IfOk, map};
 ghost use Rattle.std.specs.Option.{option_map};
 ghost use Rattle.std.specs.Option.{option_copied};
-ghost use Rattle.go_model.specs.Names.OccurrenceRules as rule;
+ghost use Rattle.go_module.specs.Names.OccurrenceRules as rule;
 ghost use Rattle.go_scope.specs.Held.{innermost, is_declared};
 ghost use Rattle.go_scope.specs.Resolved.{denoted_of, resolved_in};
 
 use crate::held::Declared;
 use crate::words::is_word;
 use go_base::{Name, NoMemory};
-use go_model::{Block, ObjId, Occurrence, Region, object_id};
+use go_module::{Block, ObjId, Occurrence, Region, object_id};
 use go_tree::NodeId;
 use std::alloc::Global;
 

@@ -1,11 +1,24 @@
-// The rules on names that stand in no crate below, in the order of their table.
+// The rules on names, in the order of their table.
 use go_base::{Family, Rule};
+
+/// A declaration of a name that its block declares several times (Go specification, "Declarations and
+/// scope").
+pub const REPEATED_NAME: Rule = Rule {
+    family: Family::P,
+    number: 4,
+};
 
 /// An import that declares a name which the package block declares too (Go specification, "Declarations
 /// and scope").
 pub const CONFLICTING_IMPORT: Rule = Rule {
     family: Family::P,
     number: 6,
+};
+
+/// An identifier that denotes nothing (Go specification, "Declarations and scope").
+pub const UNDECLARED_NAME: Rule = Rule {
+    family: Family::P,
+    number: 7,
 };
 
 /// `init`, or `main` of package main, declared other than as a function (Go specification, "Package

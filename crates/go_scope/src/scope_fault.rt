@@ -7,8 +7,8 @@ use go_base::{Broken as BrokenRule, NoMemory};
 /// Why a package has no scopes.
 #[derive(Debug, Drop)]
 pub enum ScopeFault {
-    /// Comes where the names of the package break a rule: all that they break, in the order of a report. In
-    /// a place the file is its place among the files of the package.
+    /// Comes where the names of the package break a rule: all that they break, in the order of a report. The
+    /// place of a broken rule has the number of its file.
     Broken(Vec<BrokenRule>),
     /// Comes where memory runs out.
     NoMemory,

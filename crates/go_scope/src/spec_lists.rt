@@ -1,12 +1,12 @@
 // The specs of a file (Go specification, "Import declarations", "Constant declarations").
 ghost use Rattle.std.specs.Prelude.{◌≡◌, ◌++◌, IfOk, OnOk, map};
 ghost use Rattle.go_tree.specs.Tree.{tree_of};
-ghost use Rattle.go_model.specs.Heads as heads;
-ghost use Rattle.go_model.specs.Names.Constants as constants;
+ghost use Rattle.go_module.specs.Modules.Heads as heads;
+ghost use Rattle.go_module.specs.Names.Constants as constants;
 ghost use Rattle.go_scope.specs.Blocks.{trees_at};
 
 use go_base::NoMemory;
-use go_model::part_list;
+use go_module::part_list;
 use go_tree::{Node, NodeKind};
 use std::alloc::Global;
 

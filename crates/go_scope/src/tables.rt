@@ -2,18 +2,18 @@
 ghost use Rattle.std.specs.Prelude.{◌≡◌, IfOk, OnOk, Some, map};
 ghost use Rattle.std.specs.List.{flat_map};
 ghost use Rattle.indexmap.specs.IndexMap.{insert_all, insert_entry};
-ghost use Rattle.go_model.specs.Names.Constants as constants;
-ghost use Rattle.go_model.specs.Scopes.{same_node, same_object};
+ghost use Rattle.go_module.specs.Names.Constants as constants;
+ghost use Rattle.go_module.specs.Scopes.{same_node, same_object};
 ghost use Rattle.go_scope.specs.Known.{known_by};
 ghost use Rattle.go_scope.specs.Resolved.{member_entry, member_pair, members_by, pairs_by};
-ghost use Rattle.go_model.specs.Names.Tables.{member_of};
+ghost use Rattle.go_module.specs.Names.Tables.{member_of};
 
 use crate::constants::constant_object;
 use crate::known::{KnownPackage, exported};
 use crate::occurrence_rules::package_of;
 use crate::resolved::Resolved;
 use go_base::{Name, NoMemory};
-use go_model::{ObjId, Object, Region, Selected, object_id};
+use go_module::{ObjId, Object, Region, Selected, object_id};
 use go_tree::NodeId;
 use indexmap::IndexMap;
 use std::alloc::Global;

@@ -1,13 +1,13 @@
 // The text of identifiers (Go specification, "Exported identifiers", "Blank identifier").
 ghost use Rattle.std.specs.Prelude.{◌≡◌, IfOk, codes};
 ghost use Rattle.go_tree.specs.Tree.{tree_of};
-ghost use Rattle.go_model.specs.Names.Constants.{name_text};
-ghost use Rattle.go_model.specs.Names.Exported as exported;
-ghost use Rattle.go_model.specs.Paths.{same_text};
+ghost use Rattle.go_module.specs.Names.Constants.{name_text};
+ghost use Rattle.go_module.specs.Names.Exported as exported;
+ghost use Rattle.go_module.specs.Modules.Paths.{same_text};
 
 use bstr::decode_utf8;
 use go_base::{Name, NoMemory};
-use go_model::text_name;
+use go_module::text_name;
 use go_tree::Node;
 use std::alloc::Global;
 use unicode::properties::GeneralCategory;

@@ -7,7 +7,6 @@ use Rattle.go_tree.specs.declared.production.Production.{Production}
 use Rattle.go_tree.specs.declared.production.Production.TheVariants as p
 use Rattle.go_tree.specs.Tree.{Tree, kind_of, parts_of}
 use Rattle.go_tree.specs.Grammar.RightSide.{RightSide, Call, Nothing, When, Pass, OneOf}
-use Rattle.go_tree.specs.Grammar.TokenKinds.{}
 use Rattle.go_tree.specs.Grammar.Reading.{State, OpenNode, at_end, does, calls, nothing, in_turn, left, right, done, again, chosen, passed_by, looks, next_start, node_read, ends_in_type, tree_read}
 use Rattle.go_tree.specs.Grammar.TypeTrees.{is_name, is_type_name, is_type, all_types}
 use Rattle.go_tree.specs.Grammar.Words.{◌•◌, ◌or◌, tok, the, opt, many, close, node}

@@ -1,9 +1,6 @@
 -- In the grammar what is read leaves a node: by computation.
 use Rattle.std.proofs.Common.{◌≡◌, ℕ, true, false, List, [], ◌∷◌, ◌++◌, refl, subst, append_assoc}
 use Rattle.go_tree.specs.declared.token.Token.{Token}
-use Rattle.go_tree.specs.declared.production.Form.TheVariants.{Plain, Header}
-use Rattle.go_tree.specs.declared.production.Items.TheVariants.{ImportSpecs, ConstSpecs, VarSpecs, TypeSpecs, TypeParamGroups, Types, Parameters, Fields, Elems, Indexes, Elements}
-use Rattle.go_tree.specs.declared.production.Clauses.TheVariants.{Cases, Comms}
 use Rattle.go_tree.specs.declared.production.Production.{Production}
 use Rattle.go_tree.specs.declared.production.Production.TheVariants as p
 use Rattle.go_tree.specs.declared.node_kind.NodeKind.TheVariants as k
@@ -17,6 +14,9 @@ use Rattle.go_tree.specs.Grammar.Sentence.{production, texts, is_whole, IsA, Der
 use Rattle.go_tree.proofs.SentenceLemmas.{front_lem}
 use Rattle.go_tree.proofs.ShapeLemmas.{Shape, flow, leaves_node}
 use Rattle.go_tree.proofs.BalanceLemmas.{has_node, one_node}
+use Rattle.go_tree.proofs.ByProduction.{by_production, by_test}
+use Rattle.std.specs.Bool.{MatchBool}
+use Rattle.std.proofs.lemmas.Bool.{MatchBool-at_true}
 
 -- which of the innermost open nodes a production needs, and of which of them a part
 abbrev pub needs : Production → Shape
@@ -47,81 +47,13 @@ needs p.ForClauses = false ∷ false ∷ []
 needs _ = false ∷ []
 
 needs_checked : (n : Production) → leaves_node (flow needs (production n) (needs n)) ≡ true
-needs_checked (p.Exprs Plain) = refl
-needs_checked (p.Exprs Header) = refl
-needs_checked (p.More ImportSpecs) = refl
-needs_checked (p.More ConstSpecs) = refl
-needs_checked (p.More VarSpecs) = refl
-needs_checked (p.More TypeSpecs) = refl
-needs_checked (p.More TypeParamGroups) = refl
-needs_checked (p.More Types) = refl
-needs_checked (p.More Parameters) = refl
-needs_checked (p.More Fields) = refl
-needs_checked (p.More Elems) = refl
-needs_checked (p.More Indexes) = refl
-needs_checked (p.More Elements) = refl
-needs_checked (p.Expr Plain) = refl
-needs_checked (p.Expr Header) = refl
-needs_checked (p.OrTail Plain) = refl
-needs_checked (p.OrTail Header) = refl
-needs_checked (p.Conjunction Plain) = refl
-needs_checked (p.Conjunction Header) = refl
-needs_checked (p.AndTail Plain) = refl
-needs_checked (p.AndTail Header) = refl
-needs_checked (p.Comparison Plain) = refl
-needs_checked (p.Comparison Header) = refl
-needs_checked (p.CompareTail Plain) = refl
-needs_checked (p.CompareTail Header) = refl
-needs_checked (p.Sum Plain) = refl
-needs_checked (p.Sum Header) = refl
-needs_checked (p.AddTail Plain) = refl
-needs_checked (p.AddTail Header) = refl
-needs_checked (p.Product Plain) = refl
-needs_checked (p.Product Header) = refl
-needs_checked (p.MulTail Plain) = refl
-needs_checked (p.MulTail Header) = refl
-needs_checked (p.Unary Plain) = refl
-needs_checked (p.Unary Header) = refl
-needs_checked (p.Simple Plain) = refl
-needs_checked (p.Simple Header) = refl
-needs_checked (p.AfterExpr Plain) = refl
-needs_checked (p.AfterExpr Header) = refl
-needs_checked (p.SimpleTail Plain) = refl
-needs_checked (p.SimpleTail Header) = refl
-needs_checked (p.Clause Cases) = refl
-needs_checked (p.Clause Comms) = refl
-needs_checked (p.ClauseBody Cases) = refl
-needs_checked (p.ClauseBody Comms) = refl
-needs_checked (p.AfterClauseStmt Cases) = refl
-needs_checked (p.AfterClauseStmt Comms) = refl
-needs_checked _ = refl
+needs_checked = by_test _ refl
+
+whole_checked : (n : Production) → MatchBool (is_whole n) (needs n ≡ false ∷ []) (Unit {0})
+whole_checked = by_production _ assumption
 
 whole_needs : (n : Production) → is_whole n ≡ true → needs n ≡ false ∷ []
-whole_needs p.TypeSpecBracket h = cc
-whole_needs (p.More l) h = cc
-whole_needs p.TypeArgs h = cc
-whole_needs p.ParamAfterName h = cc
-whole_needs p.FieldAfterName h = cc
-whole_needs (p.OrTail w) h = cc
-whole_needs (p.AndTail w) h = cc
-whole_needs (p.CompareTail w) h = cc
-whole_needs (p.AddTail w) h = cc
-whole_needs (p.MulTail w) h = cc
-whole_needs p.AfterName h = cc
-whole_needs p.AfterSelector h = cc
-whole_needs p.AfterIndex h = cc
-whole_needs p.Suffix h = cc
-whole_needs p.CallRest h = cc
-whole_needs p.AfterArg h = cc
-whole_needs p.Tails h = cc
-whole_needs p.CallOrDot h = cc
-whole_needs (p.AfterExpr w) h = cc
-whole_needs (p.SimpleTail w) h = cc
-whole_needs (p.ClauseBody c) h = cc
-whole_needs (p.AfterClauseStmt c) h = cc
-whole_needs p.ForAfterExpr h = cc
-whole_needs p.ForClauses h = cc
-whole_needs _ h = refl
+whole_needs n h = MatchBool-at_true _ _ h (whole_checked n)
 
 -- what is an n has a tree
 pub tree_lem : (bytes : List ℕ) (n : Production) (tokens : List Token) → is_whole n ≡ true → IsA bytes n tokens → (t : Tree) × Derives bytes n tokens t

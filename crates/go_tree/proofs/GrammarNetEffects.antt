@@ -1,8 +1,5 @@
 -- The effects of the productions on the open nodes: by computation.
 use Rattle.std.proofs.Common.{◌≡◌, ℕ, Bool, true, false, List, [], ◌∷◌, refl, subst, ◌∙◌, Some}
-use Rattle.go_tree.specs.declared.production.Form.TheVariants.{Plain, Header}
-use Rattle.go_tree.specs.declared.production.Items.TheVariants.{ImportSpecs, ConstSpecs, VarSpecs, TypeSpecs, TypeParamGroups, Types, Parameters, Fields, Elems, Indexes, Elements}
-use Rattle.go_tree.specs.declared.production.Clauses.TheVariants.{Cases, Comms}
 use Rattle.go_tree.specs.declared.production.Production.{Production}
 use Rattle.go_tree.specs.declared.production.Production.TheVariants as p
 use Rattle.go_tree.specs.Tree.{Tree}
@@ -13,6 +10,7 @@ use Rattle.go_tree.proofs.ShapeLemmas.{HasPart}
 use Rattle.go_tree.proofs.NetEffects.{Named, ByParts, ChanLiteral, TypeLiteral, Sorts, sorts, any_sort, nameless, no_type, only, Is, Effect, Adds, Turns, Fills, stack, flow, entry, has_effect}
 use Rattle.go_tree.proofs.NetEffectLemmas.{FitsShape, with_parts, standing}
 use Rattle.go_tree.proofs.ReadingEffectLemmas.{at, effect_lem}
+use Rattle.go_tree.proofs.ByProduction.{by_test}
 
 abbrev pub effects : Production → Effect
 effects p.FuncRest = Fills (false ∷ [])
@@ -59,54 +57,7 @@ effects p.ForClauses = Adds (false ∷ []) any_sort
 effects _ = Adds [] any_sort
 
 effects_checked : (n : Production) → has_effect (effects n) (flow effects (production n) (entry (effects n))) ≡ true
-effects_checked (p.Exprs Plain) = refl
-effects_checked (p.Exprs Header) = refl
-effects_checked (p.More ImportSpecs) = refl
-effects_checked (p.More ConstSpecs) = refl
-effects_checked (p.More VarSpecs) = refl
-effects_checked (p.More TypeSpecs) = refl
-effects_checked (p.More TypeParamGroups) = refl
-effects_checked (p.More Types) = refl
-effects_checked (p.More Parameters) = refl
-effects_checked (p.More Fields) = refl
-effects_checked (p.More Elems) = refl
-effects_checked (p.More Indexes) = refl
-effects_checked (p.More Elements) = refl
-effects_checked (p.Expr Plain) = refl
-effects_checked (p.Expr Header) = refl
-effects_checked (p.OrTail Plain) = refl
-effects_checked (p.OrTail Header) = refl
-effects_checked (p.Conjunction Plain) = refl
-effects_checked (p.Conjunction Header) = refl
-effects_checked (p.AndTail Plain) = refl
-effects_checked (p.AndTail Header) = refl
-effects_checked (p.Comparison Plain) = refl
-effects_checked (p.Comparison Header) = refl
-effects_checked (p.CompareTail Plain) = refl
-effects_checked (p.CompareTail Header) = refl
-effects_checked (p.Sum Plain) = refl
-effects_checked (p.Sum Header) = refl
-effects_checked (p.AddTail Plain) = refl
-effects_checked (p.AddTail Header) = refl
-effects_checked (p.Product Plain) = refl
-effects_checked (p.Product Header) = refl
-effects_checked (p.MulTail Plain) = refl
-effects_checked (p.MulTail Header) = refl
-effects_checked (p.Unary Plain) = refl
-effects_checked (p.Unary Header) = refl
-effects_checked (p.Simple Plain) = refl
-effects_checked (p.Simple Header) = refl
-effects_checked (p.AfterExpr Plain) = refl
-effects_checked (p.AfterExpr Header) = refl
-effects_checked (p.SimpleTail Plain) = refl
-effects_checked (p.SimpleTail Header) = refl
-effects_checked (p.Clause Cases) = refl
-effects_checked (p.Clause Comms) = refl
-effects_checked (p.ClauseBody Cases) = refl
-effects_checked (p.ClauseBody Comms) = refl
-effects_checked (p.AfterClauseStmt Cases) = refl
-effects_checked (p.AfterClauseStmt Comms) = refl
-effects_checked _ = refl
+effects_checked = by_test _ refl
 
 module _ (bytes : List ℕ) where
   -- one node is put into the innermost open one, whatever else is open

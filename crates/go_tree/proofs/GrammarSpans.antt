@@ -1,9 +1,6 @@
 -- In the grammar each node has a token: by computation.
 use Rattle.std.proofs.Common.{◌≡◌, ℕ, Bool, true, false, List, refl, sym, ap, subst, ◌∙◌, Some}
 use Rattle.go_tree.specs.declared.token.Token.{Token}
-use Rattle.go_tree.specs.declared.production.Form.TheVariants.{Plain, Header}
-use Rattle.go_tree.specs.declared.production.Items.TheVariants.{ImportSpecs, ConstSpecs, VarSpecs, TypeSpecs, TypeParamGroups, Types, Parameters, Fields, Elems, Indexes, Elements}
-use Rattle.go_tree.specs.declared.production.Clauses.TheVariants.{Cases, Comms}
 use Rattle.go_tree.specs.declared.production.Production.{Production}
 use Rattle.go_tree.specs.declared.production.Production.TheVariants as p
 use Rattle.go_tree.specs.declared.node_kind.NodeKind.TheVariants as k
@@ -19,6 +16,7 @@ use Rattle.go_tree.proofs.SpanLemmas.{tree_spans, last_read, whole_run}
 use Rattle.go_tree.proofs.OutermostLemmas.{Begun, begun_by_node}
 use Rattle.go_tree.proofs.GrammarBalance.{inside, file_node}
 use Rattle.go_tree.proofs.TruthLemmas.{implies}
+use Rattle.go_tree.proofs.ByProduction.{by_test}
 
 -- the productions in which a node can end before a token is passed
 abbrev early : Production → Bool
@@ -32,104 +30,10 @@ early p.ForAfterExpr = true
 early _ = false
 
 early_checked : (n : Production) → implied (ends_early tables early (production n)) (early n) ≡ true
-early_checked (p.Exprs Plain) = refl
-early_checked (p.Exprs Header) = refl
-early_checked (p.More ImportSpecs) = refl
-early_checked (p.More ConstSpecs) = refl
-early_checked (p.More VarSpecs) = refl
-early_checked (p.More TypeSpecs) = refl
-early_checked (p.More TypeParamGroups) = refl
-early_checked (p.More Types) = refl
-early_checked (p.More Parameters) = refl
-early_checked (p.More Fields) = refl
-early_checked (p.More Elems) = refl
-early_checked (p.More Indexes) = refl
-early_checked (p.More Elements) = refl
-early_checked (p.Expr Plain) = refl
-early_checked (p.Expr Header) = refl
-early_checked (p.OrTail Plain) = refl
-early_checked (p.OrTail Header) = refl
-early_checked (p.Conjunction Plain) = refl
-early_checked (p.Conjunction Header) = refl
-early_checked (p.AndTail Plain) = refl
-early_checked (p.AndTail Header) = refl
-early_checked (p.Comparison Plain) = refl
-early_checked (p.Comparison Header) = refl
-early_checked (p.CompareTail Plain) = refl
-early_checked (p.CompareTail Header) = refl
-early_checked (p.Sum Plain) = refl
-early_checked (p.Sum Header) = refl
-early_checked (p.AddTail Plain) = refl
-early_checked (p.AddTail Header) = refl
-early_checked (p.Product Plain) = refl
-early_checked (p.Product Header) = refl
-early_checked (p.MulTail Plain) = refl
-early_checked (p.MulTail Header) = refl
-early_checked (p.Unary Plain) = refl
-early_checked (p.Unary Header) = refl
-early_checked (p.Simple Plain) = refl
-early_checked (p.Simple Header) = refl
-early_checked (p.AfterExpr Plain) = refl
-early_checked (p.AfterExpr Header) = refl
-early_checked (p.SimpleTail Plain) = refl
-early_checked (p.SimpleTail Header) = refl
-early_checked (p.Clause Cases) = refl
-early_checked (p.Clause Comms) = refl
-early_checked (p.ClauseBody Cases) = refl
-early_checked (p.ClauseBody Comms) = refl
-early_checked (p.AfterClauseStmt Cases) = refl
-early_checked (p.AfterClauseStmt Comms) = refl
-early_checked _ = refl
+early_checked = by_test _ refl
 
 tokens_checked : (n : Production) → has_tokens tables early (production n) ≡ true
-tokens_checked (p.Exprs Plain) = refl
-tokens_checked (p.Exprs Header) = refl
-tokens_checked (p.More ImportSpecs) = refl
-tokens_checked (p.More ConstSpecs) = refl
-tokens_checked (p.More VarSpecs) = refl
-tokens_checked (p.More TypeSpecs) = refl
-tokens_checked (p.More TypeParamGroups) = refl
-tokens_checked (p.More Types) = refl
-tokens_checked (p.More Parameters) = refl
-tokens_checked (p.More Fields) = refl
-tokens_checked (p.More Elems) = refl
-tokens_checked (p.More Indexes) = refl
-tokens_checked (p.More Elements) = refl
-tokens_checked (p.Expr Plain) = refl
-tokens_checked (p.Expr Header) = refl
-tokens_checked (p.OrTail Plain) = refl
-tokens_checked (p.OrTail Header) = refl
-tokens_checked (p.Conjunction Plain) = refl
-tokens_checked (p.Conjunction Header) = refl
-tokens_checked (p.AndTail Plain) = refl
-tokens_checked (p.AndTail Header) = refl
-tokens_checked (p.Comparison Plain) = refl
-tokens_checked (p.Comparison Header) = refl
-tokens_checked (p.CompareTail Plain) = refl
-tokens_checked (p.CompareTail Header) = refl
-tokens_checked (p.Sum Plain) = refl
-tokens_checked (p.Sum Header) = refl
-tokens_checked (p.AddTail Plain) = refl
-tokens_checked (p.AddTail Header) = refl
-tokens_checked (p.Product Plain) = refl
-tokens_checked (p.Product Header) = refl
-tokens_checked (p.MulTail Plain) = refl
-tokens_checked (p.MulTail Header) = refl
-tokens_checked (p.Unary Plain) = refl
-tokens_checked (p.Unary Header) = refl
-tokens_checked (p.Simple Plain) = refl
-tokens_checked (p.Simple Header) = refl
-tokens_checked (p.AfterExpr Plain) = refl
-tokens_checked (p.AfterExpr Header) = refl
-tokens_checked (p.SimpleTail Plain) = refl
-tokens_checked (p.SimpleTail Header) = refl
-tokens_checked (p.Clause Cases) = refl
-tokens_checked (p.Clause Comms) = refl
-tokens_checked (p.ClauseBody Cases) = refl
-tokens_checked (p.ClauseBody Comms) = refl
-tokens_checked (p.AfterClauseStmt Cases) = refl
-tokens_checked (p.AfterClauseStmt Comms) = refl
-tokens_checked _ = refl
+tokens_checked = by_test _ refl
 
 -- each node of a tree has a run of the tokens
 pub spans_lem : (bytes : List ℕ) (n : Production) (tokens : List Token) (t : Tree) → Derives bytes n tokens t → HasSpans tokens t

@@ -4,10 +4,6 @@ use Rattle.std.proofs.lemmas.Bool.{and_parts}
 use Rattle.go_tree.specs.declared.token.Token.{Token}
 use Rattle.go_tree.specs.declared.token.TokenKind.{TokenKind}
 use Rattle.go_tree.specs.declared.production.Production.{Production}
-use Rattle.go_tree.specs.declared.production.Form.TheVariants.{Plain, Header}
-use Rattle.go_tree.specs.declared.production.Items.TheVariants.{ImportSpecs, ConstSpecs, VarSpecs, TypeSpecs, TypeParamGroups, Types, Parameters, Fields, Elems, Indexes, Elements}
-use Rattle.go_tree.specs.declared.production.Clauses.TheVariants.{Cases, Comms}
-use Rattle.go_tree.specs.declared.production.Production.TheVariants as p
 use Rattle.go_tree.specs.Tree.{Tree}
 use Rattle.go_tree.specs.Grammar.RightSide.{RightSide, Call, Act, Pass, Open, Reopen, Adopt, CheckType, Close, Ahead, OneOf, Both}
 use Rattle.go_tree.specs.Grammar.TokenKinds.{same_kind}
@@ -20,6 +16,7 @@ use Rattle.go_tree.specs.Grammar.Fronts.{Leads, here, acts, enters, skips, unfol
 use Rattle.go_tree.proofs.PredictionLemmas.{unique}
 use Rattle.go_tree.proofs.CompletionLemmas.{firm_completes, firm_held}
 use Rattle.go_tree.proofs.GrammarLemmas.{tables_right, texts_right}
+use Rattle.go_tree.proofs.ByProduction.{by_test}
 
 -- a token list has at most one tree
 pub one_tree_lem : (bytes : List ℕ) (n : Production) (tokens : List Token) (t u : Tree) → Derives bytes n tokens t → Derives bytes n tokens u → t ≡ u
@@ -99,54 +96,7 @@ lead_held (looks_so {g = g} {h = h} w q l) d = lead_held l ((and_parts (holds te
 lead_held (looks_not_so {g = g} {h = h} w q l) d = lead_held l ((and_parts (holds texts top_rank g) (holds texts top_rank h) d.0).1, d.1)
 
 ranked : (n : Production) → nat_lt (rank n) top_rank ≡ true
-ranked (p.Exprs Plain) = refl
-ranked (p.Exprs Header) = refl
-ranked (p.More ImportSpecs) = refl
-ranked (p.More ConstSpecs) = refl
-ranked (p.More VarSpecs) = refl
-ranked (p.More TypeSpecs) = refl
-ranked (p.More TypeParamGroups) = refl
-ranked (p.More Types) = refl
-ranked (p.More Parameters) = refl
-ranked (p.More Fields) = refl
-ranked (p.More Elems) = refl
-ranked (p.More Indexes) = refl
-ranked (p.More Elements) = refl
-ranked (p.Expr Plain) = refl
-ranked (p.Expr Header) = refl
-ranked (p.OrTail Plain) = refl
-ranked (p.OrTail Header) = refl
-ranked (p.Conjunction Plain) = refl
-ranked (p.Conjunction Header) = refl
-ranked (p.AndTail Plain) = refl
-ranked (p.AndTail Header) = refl
-ranked (p.Comparison Plain) = refl
-ranked (p.Comparison Header) = refl
-ranked (p.CompareTail Plain) = refl
-ranked (p.CompareTail Header) = refl
-ranked (p.Sum Plain) = refl
-ranked (p.Sum Header) = refl
-ranked (p.AddTail Plain) = refl
-ranked (p.AddTail Header) = refl
-ranked (p.Product Plain) = refl
-ranked (p.Product Header) = refl
-ranked (p.MulTail Plain) = refl
-ranked (p.MulTail Header) = refl
-ranked (p.Unary Plain) = refl
-ranked (p.Unary Header) = refl
-ranked (p.Simple Plain) = refl
-ranked (p.Simple Header) = refl
-ranked (p.AfterExpr Plain) = refl
-ranked (p.AfterExpr Header) = refl
-ranked (p.SimpleTail Plain) = refl
-ranked (p.SimpleTail Header) = refl
-ranked (p.Clause Cases) = refl
-ranked (p.Clause Comms) = refl
-ranked (p.ClauseBody Cases) = refl
-ranked (p.ClauseBody Comms) = refl
-ranked (p.AfterClauseStmt Cases) = refl
-ranked (p.AfterClauseStmt Comms) = refl
-ranked _ = refl
+ranked = by_test _ refl
 
 call_held : (n : Production) → Held texts top_rank (Call n ∷ [])
 call_held n = (ranked n, tt)

@@ -1,5 +1,5 @@
 -- Lemmas on `tree_of`: its equation, and trees by the number of their parts.
-use Rattle.std.proofs.Common.{◌≡◌, ℕ, zero, suc, ◌<◌, ◌≤◌, List, [], ◌∷◌, length, map, get_or, refl, ap, sym, ◌∙◌, arith}
+use Rattle.std.proofs.Common.{◌≡◌, ℕ, zero, suc, ◌+◌, ◌<◌, ◌≤◌, List, [], ◌∷◌, length, map, get_or, refl, ap, sym, ◌∙◌, arith}
 use Rattle.go_tree.specs.declared.node.Node.{Node}
 use Rattle.go_tree.specs.declared.node.Node.TheViews.{out-Node}
 use Rattle.go_tree.specs.declared.node.Node.TheFolds.{fold_out-Node}
@@ -11,6 +11,10 @@ tree_of-out = fold_out-Node Tree tree_step
 pub list_of-trees_of : (ts : List Tree) → list_of (trees_of ts) ≡ ts
 list_of-trees_of [] = refl
 list_of-trees_of (t ∷ ts) = ap (λ us. t ∷ us) (list_of-trees_of ts)
+
+-- a tree has one node more than its parts
+pub count-parts : (t : Tree) → node_count t ≡ 1 + node_count_of_all (parts_of t)
+count-parts (branch id from to kind text parts) = refl
 
 one_long : (xs : List Node) (a : Tree) → trees_of (map tree_of xs) ≡ more_trees a no_trees → length xs ≡ 1
 one_long [] a e = cc

@@ -56,3 +56,7 @@ IsForbidden bytes at = (at < length bytes) × (is_forbidden at (decoded_at bytes
 pub data Run (passes : ℕ → ℕ → Bool) (bytes : List ℕ) (from : ℕ) : ℕ → Type 0 where
   none : Run passes bytes from from
   more : {at c : ℕ} → Run passes bytes from at → (decoded_at bytes at).char ≡ Some c → passes (slice_index bytes (at - 1)) c ≡ true → Run passes bytes from (at + (decoded_at bytes at).size)
+
+-- no character that passes stands at the offset
+abbrev pub Ends : (ℕ → ℕ → Bool) → List ℕ → ℕ → Type 0
+Ends p bytes at = (c : ℕ) → (decoded_at bytes at).char ≡ Some c → p (slice_index bytes (at - 1)) c ≡ true → ⊥

@@ -1,6 +1,9 @@
 -- Where no token starts (Go specification): "Source code representation", "Tokens".
 -- Decides which rule a text breaks where it has no next token, and at which byte.
 use Rattle.std.specs.Prelude.{◌≡◌, ◌≢◌, ℕ, ◌+◌, ◌<◌, true, List, [], ◌++◌, Option, ◌⊎◌, slice_index, slice_range}
+use Rattle.go_base.specs.declared.rule.Family.TheVariants.{S}
+use Rattle.go_base.specs.declared.rule.Rule.{Rule}
+use Rattle.go_tree.specs.declared.lex.Lex.{Lex}
 use Rattle.go_tree.specs.declared.token.Token.{Token}
 use Rattle.go_tree.specs.declared.token.TokenKind.{TokenKind}
 use Rattle.go_tree.specs.Characters.{IsForbidden, Run}
@@ -40,3 +43,18 @@ pub record IsMissingToken (bytes : List ℕ) (at : ℕ) (last : Option TokenKind
   pub is_place : IsPlace bytes at last offset
   pub missing : (t : Token) → IsNext bytes at last t → ⊥
   pub allowed : (n : ℕ) → IsForbiddenByte bytes at last n → ⊥
+
+-- "Implementation restriction": a compiler may disallow NUL and a byte order mark that is not first, and
+-- source code is encoded in UTF-8
+abbrev pub forbidden_byte : Rule
+forbidden_byte = record { family = S; number = 1 }
+
+abbrev pub missing_token : Rule
+missing_token = record { family = S; number = 2 }
+
+-- no token starts at the next place, by that rule at that byte
+abbrev pub IsLex : List ℕ → ℕ → Option TokenKind → Lex → Type 0
+IsLex bytes at last e =
+    ((t : Token) → IsNext bytes at last t → ⊥)
+    × (((e.rule ≡ forbidden_byte) × IsForbiddenByte bytes at last e.offset)
+    ⊎ ((e.rule ≡ missing_token) × IsMissingToken bytes at last e.offset))

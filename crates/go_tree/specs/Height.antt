@@ -1,5 +1,5 @@
 -- own: the height at a token, how many tokens count there. The Go specification knows no heights.
-use Rattle.std.specs.Prelude.{ℕ, zero, suc, Bool, true, false, List, [], ◌∷◌, Option, None, Some, fold, length, if◌then◌else◌}
+use Rattle.std.specs.Prelude.{ℕ, ◌≡◌, ◌≤◌, ◌++◌, zero, suc, Bool, true, false, List, [], ◌∷◌, Option, None, Some, fold, length, if◌then◌else◌}
 use Rattle.go_tree.specs.declared.token.Token.{Token}
 use Rattle.go_tree.specs.declared.token.TokenKind.{TokenKind}
 use Rattle.go_tree.specs.declared.token.TokenKind.TheVariants.{Ident, KwElse, LeftParen, LeftBracket, LeftBrace, RightParen, RightBracket, RightBrace, Comma, Semicolon, InsertedSemicolon, Colon}
@@ -81,6 +81,10 @@ counted ts = fold counted_at (record { marks = []; last = None; before = None })
 -- the height at the last of these tokens, and 0 where there is none
 abbrev pub height_of : List Token → ℕ
 height_of ts = length (counted ts).marks
+
+-- no token has a height past what is free
+abbrev pub AllFit : ℕ → List Token → Type 0
+AllFit free tokens = (front rest : List Token) → tokens ≡ front ++ rest → height_of front ≤ free
 
 -- Counting back: how many of these marks count, where so many brackets are closed behind them, and
 -- perhaps a `,` or `;` stands behind.

@@ -1,6 +1,6 @@
 -- Lexical elements (Go specification): "Comments", "Tokens", "Semicolons".
--- Decides the tokens of a text: what stands between two of them, where semicolons are inserted, and
--- where no token starts.
+-- Decides the tokens of a text: what stands between two of them, and where semicolons are inserted. Where no token
+-- starts: `Faults`.
 use Rattle.std.specs.Prelude.{◌≡◌, ◌≢◌, ℕ, ◌+◌, ◌<◌, ◌≤◌, Bool, true, if◌then◌else◌, List, [], ◌∷◌, length, Option, Some, None, slice_index}
 use Rattle.go_tree.specs.declared.token.Token.{Token}
 use Rattle.go_tree.specs.declared.token.TokenKind.{TokenKind}
@@ -59,3 +59,9 @@ ScanFrom bytes at last (t ∷ (u ∷ us)) = IsNext bytes at last t × (t.kind �
 -- the tokens of a text
 abbrev pub Scan : List ℕ → List Token → Type 0
 Scan bytes tokens = ScanFrom bytes 0 None tokens
+
+-- these are the tokens from one place to another, where a token of the kind `last` stands before the first place;
+-- the end of the file is none of them
+abbrev pub Stand : List ℕ → ℕ → Option TokenKind → List Token → ℕ → Option TokenKind → Type 0
+Stand bytes at last [] to kind = (at ≡ to) × (last ≡ kind)
+Stand bytes at last (t ∷ ts) to kind = IsNext bytes at last t × (t.kind ≢ End) × Stand bytes t.end (Some t.kind) ts to kind

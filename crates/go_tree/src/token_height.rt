@@ -183,7 +183,9 @@ fn kind_before(tokens: &[Token], end: usize) -> Option<TokenKind>
     }
 }
 
-fn role_behind(kind: TokenKind, last: Option<TokenKind>, before: Option<TokenKind>) -> Role
+/// What a token of that kind does to the heights of those behind it, where these kinds stand directly before
+/// it: `last`, and `before` in front of that.
+pub fn role_behind(kind: TokenKind, last: Option<TokenKind>, before: Option<TokenKind>) -> Role
     ensures { result ≡ role_of kind last before }
 {
     match kind {

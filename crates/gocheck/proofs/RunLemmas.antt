@@ -2,9 +2,9 @@
 use Rattle.std.proofs.Common.{ℕ, List, Option, sym, subst}
 use Rattle.go_base.specs.declared.status.Status.{Status}
 use Rattle.go_base.specs.declared.tree.MemFile.{MemFile}
-use Rattle.go_model.specs.declared.report.Placed.{Placed}
-use Rattle.go_model.specs.Loading.{LoadsBroken, LoadsModule}
-use Rattle.go_model.specs.Module.{ModuleData}
+use Rattle.go_module.specs.declared.places.Placed.{Placed}
+use Rattle.go_load.specs.Loading.{LoadsBroken, LoadsModule}
+use Rattle.go_module.specs.Modules.Module.{ModuleData}
 use Rattle.gocheck.specs.Headline.{RunOf, first, whole, refusal_of, verdict_of, IsRunText}
 use Rattle.gocheck.specs.Runs.{IsFirst, IsWhole}
 use Rattle.gocheck.specs.Words.{Roots}

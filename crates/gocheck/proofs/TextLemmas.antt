@@ -6,7 +6,7 @@ use Rattle.std.proofs.lemmas.Grind.{flat_map-append}
 use Rattle.std.proofs.lemmas.List.Folds.{flat_map-map}
 use Rattle.go_model.specs.declared.records.Line.{Line}
 use Rattle.go_model.specs.declared.records.Records.{Records}
-use Rattle.go_model.specs.declared.report.Placed.{Placed}
+use Rattle.go_module.specs.declared.places.Placed.{Placed}
 use Rattle.go_model.specs.declared.report.Verdict.{Verdict}
 use Rattle.go_model.specs.declared.report.Verdict.TheVariants.{Accepted}
 use Rattle.go_model.specs.Report.{PackageReportData, VerdictData, refused, verdict_view}

@@ -10,9 +10,9 @@ use Rattle.go_base.specs.declared.status.Status.TheVariants.{Accepted, Refused, 
 use Rattle.go_base.specs.declared.tree.MemFile.{MemFile}
 use Rattle.go_base.specs.Status.{IsReport}
 use Rattle.go_base.specs.Sink.{Adds}
-use Rattle.go_model.specs.declared.report.Placed.{Placed}
-use Rattle.go_model.specs.Loading.{LoadsBroken, LoadsModule}
-use Rattle.go_model.specs.Module.{ModuleData}
+use Rattle.go_module.specs.declared.places.Placed.{Placed}
+use Rattle.go_load.specs.Loading.{LoadsBroken, LoadsModule}
+use Rattle.go_module.specs.Modules.Module.{ModuleData}
 use Rattle.go_model.specs.Phases.{ReportOf, is_accepted}
 use Rattle.go_model.specs.Report.{VerdictData, accepted, refused, skipped, ReportData}
 use Rattle.go_model.specs.Text.Lines.{first_text, report_text}

@@ -2,8 +2,8 @@
 use Rattle.std.specs.Prelude.{◌≡◌, ℕ, List}
 use Rattle.go_base.specs.declared.status.Status.{Status}
 use Rattle.go_base.specs.Status.{IsReport}
-use Rattle.go_model.specs.declared.report.Placed.{Placed}
-use Rattle.go_model.specs.Module.{ModuleData}
+use Rattle.go_module.specs.declared.places.Placed.{Placed}
+use Rattle.go_module.specs.Modules.Module.{ModuleData}
 use Rattle.go_model.specs.Phases.{ReportOf}
 use Rattle.go_model.specs.Report.{ReportData}
 use Rattle.go_model.specs.Text.Lines.{first_text, report_text}

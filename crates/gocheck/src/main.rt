@@ -3,15 +3,11 @@
 #![tactic(auto)]
 
 mod fields;
-mod folder;
-mod folder_list;
 mod lines;
-mod paths;
 mod places;
 #[cfg(test)]
 mod rows;
 mod run;
-mod std_sink;
 mod text;
 mod values;
 mod verdict;
@@ -19,8 +15,7 @@ mod words;
 
 ghost use Rattle.std.specs.Prelude.{◌≡◌};
 
-use folder::FolderTree;
-use go_base::{Status, Steps, Word};
+use go_base::{FolderTree, Status, StdSink, Steps, Word};
 use run::gocheck;
 use std::alloc::Global;
 use std::io::ErrorKind;
@@ -29,7 +24,6 @@ use std::process::ExitCode;
 use std::rt::Files;
 use std::sync::ledger::{Blank, Ledger};
 use std::{env, io};
-use std_sink::StdSink;
 
 // A run over real folders and standard output, with a new ledger.
 fn run_on_folders<L: Ledger, R: Files + AllocGlobal + Print + Drop + Clone>(
@@ -69,14 +63,6 @@ fn status_without_words(error: io::Error) -> Status {
     }
 }
 
-// What a run says on standard error; that of Usage has the words that are read so far.
-fn message_of(status: Status) -> &'static str {
-    match status {
-        Status::Usage => "usage: gocheck ROOT [--stubs ROOT2]",
-        other => other.message(),
-    }
-}
-
 fn main(rt: HostRuntime) -> ExitCode {
     let alloc = rt.alloc();
     let status = match words_of(&rt) {
@@ -86,7 +72,7 @@ fn main(rt: HostRuntime) -> ExitCode {
         },
         Err(error) => status_without_words(error),
     };
-    let message = message_of(status);
+    let message = status.message();
     if !message.is_empty() {
         // Nothing is left to do where standard error is closed.
         let _ = rt.eprintln(message);

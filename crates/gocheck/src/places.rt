@@ -4,7 +4,7 @@ ghost use Rattle.go_model.specs.Text.Lines.{declared_text};
 ghost use Rattle.go_model.specs.Text.Places.{end_text, place_text, root_text};
 
 use go_base::LineCol;
-use go_model::At;
+use go_module::At;
 use std::alloc::{AllocError, Global};
 
 /// `file:line:col`, the file relative to its root.

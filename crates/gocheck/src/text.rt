@@ -7,7 +7,8 @@ ghost use Rattle.go_model.specs.Text.Lines.{broken_fields, first_text, line_fiel
 use crate::fields::put_line;
 use crate::lines::{put_broken, put_module, put_package, put_record};
 use go_base::NoMemory;
-use go_model::{Line, PackageReport, Placed, Report, Verdict};
+use go_model::{Line, PackageReport, Report, Verdict};
+use go_module::Placed;
 use std::alloc::{AllocError, Global};
 
 /// The text of the report of a module.

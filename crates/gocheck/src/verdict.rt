@@ -7,7 +7,8 @@ ghost use Rattle.go_model.specs.Report.{report_view, verdict_view};
 ghost use Rattle.gocheck.specs.Headline.{broken_in, has_beyond, is_beyond, refusal_of, verdict_of};
 
 use go_base::{Family, Status};
-use go_model::{PackageReport, Placed, Report, Verdict};
+use go_model::{PackageReport, Report, Verdict};
+use go_module::Placed;
 
 /// The status that the report of a module ends a run with.
 pub fn verdict(report: &Report) -> Status

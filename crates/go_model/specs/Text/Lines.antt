@@ -13,8 +13,8 @@ use Rattle.go_model.specs.declared.records.DefKind.TheVariants.{Const, Package}
 use Rattle.go_model.specs.declared.records.Line.{Line}
 use Rattle.go_model.specs.declared.records.What.{What}
 use Rattle.go_model.specs.declared.records.What.TheVariants.{Def, Used, Expr}
-use Rattle.go_model.specs.declared.report.At.{At}
-use Rattle.go_model.specs.declared.report.Placed.{Placed}
+use Rattle.go_module.specs.declared.places.At.{At}
+use Rattle.go_module.specs.declared.places.Placed.{Placed}
 use Rattle.go_model.specs.Report.{VerdictData, accepted, refused, skipped, PackageReportData, ReportData}
 use Rattle.go_model.specs.Text.Places.{place_text, end_text}
 use Rattle.go_model.specs.Text.Values.{type_text, value_text}

@@ -2,7 +2,7 @@
 -- Decides how a place of a report reads.
 use Rattle.std.specs.Prelude.{ℕ, Bool, true, false, List, [], ◌++◌, codes, decimal}
 use Rattle.go_base.specs.declared.places.LineCol.{LineCol}
-use Rattle.go_model.specs.declared.report.At.{At}
+use Rattle.go_module.specs.declared.places.At.{At}
 
 -- `line:col`, both from 1
 abbrev pub line_col : ℕ → ℕ → List ℕ

@@ -1,7 +1,6 @@
 // Real folders, on one that the test writes.
 use super::word;
-use crate::folder::FolderTree;
-use go_base::{Name, Tree, TreeFault};
+use go_base::{FolderTree, Name, Tree, TreeFault};
 use std::alloc::{AllocError, Global};
 use std::fs;
 use std::os::unix::fs::symlink;

@@ -2,8 +2,8 @@
 // between `|`.
 mod accepted;
 mod faults;
-mod go_mod;
 mod loading;
+mod module_file;
 mod refused;
 
 use super::{File, GO_MOD, checked_module, checked_roots, module_files, report, run, words};

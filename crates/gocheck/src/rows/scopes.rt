@@ -15,7 +15,7 @@ mod unused;
 use super::{File, module_files, word};
 use go_base::{Broken, LineCol, SureTree, place};
 use go_load::load;
-use go_model::{Module, Package, Scopes, SourceFile};
+use go_module::{Module, Package, Scopes, SourceFile};
 use go_scope::{KnownPackage, ScopeFault, collect};
 use go_tree::{NodeId, find};
 use indexmap::IndexMap;
@@ -81,7 +81,12 @@ fn told(alloc: Global, files: &[File]) -> Result<String, Fail> {
 fn broken_text(alloc: Global, package: &Package, list: &[Broken]) -> Result<String, Fail> {
     let mut text = String::new(alloc);
     for broken in list {
-        let file = package.files.get(broken.pos.file).ok_or("no file")?;
+        let number = broken.pos.file;
+        let file = package
+            .files
+            .iter()
+            .find(|file| file.tree.number == number)
+            .ok_or("no file")?;
         let spot = spot_in(alloc, file, broken.pos.offset)?;
         let rule = broken.rule;
         text.push_str(format!(in alloc; "{spot} {rule} ")?.as_str())?;

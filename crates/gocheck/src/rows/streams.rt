@@ -1,6 +1,5 @@
 // A stream as a sink: a file that the test writes, and a stream that takes nothing.
-use crate::std_sink::StdSink;
-use go_base::{Sink, SinkFault};
+use go_base::{Sink, SinkFault, StdSink};
 use std::fs;
 use std::io::{self, Write};
 use std::test::Fail;

@@ -3,7 +3,7 @@ use Rattle.std.specs.Option.{option_map}
 use Rattle.std.proofs.lemmas.Result.{on_ok_weaker}
 use Rattle.go_tree.specs.Tree.{tree_of, start_of, kind_of}
 use Rattle.go_tree.proofs.TreeLemmas.{part_within}
-use Rattle.go_model.specs.FormRules.RuleNames.{unbuilt_form_rule}
+use Rattle.go_module.specs.Rules.{unbuilt_form}
 use Rattle.go_model.specs.Quests.{run}
 use Rattle.go_model.specs.Records.{record_of}
 use Rattle.go_model.specs.Rules.{broken_among, broken_in, rule_at, told_at}
@@ -29,8 +29,8 @@ push_broken-returns-in-Some-selector-clause-list t c =
     let name = tree_of c.in-Some-selector.name.now in
     let split =
     broken-selector file means headers node operand name c.in-Some-selector.ensures.kind c.in-Some-selector.ensures.parts
-    ∙ ap (λ m. broken_in file means headers operand ++ told_at file (start_of node) unbuilt_form_rule (option_map (run headers) (selector_test m (record_of means headers operand)))) (sym (c.meaning.ensures ∙ ap means c.id.ensures))
-    ∙ ap (λ o. broken_in file means headers operand ++ told_at file (start_of node) unbuilt_form_rule (option_map (run headers) (selector_test c.meaning.result o))) (sym c.in_ok-operand.ensures.value) in
+    ∙ ap (λ m. broken_in file means headers operand ++ told_at file (start_of node) unbuilt_form (option_map (run headers) (selector_test m (record_of means headers operand)))) (sym (c.meaning.ensures ∙ ap means c.id.ensures))
+    ∙ ap (λ o. broken_in file means headers operand ++ told_at file (start_of node) unbuilt_form (option_map (run headers) (selector_test c.meaning.result o))) (sym c.in_ok-operand.ensures.value) in
     on_ok_weaker c.push_selector.result (λ now. joined c.args.list.now.items _ _ _ _ _ c.in_ok-operand.ensures.list now split) c.push_selector.ensures.list
 
 pub push_broken-returns-clause-list : goal.push_broken-returns-clause-list

@@ -1,8 +1,8 @@
 use Rattle.std.proofs.Common.{◌≡◌, drop}
 use Rattle.std.specs.Map.{lookup}
-use Rattle.go_model.specs.declared.object.ObjId.{ObjId}
+use Rattle.go_module.specs.declared.object.ObjId.{ObjId}
 use Rattle.go_model.specs.Constants.{numbers_of}
-use Rattle.go_model.specs.Scopes.{same_object}
+use Rattle.go_module.specs.Scopes.{same_object}
 use Rattle.go_check.specs.View.{constants_view}
 use Rattle.go_check.proofs.PlaceLemmas.{place_from}
 use Rattle.go_check.proofs.constants.places_of.Given as goal

@@ -1,7 +1,7 @@
 use Rattle.std.proofs.Common.{◌≡◌, map, drop}
 use Rattle.indexmap.specs.IndexMap.{insert_all}
-use Rattle.go_model.specs.Places.{declaration}
-use Rattle.go_model.specs.Scopes.{same_object}
+use Rattle.go_model.specs.Declarations.{declaration}
+use Rattle.go_module.specs.Scopes.{same_object}
 use Rattle.go_scope.specs.Blocks.{trees_at}
 use Rattle.go_check.specs.TextView.{file_of}
 use Rattle.go_check.proofs.declarations.add_nodes.Given as goal

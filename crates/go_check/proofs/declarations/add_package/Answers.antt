@@ -1,10 +1,10 @@
 use Rattle.std.proofs.Common.{◌≡◌, List, ◌∙◌, ap, subst}
 use Rattle.std.specs.Prelude.{OnOk}
 use Rattle.indexmap.specs.IndexMap.{insert_all}
-use Rattle.go_model.specs.declared.object.ObjId.{ObjId}
-use Rattle.go_model.specs.declared.report.At.{At}
-use Rattle.go_model.specs.Module.{package_view}
-use Rattle.go_model.specs.Scopes.{same_object}
+use Rattle.go_module.specs.declared.object.ObjId.{ObjId}
+use Rattle.go_module.specs.declared.places.At.{At}
+use Rattle.go_module.specs.Modules.Module.{package_view}
+use Rattle.go_module.specs.Scopes.{same_object}
 use Rattle.go_check.specs.TextView.{texts_view}
 use Rattle.go_check.proofs.TextLemmas.{declared_in}
 use Rattle.go_check.proofs.declarations.add_package.Goals as goal

@@ -1,8 +1,8 @@
 use Rattle.std.proofs.Common.{◌≡◌, drop}
 use Rattle.std.specs.List.{flat_map}
 use Rattle.indexmap.specs.IndexMap.{insert_all}
-use Rattle.go_model.specs.Places.{declarations_in}
-use Rattle.go_model.specs.Scopes.{same_object}
+use Rattle.go_model.specs.Declarations.{declarations_in}
+use Rattle.go_module.specs.Scopes.{same_object}
 use Rattle.go_check.specs.TextView.{file_of}
 use Rattle.go_check.proofs.declarations.add_texts.Given as goal
 

@@ -1,9 +1,9 @@
 use Rattle.std.proofs.Common.{◌≡◌, [], map, drop}
 use Rattle.std.specs.List.{flat_map}
 use Rattle.indexmap.specs.IndexMap.{insert_all}
-use Rattle.go_model.specs.Module.{package_view}
-use Rattle.go_model.specs.Places.{declarations_of}
-use Rattle.go_model.specs.Scopes.{same_object}
+use Rattle.go_module.specs.Modules.Module.{package_view}
+use Rattle.go_model.specs.Declarations.{declarations_of}
+use Rattle.go_module.specs.Scopes.{same_object}
 use Rattle.go_check.proofs.declarations.declarations.Given as goal
 
 -- the table, with the declarations of the packages left, is that of all packages

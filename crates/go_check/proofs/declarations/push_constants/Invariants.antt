@@ -1,6 +1,6 @@
 use Rattle.std.proofs.Common.{◌≡◌, ◌++◌, drop}
 use Rattle.std.specs.List.{flat_map}
-use Rattle.go_model.specs.Names.Constants.{names_in_spec}
+use Rattle.go_module.specs.Names.Constants.{names_in_spec}
 use Rattle.go_scope.specs.Blocks.{trees_at}
 use Rattle.go_check.proofs.declarations.push_constants.Given as goal
 

@@ -1,5 +1,5 @@
 use Rattle.std.proofs.Common.{◌≡◌, ◌++◌, map, drop}
-use Rattle.go_model.specs.NodeParts.{first_part}
+use Rattle.go_module.specs.NodeParts.{first_part}
 use Rattle.go_scope.specs.Blocks.{trees_at}
 use Rattle.go_check.proofs.declarations.push_imports.Given as goal
 

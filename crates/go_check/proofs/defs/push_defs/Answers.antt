@@ -1,7 +1,7 @@
 use Rattle.std.proofs.Common.{◌≡◌, ◌+◌, drop, length, ap, ◌∙◌, arith}
 use Rattle.std.proofs.lemmas.List.{length-drop, take_rest}
 use Rattle.go_model.specs.Constants.{constants_from}
-use Rattle.go_model.specs.Heads.{import_specs}
+use Rattle.go_module.specs.Modules.Heads.{import_specs}
 use Rattle.go_scope.specs.Blocks.{trees_at}
 use Rattle.go_check.specs.Table.{slot_of}
 use Rattle.go_check.specs.TextView.{file_of, outline_view, text_view, texts_view}

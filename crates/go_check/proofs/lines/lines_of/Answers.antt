@@ -1,6 +1,6 @@
 use Rattle.std.proofs.Common.{◌≡◌, ◌++◌, sym, ap, ◌∙◌}
 use Rattle.go_model.specs.Constants.{constants_from}
-use Rattle.go_model.specs.Module.{package_view}
+use Rattle.go_module.specs.Modules.Module.{package_view}
 use Rattle.go_check.specs.Table.{slot_of}
 use Rattle.go_check.specs.TextView.{outline_view, texts_view}
 use Rattle.go_check.specs.Texts.{texts_in, files_of, defs_by, uses_by, exprs_by}

@@ -1,9 +1,9 @@
 use Rattle.std.proofs.Common.{◌≡◌, ◌∷◌, ◌++◌, ◌+◌, ◌∙◌, [], length, map, sym, ap, subst}
 use Rattle.std.specs.Prelude.{slice_get}
 use Rattle.std.specs.List.{list_all}
-use Rattle.go_model.specs.Module.{package_view}
-use Rattle.go_model.specs.Names.Imports.{known_in}
-use Rattle.go_model.specs.Packages.{is_marked}
+use Rattle.go_module.specs.Modules.Module.{package_view}
+use Rattle.go_module.specs.Names.Imports.{known_in}
+use Rattle.go_graph.specs.Graph.{is_marked}
 use Rattle.go_model.specs.Phases.{IsVerdict, imports_accepted, is_accepted, package_report}
 use Rattle.go_model.specs.Report as report
 use Rattle.go_model.specs.Report.{skipped, verdict_view}

@@ -1,6 +1,6 @@
 use Rattle.std.proofs.Common.{◌∙◌, map, ap, sym, subst}
 use Rattle.std.specs.Vec.Iter.{into_iter_items}
-use Rattle.go_model.specs.Module.{package_view}
+use Rattle.go_module.specs.Modules.Module.{package_view}
 use Rattle.go_check.specs.declared.module.State.{State}
 use Rattle.go_check.specs.State.{IsBehind}
 use Rattle.go_check.proofs.StateLemmas.{all_reports, goes_on, none_left, starts}

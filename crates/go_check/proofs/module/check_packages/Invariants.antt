@@ -1,6 +1,6 @@
 use Rattle.std.proofs.Common.{◌≡◌, map}
 use Rattle.std.specs.Vec.Iter.{into_iter_items}
-use Rattle.go_model.specs.Module.{ModuleData, package_view}
+use Rattle.go_module.specs.Modules.Module.{ModuleData, package_view}
 use Rattle.go_model.specs.PackageLines.{outline_of}
 use Rattle.go_check.specs.State.{IsBehind}
 use Rattle.go_check.specs.TextView.{outline_view}

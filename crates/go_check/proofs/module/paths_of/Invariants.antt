@@ -1,5 +1,5 @@
 use Rattle.std.proofs.Common.{◌≡◌, ◌++◌, map, drop}
-use Rattle.go_model.specs.Module.{package_view}
+use Rattle.go_module.specs.Modules.Module.{package_view}
 use Rattle.go_check.proofs.module.paths_of.Given as goal
 
 -- what is pushed, with the paths of the packages left, are those of all packages

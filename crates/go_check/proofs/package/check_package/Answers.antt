@@ -1,7 +1,7 @@
 use Rattle.std.proofs.Common.{◌≡◌, ◌∙◌, map, sym, ap, subst}
-use Rattle.go_model.specs.Module.{package_view}
+use Rattle.go_module.specs.Modules.Module.{package_view}
 use Rattle.go_model.specs.Phases.{IsVerdict}
-use Rattle.go_model.specs.Places.{placed_by}
+use Rattle.go_module.specs.Places.{placed_by}
 use Rattle.go_model.specs.Report.{refused}
 use Rattle.go_scope.specs.Collecting.{IsScopeFault}
 use Rattle.go_check.proofs.VerdictLemmas.{refused_names}

@@ -1,15 +1,15 @@
 use Rattle.std.proofs.Common.{◌≡◌, ◌≢◌, ◌∙◌, ℕ, true, [], map, sym, ap, subst}
 use Rattle.std.specs.Prelude.{◌↔◌}
 use Rattle.indexmap.specs.IndexMap.{insert_all}
-use Rattle.go_load.specs.Marks.{is_marked}
-use Rattle.go_model.specs.FormRules.Order.{IsListOf}
-use Rattle.go_model.specs.Module.{package_view}
+use Rattle.go_graph.specs.Graph.{is_marked}
+use Rattle.go_module.specs.Order.{IsListOf}
+use Rattle.go_module.specs.Modules.Module.{package_view}
 use Rattle.go_model.specs.PackageLines.{lines_of}
 use Rattle.go_model.specs.Phases.{IsVerdict, values_of}
-use Rattle.go_model.specs.Places.{placed_by}
+use Rattle.go_module.specs.Places.{placed_by}
 use Rattle.go_model.specs.Report.{accepted, refused, verdict_view}
 use Rattle.go_model.specs.Rules.{broken_values}
-use Rattle.go_model.specs.Scopes.{same_object}
+use Rattle.go_module.specs.Scopes.{same_object}
 use Rattle.go_model.specs.Waiting.{Chain}
 use Rattle.go_check.specs.Table.{slot_of}
 use Rattle.go_check.specs.TextView.{outline_view}

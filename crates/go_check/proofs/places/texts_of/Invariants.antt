@@ -1,5 +1,5 @@
 use Rattle.std.proofs.Common.{◌≡◌, map, take}
-use Rattle.go_model.specs.Module.{file_view}
+use Rattle.go_module.specs.Modules.Module.{file_view}
 use Rattle.go_check.specs.TextView.{texts_view}
 use Rattle.go_check.specs.Texts.{text_in}
 use Rattle.go_check.proofs.places.texts_of.Given as goal

@@ -1,5 +1,5 @@
 use Rattle.std.proofs.Common.{◌≡◌, ◌++◌, map, drop}
-use Rattle.go_model.specs.Module.{file_view}
+use Rattle.go_module.specs.Modules.Module.{file_view}
 use Rattle.go_model.specs.Rules.{broken_specs}
 use Rattle.go_check.specs.Table.{slot_of}
 use Rattle.go_check.specs.View.{means_by}

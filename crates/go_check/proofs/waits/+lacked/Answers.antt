@@ -22,7 +22,7 @@ push_lacked-returns-in-Some t c =
     let split =
     lacked-selector means headers (tree_of c.args.node.now) operand _ c.in-Some.ensures.kind c.in-Some.ensures.parts
     ∙ ap (λ l. l ++ lacked_in means headers operand) (sym c.lacked_here.ensures) in
-    on_ok_weaker c.push_lacked.result (λ now. joined c.args.places.now.items _ _ _ _ _ c.in_ok-push_place.ensures now split) c.push_lacked.ensures
+    on_ok_weaker c.push_lacked.result (λ now. joined c.args.places.now _ _ _ _ _ c.in_ok-push_place.ensures now split) c.push_lacked.ensures
 
 pub push_lacked-returns-in-None : goal.push_lacked-returns-in-None
 push_lacked-returns-in-None t c =
@@ -33,4 +33,4 @@ push_lacked-returns-in-None t c =
     lacked-parts means headers node c.in-None.ensures.none
     ∙ ap (λ l. l ++ lacked_among means headers (parts_of node)) (sym c.lacked_here.ensures)
     ∙ ap (λ ts. option_to_list c.lacked_here.result ++ lacked_among means headers ts) (sym c.parts.ensures) in
-    on_ok_weaker c.push_among.result (λ now. joined c.args.places.now.items _ _ _ _ _ c.in_ok-push_place.ensures now split) c.push_among.ensures
+    on_ok_weaker c.push_among.result (λ now. joined c.args.places.now _ _ _ _ _ c.in_ok-push_place.ensures now split) c.push_among.ensures

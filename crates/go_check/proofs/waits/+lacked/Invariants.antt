@@ -13,4 +13,4 @@ decreases-push_among l = 2 * node_count_of_all (trees_of (map tree_of l.nodes.no
 
 abbrev pub invariant-push_among-loop-node : goal.invariant-push_among-loop-node
 invariant-push_among-loop-node l =
-    l.places.items ++ lacked_among (means_by l.around) (slot_of l.table) (trees_of (map tree_of (drop l.node-index l.nodes))) ≡ l.fn.places.items ++ lacked_among (means_by l.around) (slot_of l.table) (trees_of (map tree_of l.nodes))
+    l.places ++ lacked_among (means_by l.around) (slot_of l.table) (trees_of (map tree_of (drop l.node-index l.nodes))) ≡ l.fn.places ++ lacked_among (means_by l.around) (slot_of l.table) (trees_of (map tree_of l.nodes))

@@ -1,22 +1,22 @@
-use Rattle.std.proofs.Common.{length, ap, sym, ◌∙◌, subst}
+use Rattle.std.proofs.Common.{length, sym, ◌∙◌, subst}
 use Rattle.std.proofs.lemmas.List.{length-map}
 use Rattle.std.proofs.lemmas.Result.{IfOk-weaker}
-use Rattle.go_model.specs.Graph.{IsGraph, graph_of}
+use Rattle.go_graph.specs.Graph.{IsGraph}
 use Rattle.go_check.specs.Table.{slot_of}
 use Rattle.go_check.specs.View.{PlacesBelow, constant_view, constants_view, means_by}
 use Rattle.go_check.proofs.WaitLemmas.{places_within, waits_graph, paths_are_chains}
 use Rattle.go_check.proofs.waits.cyclic_constants.Goals as goal
 
-pub cyclic-requires : goal.cyclic-requires
-cyclic-requires c =
-    let same = ap graph_of c.deref.ensures.value ∙ c.in_ok-waits.ensures in
+pub cyclic_vertices-requires : goal.cyclic_vertices-requires
+cyclic_vertices-requires c =
+    let same = c.deref.ensures.value ∙ c.in_ok-waits.ensures in
     let below = subst (λ n. PlacesBelow n c.args.around.now) (sym (length-map c.args.constants.now constant_view)) c.requires in
     subst IsGraph (sym same) (waits_graph (means_by c.args.around.now) (slot_of c.args.table.now) (constants_view c.args.constants.now) (places_within (length (constants_view c.args.constants.now)) c.args.around.now below))
 
 pub returns-clause-exact : goal.returns-clause-exact
 returns-clause-exact c =
-    let same = ap graph_of c.deref.ensures.value ∙ c.in_ok-waits.ensures in
-    let chains = paths_are_chains (means_by c.args.around.now) (slot_of c.args.table.now) (constants_view c.args.constants.now) (graph_of c.deref.result.now) same in
-    IfOk-weaker c.cyclic.result _ _
+    let same = c.deref.ensures.value ∙ c.in_ok-waits.ensures in
+    let chains = paths_are_chains (means_by c.args.around.now) (slot_of c.args.table.now) (constants_view c.args.constants.now) c.deref.result.now same in
+    IfOk-weaker c.cyclic_vertices.result _ _
     (λ marks exact d. (λ e. (chains d d).0 ((exact d).0 e), λ chain. (exact d).1 ((chains d d).1 chain)))
-    c.cyclic.ensures.exact
+    c.cyclic_vertices.ensures.exact

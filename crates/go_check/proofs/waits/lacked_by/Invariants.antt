@@ -8,4 +8,4 @@ use Rattle.go_check.proofs.waits.lacked_by.Given as goal
 
 abbrev pub invariant-loop-node : goal.invariant-loop-node
 invariant-loop-node l =
-    l.places.items ++ flat_map (lacked_in (means_by l.around) (slot_of l.table)) (map tree_of (drop l.node-index l.expressions)) ≡ flat_map (lacked_in (means_by l.around) (slot_of l.table)) (map tree_of l.expressions)
+    l.places ++ flat_map (lacked_in (means_by l.around) (slot_of l.table)) (map tree_of (drop l.node-index l.expressions)) ≡ flat_map (lacked_in (means_by l.around) (slot_of l.table)) (map tree_of l.expressions)

@@ -1,5 +1,4 @@
 use Rattle.std.proofs.Common.{◌≡◌, ◌++◌, drop}
-use Rattle.go_model.specs.Graph.{graph_of}
 use Rattle.go_model.specs.Lacking.{lacking}
 use Rattle.go_check.specs.Table.{slot_of}
 use Rattle.go_check.specs.View.{constants_view, means_by}
@@ -7,4 +6,4 @@ use Rattle.go_check.proofs.waits.waits_of.Given as goal
 
 abbrev pub invariant-loop-constant : goal.invariant-loop-constant
 invariant-loop-constant l =
-    graph_of l.waits.items ++ lacking (means_by l.around) (slot_of l.table) (constants_view (drop l.constant-index l.constants)) ≡ lacking (means_by l.around) (slot_of l.table) (constants_view l.constants)
+    l.waits.items ++ lacking (means_by l.around) (slot_of l.table) (constants_view (drop l.constant-index l.constants)) ≡ lacking (means_by l.around) (slot_of l.table) (constants_view l.constants)

@@ -1,7 +1,6 @@
-use Rattle.std.proofs.Common.{ap, sym, subst, ◌∙◌}
-use Rattle.go_model.specs.ImportOrder.{IsGraph, rows_of}
+use Rattle.std.proofs.Common.{sym, subst}
+use Rattle.go_graph.specs.Graph.{IsGraph}
 use Rattle.go_load.proofs.assemble.module_order.Goals as goal
 
-pub import_order-requires : goal.import_order-requires
-import_order-requires c =
-    subst IsGraph (sym (ap rows_of c.deref.ensures.value ∙ c.in_ok-rows.ensures ∙ c.imports.ensures)) c.requires
+pub order-requires : goal.order-requires
+order-requires c = subst IsGraph (sym c.imports.ensures) c.requires

@@ -1,5 +1,5 @@
 use Rattle.std.proofs.Common.{◌≡◌, map, not, take}
-use Rattle.go_model.specs.Paths.{has_path}
+use Rattle.go_module.specs.Modules.Paths.{has_path}
 use Rattle.go_load.proofs.columns.stubs.Given as goal
 
 abbrev pub invariant-loop-path : goal.invariant-loop-path

@@ -1,5 +1,5 @@
 use Rattle.std.proofs.Common.{◌≡◌, take}
-use Rattle.go_model.specs.Paths.{homes}
+use Rattle.go_module.specs.Modules.Paths.{homes}
 use Rattle.go_load.proofs.homes.homes.Given as goal
 
 abbrev pub invariant-loop-head : goal.invariant-loop-head

@@ -1,5 +1,5 @@
 use Rattle.std.proofs.Common.{◌≡◌, take}
-use Rattle.go_model.specs.Paths.{own_paths}
+use Rattle.go_module.specs.Modules.Paths.{own_paths}
 use Rattle.go_load.proofs.homes.own_paths.Given as goal
 
 abbrev pub invariant-loop-head : goal.invariant-loop-head

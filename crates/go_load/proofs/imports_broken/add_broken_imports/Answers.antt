@@ -1,6 +1,6 @@
 use Rattle.std.proofs.Common.{◌≡◌, ◌++◌, length, ap, ◌∙◌, arith}
 use Rattle.std.specs.List.{flat_map, range_with_len}
-use Rattle.go_model.specs.BrokenImports.{broken_if_reached}
+use Rattle.go_module.specs.Modules.BrokenImports.{broken_if_reached}
 use Rattle.go_load.proofs.BrokenLemmas.{packages_more}
 use Rattle.go_load.proofs.imports_broken.add_broken_imports.Goals as goal
 

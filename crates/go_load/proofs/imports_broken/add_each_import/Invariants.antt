@@ -1,6 +1,6 @@
 use Rattle.std.proofs.Common.{◌≡◌, ◌++◌, take}
 use Rattle.std.specs.List.{flat_map}
-use Rattle.go_model.specs.BrokenImports.{broken_import}
+use Rattle.go_module.specs.Modules.BrokenImports.{broken_import}
 use Rattle.go_load.proofs.imports_broken.add_each_import.Given as goal
 
 abbrev pub invariant-loop-import : goal.invariant-loop-import

@@ -1,6 +1,5 @@
 use Rattle.std.proofs.Common.{sym, ap, ◌∙◌}
-use Rattle.go_model.specs.Packages.{is_marked}
-use Rattle.go_load.specs.PathSets.{row_at}
+use Rattle.go_graph.specs.Graph.{is_marked, row_at}
 use Rattle.go_load.proofs.BrokenLemmas.{package_told}
 use Rattle.go_load.proofs.imports_broken.add_package.Goals as goal
 

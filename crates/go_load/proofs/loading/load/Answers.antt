@@ -1,5 +1,5 @@
 use Rattle.std.specs.Option.{option_copied}
-use Rattle.go_model.specs.Module.{module_view}
+use Rattle.go_module.specs.Modules.Module.{module_view}
 use Rattle.go_load.proofs.LoadLemmas.{loads_module, made_fault, ok_cases, err_cases}
 use Rattle.go_load.proofs.loading.load.Goals as goal
 

@@ -1,5 +1,5 @@
 use Rattle.std.proofs.Common.{◌≡◌, ◌++◌, take}
-use Rattle.go_model.specs.Packages.{all_named}
+use Rattle.go_module.specs.Modules.Packages.{all_named}
 use Rattle.go_load.proofs.named.add_named.Given as goal
 
 abbrev pub invariant-loop-import : goal.invariant-loop-import

@@ -1,5 +1,5 @@
 use Rattle.std.proofs.Common.{◌≡◌, take}
-use Rattle.go_model.specs.Packages.{imports_of}
+use Rattle.go_module.specs.Modules.Packages.{imports_of}
 use Rattle.go_load.proofs.named.imports_of.Given as goal
 
 abbrev pub invariant-loop-file : goal.invariant-loop-file

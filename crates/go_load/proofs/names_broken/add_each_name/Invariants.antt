@@ -1,5 +1,6 @@
 use Rattle.std.proofs.Common.{◌≡◌, ◌++◌, map, take}
-use Rattle.go_model.specs.BrokenImports.{broken_at, mixed_package, name_place}
+use Rattle.go_module.specs.Broken.{broken_at}
+use Rattle.go_module.specs.Modules.BrokenImports.{mixed_package, name_place}
 use Rattle.go_load.proofs.names_broken.add_each_name.Given as goal
 
 abbrev pub invariant-loop-file : goal.invariant-loop-file

@@ -1,7 +1,6 @@
 use Rattle.std.proofs.Common.{◌≡◌, ◌<◌, List, Option, ℕ, get_or, length, refl, ap, ◌∙◌, arith}
 use Rattle.go_load.specs.Assembly.{put_first}
-use Rattle.go_load.proofs.ImporterLemmas.{written_whole}
-use Rattle.go_load.proofs.OrderPlaceLemmas.{place_more}
+use Rattle.go_load.proofs.OrderPlaceLemmas.{place_more, written_whole}
 use Rattle.go_load.proofs.order_places.places_of.Goals as goal
 
 pub loop-place-preserved : goal.loop-place-preserved

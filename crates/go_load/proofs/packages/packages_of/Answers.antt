@@ -1,6 +1,6 @@
 use Rattle.std.proofs.Common.{ap, sym, subst, ◌∙◌}
-use Rattle.go_model.specs.Paths.{has_path}
-use Rattle.go_model.specs.Packages.{PackageTable, IsTableOf}
+use Rattle.go_module.specs.Modules.Paths.{has_path}
+use Rattle.go_module.specs.Modules.Packages.{PackageTable, IsTableOf}
 use Rattle.go_load.proofs.TableLemmas.{table_of}
 use Rattle.go_load.proofs.packages.packages_of.Goals as goal
 

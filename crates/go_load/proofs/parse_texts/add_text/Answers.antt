@@ -1,5 +1,5 @@
 use Rattle.std.proofs.Common.{ap, ◌∙◌, map}
-use Rattle.go_model.specs.Loading.{placed_in}
+use Rattle.go_module.specs.Places.{placed_in}
 use Rattle.go_load.proofs.ParsedLemmas.{adds-tree, adds-rules}
 use Rattle.go_load.proofs.parse_texts.add_text.Goals as goal
 

@@ -1,5 +1,5 @@
 use Rattle.std.proofs.Common.{◌≡◌, ◌++◌, map, take}
-use Rattle.go_model.specs.Loading.{placed_in}
+use Rattle.go_module.specs.Places.{placed_in}
 use Rattle.go_load.proofs.places.add_each.Given as goal
 
 abbrev pub invariant-loop-broken : goal.invariant-loop-broken

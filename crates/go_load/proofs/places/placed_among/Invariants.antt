@@ -1,5 +1,5 @@
 use Rattle.std.proofs.Common.{◌≡◌, ◌++◌, ◌≤◌, ◌-◌, drop, length, map}
-use Rattle.go_model.specs.Loading.{placed_among}
+use Rattle.go_module.specs.Places.{placed_among}
 use Rattle.go_load.proofs.places.placed_among.Given as goal
 
 -- those so far and those of what is left are those of all

@@ -1,5 +1,5 @@
 use Rattle.std.proofs.Common.{◌≡◌, ◌++◌, drop, map}
-use Rattle.go_model.specs.Module.{file_view}
+use Rattle.go_module.specs.Modules.Module.{file_view}
 use Rattle.go_load.specs.Assembly.{cleared, files_left, taken}
 use Rattle.go_load.proofs.slots.take_files.Given as goal
 

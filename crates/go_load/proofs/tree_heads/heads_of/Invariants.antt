@@ -1,5 +1,5 @@
 use Rattle.std.proofs.Common.{take}
-use Rattle.go_model.specs.Module.{AreHeads}
+use Rattle.go_module.specs.Modules.Module.{AreHeads}
 use Rattle.go_load.specs.Trees.{trees_in}
 use Rattle.go_load.proofs.tree_heads.heads_of.Given as goal
 

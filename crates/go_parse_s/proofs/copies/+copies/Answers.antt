@@ -2,7 +2,7 @@ use Rattle.std.proofs.Common.{rules, ◌<◌, ◌≤◌, length, map, ap, sym, �
 use Rattle.go_tree.specs.declared.node.Node.{Node}
 use Rattle.go_tree.specs.Tree.{no_trees, tree_of, trees_of, node_count}
 use Rattle.go_tree.proofs.TreeLemmas.{part_within}
-use Rattle.go_parse_s.specs.Copies.{completed, list_behind}
+use Rattle.go_text.specs.Copies.{completed, list_behind}
 use Rattle.go_parse_s.proofs.WalkLemmas.{step_trees, all_trees}
 use Rattle.go_parse_s.proofs.CopyLemmas.{alone, nothing, in_group, list_after, all-walk, specs-walk}
 use Rattle.go_parse_s.proofs.copies.+copies.Goals as goal

@@ -3,7 +3,7 @@ use Rattle.std.proofs.lemmas.List.{length-map}
 use Rattle.go_tree.specs.declared.node.Node.{Node}
 use Rattle.go_tree.specs.declared.node.Node.TheViews.{out-Node}
 use Rattle.go_tree.specs.Tree.{Tree, branch, tree_of, trees_of, list_of}
-use Rattle.go_parse_s.specs.Copies.{completed, list_behind, copy_if_any}
+use Rattle.go_text.specs.Copies.{completed, list_behind, copy_if_any}
 use Rattle.go_parse_s.proofs.CopyLemmas.{rolled, opened, completed_alone, behind_alone, behind_own_parts}
 use Rattle.go_parse_s.proofs.copies.complete.Goals as goal
 

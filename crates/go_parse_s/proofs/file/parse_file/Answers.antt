@@ -20,7 +20,7 @@ pub returns-clause-file : goal.returns-clause-file
 returns-clause-file c =
     let s = c.new-cursor.ensures.start in
     let from : spot_of c.new-cursor.result ≡ start = let at = s.1 in let last = s.2 in cc in
-    file_from _ _ _ _ _ _ _ _ c.in-Ok.root _ s.0 c.of_file-pending.ensures.file.1 from c.in-Ok.ensures.answer c.in-Ok-finished.ensures
+    file_from _ _ _ _ _ _ _ _ c.in-Ok.root _ s.0 c.of_file-pending.ensures.file.1 from c.in-Ok.ensures.answer c.in-Ok-finished.ensures.tree
 
 pub returns-clause-start : goal.returns-clause-start
 returns-clause-start c = file_gap _ _ _ (returns-clause-file c)

@@ -2,7 +2,7 @@ use Rattle.std.proofs.Common.{rules, ◌<◌, ◌≤◌, List, length, map, ap, 
 use Rattle.go_tree.specs.declared.node.Node.{Node}
 use Rattle.go_tree.specs.Tree.{tree_of, trees_of, node_count, node_count_of_all}
 use Rattle.go_tree.proofs.TreeLemmas.{part_within, tree_of-out}
-use Rattle.go_parse_s.specs.Numbers.{numbered}
+use Rattle.go_text.specs.Numbers.{numbered}
 use Rattle.go_parse_s.proofs.WalkLemmas.{count_on, step_trees, step_seen, all_trees, all_seen, all_numbered-walk, count-walk}
 use Rattle.go_parse_s.proofs.numbers.+number.Goals as goal
 

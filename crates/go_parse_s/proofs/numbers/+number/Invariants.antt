@@ -1,6 +1,6 @@
 use Rattle.std.proofs.Common.{◌≡◌, ◌+◌, ◌*◌, map}
 use Rattle.go_tree.specs.Tree.{tree_of, trees_of, node_count, node_count_of_all}
-use Rattle.go_parse_s.specs.Numbers.{numbered}
+use Rattle.go_text.specs.Numbers.{numbered}
 use Rattle.go_parse_s.proofs.WalkLemmas.{trees_behind, seen_behind, count_on}
 use Rattle.go_parse_s.proofs.numbers.+number.Given as goal
 

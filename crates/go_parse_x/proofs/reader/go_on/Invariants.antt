@@ -4,7 +4,7 @@ use Rattle.go_tree.specs.declared.token.Token.{Token}
 use Rattle.go_scan.specs.Weight.{scan_weight}
 use Rattle.go_parse_x.specs.Lines.{sides}
 use Rattle.go_parse_x.specs.Pieces.{PassesNoBlock, open_view, IsOpen}
-use Rattle.go_parse_x.specs.Texts.{Stand}
+use Rattle.go_tree.specs.Scan.{Stand}
 use Rattle.go_parse_x.specs.Turns.{IsSolid}
 use Rattle.go_parse_x.proofs.reader.go_on.Given as goal
 

@@ -46,6 +46,7 @@ loop-lex-preserved c =
     let x = passed_so _ _ _ z.0 c.in-Ok.token _ _ _ (spot_of c.loop-lex.cursor) (spot_of c.one_token.new.cursor) i.text z.1 c.in-Ok.ensures.token more w.0 w.2 in
     record {
       text = d.text.0 ∙ i.text;
+      same_fault = d.text.1 ∙ i.same_fault;
       same_piece = (d.piece.0 ∙ i.same_piece.0, d.piece.1 ∙ i.same_piece.1);
       still_open = (x.0, x.1, rw d.text.0 x.2);
     }

@@ -1,7 +1,8 @@
 use Rattle.std.proofs.Common.{◌+◌, ◌≤◌, length, sym, ◌∙◌, arith}
 use Rattle.go_tree.specs.Characters.{none}
-use Rattle.go_scan.proofs.RunLemmas.{run_from}
-use Rattle.go_scan.proofs.CommentLemmas.{opens_general_within, closes_within, closing, open_first, inside_on, inside_moves, general_stuck, general_none, open_short, not_closing}
+use Rattle.go_tree.proofs.CharacterRunLemmas.{run_from}
+use Rattle.go_tree.proofs.SpaceLemmas.{opens_general_within, closes_within}
+use Rattle.go_scan.proofs.CommentLemmas.{closing, open_first, inside_on, inside_moves, general_stuck, general_none, open_short, not_closing}
 use Rattle.go_scan.proofs.comments.general_comment.Goals as goal
 
 pub loop-from-init : goal.loop-from-init

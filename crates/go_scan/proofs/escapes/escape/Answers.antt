@@ -5,7 +5,7 @@ use Rattle.go_tree.specs.Numbers.{is_octal}
 use Rattle.go_scan.specs.declared.escapes.Digits.{Digits}
 use Rattle.go_scan.specs.declared.escapes.Digits.TheVariants.{Octal, Byte, Little, Big}
 use Rattle.go_scan.specs.Escapes.{AreDigits, Stops, IsEscape, IsQuote}
-use Rattle.go_scan.proofs.ByteLemmas.{there}
+use Rattle.go_tree.proofs.ByteLemmas.{there}
 use Rattle.go_scan.proofs.EscapeLemmas.{IsMark, simple_is, stops_octal, stops_marked, stops_none, whole_simple, whole_marked}
 use Rattle.go_scan.proofs.escapes.escape.Goals as goal
 

@@ -1,5 +1,6 @@
 use Rattle.std.proofs.Common.{◌≡◌, ◌+◌, ℕ, ◌≤◌, refl, arith}
-use Rattle.go_scan.proofs.SpaceLemmas.{mark_lies, no_space_by_char, no_space_by_none}
+use Rattle.go_tree.proofs.SpaceLemmas.{mark_lies}
+use Rattle.go_scan.proofs.SpaceLemmas.{no_space_by_char, no_space_by_none}
 use Rattle.go_scan.proofs.gap.mark_end.Goals as goal
 
 first : (at : ℕ) → at ≤ 0 → at ≡ 0

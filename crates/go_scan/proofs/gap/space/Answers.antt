@@ -1,5 +1,5 @@
 use Rattle.std.proofs.Common.{sym, ◌∙◌}
-use Rattle.go_scan.proofs.SpaceLemmas.{blank_lies}
+use Rattle.go_tree.proofs.SpaceLemmas.{blank_lies}
 use Rattle.go_scan.proofs.gap.space.Goals as goal
 
 pub returns-then-is_blank-clause-space : goal.returns-then-is_blank-clause-space

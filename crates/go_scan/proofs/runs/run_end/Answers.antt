@@ -1,7 +1,7 @@
 use Rattle.std.proofs.Common.{sym, ◌∙◌, arith}
 use Rattle.go_tree.specs.Characters.{none}
 use Rattle.go_scan.specs.Runs.{passes_of}
-use Rattle.go_scan.proofs.RunLemmas.{More, one_more}
+use Rattle.go_tree.proofs.CharacterRunLemmas.{More, one_more}
 use Rattle.go_scan.proofs.runs.run_end.Goals as goal
 
 step : (c : goal.Then-passes) → More (passes_of c.args.test) c.args.bytes.now c.args.from c.loop-c.at c.in-Some.size

@@ -1,10 +1,10 @@
 use Rattle.std.proofs.Common.{◌≢◌, rules}
 use Rattle.go_tree.specs.declared.token.TokenKind.TheVariants.{End}
-use Rattle.go_scan.proofs.ScanLemmas.{one_taken, none_taken}
+use Rattle.go_scan.proofs.ScanLemmas.{one_taken, ends_early}
 use Rattle.go_scan.proofs.token_list.tokens.Goals as goal
 
 pub returns-in-Err-clause-none : goal.returns-in-Err-clause-none
-returns-in-Err-clause-none c = none_taken c.args.bytes.now c.loop-token.at c.loop-token.last c.loop-token.tokens.items c.loop-token.invariant.taken c.in-Err.ensures.no_token
+returns-in-Err-clause-none c = ends_early c.args.bytes.now c.loop-token.at c.loop-token.last c.loop-token.tokens.items c.in-Err.lex c.loop-token.invariant.taken (c.in-Err.ensures.no_token, c.in-Err.ensures.rule)
 
 pub loop-token-preserved : goal.loop-token-preserved
 loop-token-preserved c =

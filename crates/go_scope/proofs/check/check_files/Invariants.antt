@@ -1,5 +1,5 @@
 use Rattle.std.proofs.Common.{◌≡◌, ◌++◌, map, drop}
-use Rattle.go_model.specs.Module.{file_view}
+use Rattle.go_module.specs.Modules.Module.{file_view}
 use Rattle.go_scope.specs.Blocks.{block_of}
 use Rattle.go_scope.specs.Checked.{broken_from, resolved_from}
 use Rattle.go_scope.specs.Known.{known_by}

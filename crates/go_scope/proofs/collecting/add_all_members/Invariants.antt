@@ -1,7 +1,7 @@
 use Rattle.std.proofs.Common.{◌≡◌, map, take}
 use Rattle.std.specs.List.{flat_map}
 use Rattle.indexmap.specs.IndexMap.{insert_all}
-use Rattle.go_model.specs.Scopes.{same_object}
+use Rattle.go_module.specs.Scopes.{same_object}
 use Rattle.go_scope.specs.Checked.{all_of}
 use Rattle.go_scope.specs.Known.{known_by}
 use Rattle.go_scope.specs.Resolved.{member_entry, members_by}

@@ -1,8 +1,8 @@
 use Rattle.std.proofs.Common.{◌≡◌, take}
 use Rattle.std.specs.List.{flat_map}
 use Rattle.indexmap.specs.IndexMap.{insert_all}
-use Rattle.go_model.specs.Names.Tables.{region_entries}
-use Rattle.go_model.specs.Scopes.{same_object}
+use Rattle.go_module.specs.Names.Tables.{region_entries}
+use Rattle.go_module.specs.Scopes.{same_object}
 use Rattle.go_scope.proofs.collecting.add_block_objects.Given as goal
 
 abbrev pub invariant-loop-block : goal.invariant-loop-block

@@ -1,7 +1,7 @@
 use Rattle.std.proofs.Common.{◌≡◌, ◌++◌, map, drop}
 use Rattle.std.specs.List.{flat_map}
 use Rattle.go_tree.specs.Tree.{tree_of}
-use Rattle.go_model.specs.Names.Constants as spec
+use Rattle.go_module.specs.Names.Constants as spec
 use Rattle.go_scope.proofs.constants.add_file.Given as goal
 
 -- what is pushed, with the constants of the declarations left, are those of all declarations

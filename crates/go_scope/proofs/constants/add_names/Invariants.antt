@@ -1,7 +1,7 @@
 use Rattle.std.proofs.Common.{◌≡◌, ◌++◌, not, map, filter, drop}
 use Rattle.go_tree.specs.Tree.{tree_of}
-use Rattle.go_model.specs.Names.Constants as spec
-use Rattle.go_model.specs.Names.Exported as exported
+use Rattle.go_module.specs.Names.Constants as spec
+use Rattle.go_module.specs.Names.Exported as exported
 use Rattle.go_scope.proofs.constants.add_names.Given as goal
 
 -- what is pushed, with the constants of the names left, are those of all names

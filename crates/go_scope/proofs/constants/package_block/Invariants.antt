@@ -1,6 +1,6 @@
 use Rattle.std.proofs.Common.{◌≡◌, ◌++◌, map, drop}
-use Rattle.go_model.specs.Module.{file_view}
-use Rattle.go_model.specs.Names.Constants as spec
+use Rattle.go_module.specs.Modules.Module.{file_view}
+use Rattle.go_module.specs.Names.Constants as spec
 use Rattle.go_scope.proofs.constants.package_block.Given as goal
 
 -- what is pushed, with the constants of the files left, are those of all files

@@ -1,5 +1,5 @@
 use Rattle.std.proofs.Common.{◌≤◌, min, length, arith}
-use Rattle.go_model.specs.Names.Imports as rule
+use Rattle.go_module.specs.Names.Imports as rule
 use Rattle.go_scope.specs.Known.{known_by}
 use Rattle.go_scope.proofs.ImportLemmas.{imports_done}
 use Rattle.go_scope.proofs.file_block.file_block.Goals as goal

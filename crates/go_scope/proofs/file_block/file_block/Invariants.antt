@@ -1,6 +1,6 @@
 use Rattle.std.proofs.Common.{◌≡◌, ◌++◌, drop}
 use Rattle.std.specs.List.{flat_map}
-use Rattle.go_model.specs.Names.Imports as rule
+use Rattle.go_module.specs.Names.Imports as rule
 use Rattle.go_scope.specs.Blocks.{trees_at}
 use Rattle.go_scope.specs.Known.{known_by}
 use Rattle.go_scope.proofs.file_block.file_block.Given as goal

@@ -1,6 +1,6 @@
 use Rattle.std.proofs.Common.{◌≡◌, ◌++◌, map, drop}
-use Rattle.go_model.specs.Module.{file_view}
-use Rattle.go_model.specs.Names.Imports as rule
+use Rattle.go_module.specs.Modules.Module.{file_view}
+use Rattle.go_module.specs.Names.Imports as rule
 use Rattle.go_scope.specs.Blocks.{block_data, block_of}
 use Rattle.go_scope.specs.Known.{known_by}
 use Rattle.go_scope.proofs.file_block.file_blocks.Given as goal

@@ -1,6 +1,6 @@
 use Rattle.std.proofs.Common.{arith, ◌&&◌, ◌||◌, ap, ◌∙◌}
 use Rattle.indexmap.specs.IndexSet.{contains}
-use Rattle.go_model.specs.Scopes.{same_node}
+use Rattle.go_module.specs.Scopes.{same_node}
 use Rattle.go_scope.specs.Marks.{is_import, marks_repeat}
 use Rattle.go_scope.proofs.ListLemmas.{any_step}
 use Rattle.go_scope.proofs.import_rules.repeated_imports.Goals as goal

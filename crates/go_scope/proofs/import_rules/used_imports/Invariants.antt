@@ -2,7 +2,7 @@ use Rattle.std.proofs.Common.{◌≡◌, take}
 use Rattle.std.specs.List.{list_any}
 use Rattle.indexmap.specs.IndexSet.{contains}
 use Rattle.go_tree.specs.declared.node.NodeId.{NodeId}
-use Rattle.go_model.specs.Scopes.{same_node}
+use Rattle.go_module.specs.Scopes.{same_node}
 use Rattle.go_scope.specs.Resolved as spec
 use Rattle.go_scope.proofs.import_rules.used_imports.Given as goal
 

@@ -4,8 +4,8 @@ use Rattle.std.proofs.lemmas.List.{append-nil}
 use Rattle.std.proofs.lemmas.Option.{slice_get_past}
 use Rattle.std.proofs.lemmas.Map.Iter.{rest_more}
 use Rattle.go_tree.specs.Tree.{tree_of}
-use Rattle.go_model.specs.Names.Exported as exported
-use Rattle.go_model.specs.Names.Imports as rule
+use Rattle.go_module.specs.Names.Exported as exported
+use Rattle.go_module.specs.Names.Imports as rule
 use Rattle.go_scope.specs.Known.{importing}
 use Rattle.go_scope.proofs.ImportLemmas.{export_more}
 use Rattle.go_scope.proofs.imports.add_exports.Goals as goal

@@ -1,7 +1,7 @@
 use Rattle.std.proofs.Common.{◌≡◌, ◌++◌, map, filter}
 use Rattle.go_tree.specs.Tree.{tree_of}
-use Rattle.go_model.specs.Names.Exported as exported
-use Rattle.go_model.specs.Names.Imports as rule
+use Rattle.go_module.specs.Names.Exported as exported
+use Rattle.go_module.specs.Names.Imports as rule
 use Rattle.go_scope.specs.Known.{known_by, importing}
 use Rattle.go_scope.proofs.imports.add_exports.Given as goal
 

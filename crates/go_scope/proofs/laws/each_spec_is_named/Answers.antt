@@ -2,4 +2,4 @@ use Rattle.go_scope.proofs.WholeImportLemmas.{whole_imports}
 use Rattle.go_scope.proofs.laws.each_spec_is_named.Goals as goal
 
 pub returns : goal.returns
-returns c = λ own stubs m k p is at. whole_imports own stubs m is k p at
+returns c = λ m k p is at. whole_imports m is k p at

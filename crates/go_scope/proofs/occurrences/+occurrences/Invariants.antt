@@ -1,6 +1,6 @@
 use Rattle.std.proofs.Common.{◌≡◌, ◌+◌, ◌*◌, ◌++◌, map, drop}
 use Rattle.go_tree.specs.Tree.{tree_of, trees_of, node_count, node_count_of_all}
-use Rattle.go_model.specs.Names.Occurrences as spec
+use Rattle.go_module.specs.Names.Occurrences as spec
 use Rattle.go_scope.proofs.occurrences.+occurrences.Given as goal
 
 abbrev pub decreases-add_occurrences : goal.decreases-add_occurrences

@@ -1,7 +1,7 @@
 use Rattle.std.proofs.Common.{◌≡◌, ◌++◌, map, drop}
 use Rattle.std.specs.List.{flat_map}
 use Rattle.go_tree.specs.Tree.{tree_of}
-use Rattle.go_model.specs.Names.Occurrences as spec
+use Rattle.go_module.specs.Names.Occurrences as spec
 use Rattle.go_scope.proofs.occurrences.add_each.Given as goal
 
 -- what is found, with what occurs in the nodes left, occurs in all nodes

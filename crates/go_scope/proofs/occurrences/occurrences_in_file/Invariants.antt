@@ -1,8 +1,8 @@
 use Rattle.std.proofs.Common.{◌≡◌, ◌++◌, map, drop}
 use Rattle.std.specs.List.{flat_map}
 use Rattle.go_tree.specs.Tree.{tree_of}
-use Rattle.go_model.specs.Names.Constants.{const_specs_in}
-use Rattle.go_model.specs.Names.Occurrences as spec
+use Rattle.go_module.specs.Names.Constants.{const_specs_in}
+use Rattle.go_module.specs.Names.Occurrences as spec
 use Rattle.go_scope.proofs.occurrences.occurrences_in_file.Given as goal
 
 -- what is found, with what occurs in the declarations left, occurs in all declarations

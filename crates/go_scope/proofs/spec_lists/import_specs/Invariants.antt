@@ -1,7 +1,7 @@
 use Rattle.std.proofs.Common.{◌≡◌, ◌++◌, map, drop}
 use Rattle.std.specs.List.{flat_map}
 use Rattle.go_tree.specs.Tree.{tree_of}
-use Rattle.go_model.specs.Heads as heads
+use Rattle.go_module.specs.Modules.Heads as heads
 use Rattle.go_scope.specs.Blocks.{trees_at}
 use Rattle.go_scope.proofs.spec_lists.import_specs.Given as goal
 

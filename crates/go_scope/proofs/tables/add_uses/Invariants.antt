@@ -1,7 +1,7 @@
 use Rattle.std.proofs.Common.{◌≡◌, take}
 use Rattle.std.specs.List.{flat_map}
 use Rattle.indexmap.specs.IndexMap.{insert_all}
-use Rattle.go_model.specs.Scopes.{same_node}
+use Rattle.go_module.specs.Scopes.{same_node}
 use Rattle.go_scope.specs.Known.{known_by}
 use Rattle.go_scope.specs.Resolved.{pairs_by}
 use Rattle.go_scope.proofs.tables.add_uses.Given as goal

@@ -1,5 +1,5 @@
 use Rattle.std.proofs.Common.{◌≡◌, take}
-use Rattle.go_model.specs.Names.Constants as constants
+use Rattle.go_module.specs.Names.Constants as constants
 use Rattle.go_scope.proofs.tables.names_of.Given as goal
 
 abbrev pub invariant-loop-region : goal.invariant-loop-region

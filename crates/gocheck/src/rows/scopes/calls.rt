@@ -1,7 +1,7 @@
 // Each call once, where memory suffices.
 use super::{collected, loaded};
 use go_base::Name;
-use go_model::{Module, ObjId, ObjKind, Scopes};
+use go_module::{Module, ObjId, ObjKind, Scopes};
 use go_tree::{NodeId, NodeKind, find};
 use std::alloc::{AllocError, Global};
 use std::test::Fail;

@@ -1,6 +1,6 @@
 // Names of the universe.
 use super::{File, LEFT, told};
-use go_model::PREDECLARED;
+use go_module::PREDECLARED;
 use std::test::Fail;
 
 const COMPLEX: [&str; 5] = ["complex64", "complex128", "complex", "real", "imag"];
@@ -57,7 +57,7 @@ fn complex_numbers_are_not_checked(rt: HostRuntime) -> Result<(), Fail> {
 #[test]
 fn each_predeclared_identifier_denotes_something(rt: HostRuntime) -> Result<(), Fail> {
     let alloc = rt.alloc();
-    for name in &PREDECLARED {
+    for (name, _) in &PREDECLARED {
         let source = format!(in alloc; "package p\n\nconst A = {name}\n")?;
         let text = told(alloc, &[("a.go", source.as_str())])?;
         let wanted = if COMPLEX.contains(name) {

@@ -1,5 +1,5 @@
 use Rattle.std.proofs.Common.{ap, ◌∙◌}
-use Rattle.go_model.specs.Paths.{has_path}
+use Rattle.go_module.specs.Modules.Paths.{has_path}
 use Rattle.go_load.proofs.PathSetLemmas.{has-keys}
 use Rattle.go_load.proofs.path_set.PathSet.has.Goals as goal
 

@@ -8,7 +8,7 @@ pub returns : goal.returns
 returns c = λ bytes ts bs d h.
     let b = block_counts bytes ts bs d in
     record {
-      levels = rw b.0 (c.in_ok-braces.ensures (counted ts).marks h.levels);
+      levels = rw b.0 (c.braces.ensures (counted ts).marks h.levels);
       last = sym b.1;
       before = λ q. let brace : Some RightBrace ≡ Some Ident = sym b.1 ∙ q in cc;
     }

@@ -1,6 +1,6 @@
 use Rattle.std.proofs.Common.{ap, is_some, ◌∙◌}
 use Rattle.std.specs.List.{list_any}
-use Rattle.go_model.specs.Names.Regions.{has_name}
+use Rattle.go_module.specs.Names.Regions.{has_name}
 use Rattle.go_scope.proofs.HeldLemmas.{held_any}
 use Rattle.go_scope.proofs.held.Declared.has.Goals as goal
 

@@ -1,0 +1,4 @@
+pub mod BuildConstraintLemmas
+pub mod StatementLemmas
+pub mod UnbuiltLemmas
+pub mod WholeLemmas

@@ -1,0 +1,12 @@
+use Rattle.std.proofs.Common.{ℕ, ◌+◌, ◌≤◌, ◌-◌, length}
+use Rattle.go_tree.specs.Comments.{IsGeneralComment}
+use Rattle.go_form.proofs.build_constraints.general_end.Given as goal
+
+abbrev pub invariant-loop-at : goal.invariant-loop-at
+invariant-loop-at l = record {
+  behind : l.from + 2 ≤ l.at;
+  before : (to : ℕ) → IsGeneralComment l.bytes l.from to → l.at + 2 ≤ to;
+}
+
+abbrev pub decreases-loop-at : goal.decreases-loop-at
+decreases-loop-at l = length l.bytes - l.at

@@ -1,0 +1,9 @@
+use Rattle.std.proofs.Common.{◌≡◌, ◌++◌, map, drop}
+use Rattle.go_tree.specs.Tree.{tree_of, trees_of}
+use Rattle.go_form.specs.Nodes.{places_where}
+use Rattle.go_form.specs.StatementParts.{is_guard_expr}
+use Rattle.go_form.proofs.guards.push_guards.Given as goal
+
+abbrev pub invariant-loop-node : goal.invariant-loop-node
+invariant-loop-node l =
+    l.found.items ++ places_where is_guard_expr (trees_of (map tree_of (drop l.node-index l.nodes))) ≡ l.fn.found.items ++ places_where is_guard_expr (trees_of (map tree_of l.nodes))

@@ -1,0 +1,9 @@
+pub mod PlaceLemmas
+pub mod MarkLemmas
+pub mod ReachLemmas
+pub mod ComponentLemmas
+pub mod CycleLemmas
+pub mod TimesLemmas
+pub mod OrderLemmas
+pub mod PredecessorLemmas
+pub mod OpenEdgeLemmas

@@ -1,4 +1,0 @@
-use Rattle.go_load.proofs.components.find_components.Given as goal
-
-abbrev pub decreases-loop-steps : goal.decreases-loop-steps
-decreases-loop-steps l = l.steps

@@ -1,9 +1,0 @@
-use Rattle.std.proofs.Common.{◌≡◌, ◌++◌, map, drop}
-use Rattle.go_tree.specs.Tree.{tree_of, trees_of}
-use Rattle.go_model.specs.FormRules.StatementParts.{places_where}
-use Rattle.go_model.specs.FormRules.Statements.{is_no_switch_part}
-use Rattle.go_load.proofs.form.switch_statements.push_no_switch_parts.Given as goal
-
-abbrev pub invariant-loop-node : goal.invariant-loop-node
-invariant-loop-node l =
-    l.found.items ++ places_where is_no_switch_part (trees_of (map tree_of (drop l.node-index l.nodes))) ≡ l.fn.found.items ++ places_where is_no_switch_part (trees_of (map tree_of l.nodes))

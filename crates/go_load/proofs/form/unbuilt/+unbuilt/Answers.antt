@@ -1,8 +1,0 @@
-use Rattle.std.proofs.Common.{arith}
-use Rattle.go_tree.proofs.TreeLemmas.{part_within}
-use Rattle.go_load.proofs.form.unbuilt.+unbuilt.Goals as goal
-
-pub unbuilt_among-unbuilt-requires : goal.unbuilt_among-unbuilt-requires
-unbuilt_among-unbuilt-requires t c =
-    let within = part_within c.args.nodes.now c.loop-node.node-index c.node-item.result (omega arith) c.node-item.is in
-    (omega (arith, within, c.decreases), tt)

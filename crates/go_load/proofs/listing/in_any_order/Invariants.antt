@@ -1,7 +1,0 @@
-use Rattle.std.proofs.Common.{◌≡◌, take}
-use Rattle.std.specs.Prelude.{filter}
-use Rattle.go_model.specs.Listing.{counts}
-use Rattle.go_load.proofs.listing.in_any_order.Given as goal
-
-abbrev pub invariant-loop-path : goal.invariant-loop-path
-invariant-loop-path l = l.files.items ≡ filter (counts l.paths) (take l.path-index l.paths)

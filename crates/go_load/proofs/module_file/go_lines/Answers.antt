@@ -1,7 +1,0 @@
-use Rattle.go_model.specs.LanguageVersion.{go_version}
-use Rattle.go_load.proofs.DeclaredLemmas.{declared_step}
-use Rattle.go_load.proofs.module_file.go_lines.Goals as goal
-
-pub loop-line-preserved : goal.loop-line-preserved
-loop-line-preserved c =
-    declared_step go_version c.args.lines.now c.loop-line.line-index _ _ _ _ _ c.loop-line-test.true c.go_version.ensures c.in_ok-push_declared.ensures c.loop-line.invariant

@@ -1,7 +1,0 @@
--- Lines as the code holds them.
-use Rattle.go_load.specs.declared.module_lines.Line.{Line}
-use Rattle.go_model.specs.ModuleLines.{Placed}
-
--- a line without where it lies in memory
-abbrev pub seen : Line → Placed
-seen line = record { offset = line.offset; text = line.text.now }

@@ -1,0 +1,12 @@
+-- modules: their packages, files, imports and import order
+pub mod Modules
+-- the names of a package
+pub mod Names
+pub mod Scopes
+-- broken rules: their lists in order, and their places in a report
+pub mod Order
+pub mod Broken
+pub mod Rules
+pub mod Places
+-- parts of nodes
+pub mod NodeParts

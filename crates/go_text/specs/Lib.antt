@@ -1,0 +1,5 @@
+pub mod Files
+pub mod Faults
+pub mod Copies
+pub mod CopyCount
+pub mod Numbers
