@@ -4,10 +4,10 @@
 usage: bench/lines.py [--check]
 
 Reads the productions of crates/go_tree: their names in src/production.rt, their right sides in
-specs/Grammar, and the tokens that each begins with (First). Sets of tokens that have a name in
+specs/Grammar, and the tokens that each begins with (Tables/First). Sets of tokens that have a name in
 crates/go_parse_x/src/start_sets.rt are written by it. Writes in
 crates/go_parse_x: src/file_lines.rt, src/declaration_lines.rt, src/type_lines.rt, src/expression_lines.rt,
-src/statement_lines.rt, src/lines.rt, and the table `weight` in specs/Weights.antt. With --check it writes
+src/statement_lines.rt, src/lines.rt, and the table `weight` in specs/Machine/Weights.antt. With --check it writes
 nothing, and ends with status 1 where a file is not as it would write it.
 
 Nothing here is trusted: that each line stands for its production, that the sets beside its steps are
@@ -22,7 +22,9 @@ from pathlib import Path
 CRATES = Path(__file__).resolve().parent.parent / 'crates'
 GRAMMAR = CRATES / 'go_tree' / 'specs' / 'Grammar'
 PARSER = CRATES / 'go_parse_x'
-READ = ['Words', 'File', 'Declarations', 'Types', 'Expressions', 'Statements', 'Sentence', 'TokenKinds', 'TokenLists', 'First']
+READ = ['Words', 'File', 'Declarations', 'Types', 'Expressions', 'Statements', 'Trees/Sentence', 'Tables/TokenKinds',
+        'Tables/TokenLists', 'Tables/First']
+WEIGHTS = 'specs/Machine/Weights.antt'
 SECTIONS = ['file', 'declaration', 'type', 'expression', 'statement']
 STRENGTH = {'•': 30, '∷': 30, 'or': 20}
 WORD = re.compile(r'\s*(\[\]|[()•∷=]|[A-Za-z_][\w.]*)\s*')
@@ -315,9 +317,9 @@ def arms_text():
 LINES = """\
 // The line of each production. Written by bench/lines.py.
 ghost use Rattle.std.specs.Prelude.{◌≡◌, true};
-ghost use Rattle.go_tree.specs.Grammar.Sentence.{production};
-ghost use Rattle.go_parse_x.specs.Leads.{all_led};
-ghost use Rattle.go_parse_x.specs.Lines.{side_at};
+ghost use Rattle.go_tree.specs.Grammar.Trees.Sentence.{production};
+ghost use Rattle.go_parse_x.specs.Tables.Leads.{all_led};
+ghost use Rattle.go_parse_x.specs.Tables.Lines.{side_at};
 
 use crate::line::Step;
 use crate::{MODULES};
@@ -349,7 +351,7 @@ def weight_patterns():
 
 
 def weights_text():
-    text = (PARSER / 'specs' / 'Weights.antt').read_text()
+    text = (PARSER / WEIGHTS).read_text()
     patterns = list(weight_patterns())
     common = Counter(value for _, value in patterns).most_common(1)[0][0]
     rows = [f'weight {pattern} = {value}\n' for pattern, value in patterns if value != common]
@@ -361,7 +363,7 @@ def weights_text():
 def main():
     texts = {f'src/{section}_lines.rt': section_text(section) for section in SECTIONS}
     texts['src/lines.rt'] = arms_text()
-    texts['specs/Weights.antt'] = weights_text()
+    texts[WEIGHTS] = weights_text()
     differs = False
     for name, text in texts.items():
         path = PARSER / name

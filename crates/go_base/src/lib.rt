@@ -9,6 +9,7 @@ mod rule;
 mod status;
 
 // Bytes and texts.
+mod blanks;
 mod bytes;
 mod name;
 mod no_memory;
@@ -30,6 +31,7 @@ mod tree;
 // Steps.
 mod steps;
 
+pub use blanks::is_blank;
 pub use bytes::Bytes;
 pub use files::has_distinct_paths;
 pub use folder_tree::FolderTree;

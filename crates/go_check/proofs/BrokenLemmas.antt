@@ -7,10 +7,10 @@ use Rattle.go_tree.specs.Tree.{Tree, branch, Trees, no_trees, more_trees, id_of,
 use Rattle.go_model.specs.declared.meaning.Meaning.{Meaning}
 use Rattle.go_model.specs.declared.meaning.Meaning.TheVariants.{Own, Outer, Predeclared, Other}
 use Rattle.go_module.specs.Rules.{unbuilt_form}
-use Rattle.go_model.specs.Quests.{run}
-use Rattle.go_model.specs.Records.{Headers, record_of}
-use Rattle.go_model.specs.Rules.{broken_in, broken_among, told_at, rule_at}
-use Rattle.go_model.specs.Tests.{name_test, selector_test, asked_of}
+use Rattle.go_model.specs.Values.Quests.{run}
+use Rattle.go_model.specs.Values.Records.{Headers, record_of}
+use Rattle.go_model.specs.Values.Rules.{broken_in, broken_among, told_at, rule_at}
+use Rattle.go_model.specs.Values.Tests.{name_test, selector_test, asked_of}
 
 -- an identifier alone is told as a selector is whose operand has no record
 pub told-name : (headers : Headers) (file from : ℕ) (rule : Rule) (m : Meaning) → told_at file from rule (option_map (run headers) (selector_test m None)) ≡ told_at file from rule (Some (run headers (name_test m)))

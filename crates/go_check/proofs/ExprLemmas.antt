@@ -4,11 +4,11 @@ use Rattle.std.proofs.lemmas.List.{append-nil, reverse-append}
 use Rattle.go_tree.specs.declared.node_kind.NodeKind.TheVariants.{AddExpr, ParenExpr, SelectorExpr}
 use Rattle.go_tree.specs.Tree.{Tree, branch, no_trees, more_trees, kind_of, parts_of, start_of, end_of}
 use Rattle.go_model.specs.declared.meaning.Meaning.{Meaning}
-use Rattle.go_model.specs.declared.records.Line.{Line}
+use Rattle.go_model.specs.declared.lines.Line.{Line}
 use Rattle.go_module.specs.Modules.Module.{FileData}
 use Rattle.go_model.specs.PackageLines.{expr_at, exprs_in, exprs_among}
-use Rattle.go_model.specs.Records.{Headers, record_of}
-use Rattle.go_check.specs.Texts.{exprs_inside}
+use Rattle.go_model.specs.Values.Records.{Headers, record_of}
+use Rattle.go_check.specs.LinedFiles.{exprs_inside}
 
 -- the lines of a node are its own and those inside it
 split : (stub : Bool) (f : FileData) (means : ℕ → Meaning) (headers : Headers) (t : Tree) → exprs_in stub f means headers t ≡ expr_at stub f (start_of t) (end_of t) (record_of means headers t) ++ exprs_inside stub f means headers t

@@ -5,7 +5,7 @@ pub mod PlaceLemmas
 pub mod ResultLemmas
 pub mod RoundLemmas
 pub mod StateLemmas
-pub mod TextLemmas
+pub mod LinedFileLemmas
 pub mod ValueLemmas
 pub mod VerdictLemmas
 pub mod WaitLemmas

@@ -8,21 +8,21 @@ use Rattle.go_tree.specs.declared.node.NodeId.{NodeId}
 use Rattle.go_tree.specs.Tree.{Tree, parts_of, tree_of}
 use Rattle.go_model.specs.declared.meaning.Meaning.{Meaning}
 use Rattle.go_module.specs.declared.object.ObjId.{ObjId}
-use Rattle.go_model.specs.declared.records.Line.{Line}
-use Rattle.go_model.specs.Constants.{Constant, bound, unbound, constants_with, constants_in_spec, constants_in_file, constants_from, values_in_spec}
+use Rattle.go_model.specs.declared.lines.Line.{Line}
+use Rattle.go_model.specs.Values.Constants.{Constant, bound, unbound, constants_with, constants_in_spec, constants_in_file, constants_from, values_in_spec}
 use Rattle.go_module.specs.Modules.Heads.{import_specs}
 use Rattle.go_module.specs.Modules.Module.{FileData, PackageData}
 use Rattle.go_module.specs.Names.Constants.{const_specs, names_in_spec}
 use Rattle.go_module.specs.Names.Imports.{imports_in, imports_from, imports_of}
 use Rattle.go_module.specs.Names.Occurrences.{occurrences_in_file}
 use Rattle.go_model.specs.PackageLines.{Outline, import_defs, import_defs_in, constant_defs, defs_in, defs_from, occurrence_uses, uses_from, exprs_in_file, lines_of}
-use Rattle.go_model.specs.Records.{Headers}
+use Rattle.go_model.specs.Values.Records.{Headers}
 use Rattle.go_scope.specs.Blocks.{trees_at}
 use Rattle.go_scope.proofs.ImportLemmas.{pairs_done}
 use Rattle.go_check.specs.declared.constants.Constant.{Constant as OwnConstant}
-use Rattle.go_check.specs.Texts.{TextData, text_in, texts_in, is_in, import_defs_by, defs_by, uses_by, exprs_by}
+use Rattle.go_check.specs.LinedFiles.{LinedFileData, lined_file_in, lined_files_in, is_in, import_defs_by, defs_by, uses_by, exprs_by}
 use Rattle.go_check.specs.View.{constant_view, constants_view}
-use Rattle.go_check.proofs.TextLemmas.{each_text}
+use Rattle.go_check.proofs.LinedFileLemmas.{each_text}
 
 -- the constants of a list are those of a file
 
@@ -119,23 +119,23 @@ run_of_file file list f files is =
 
 -- the lines of the names that files declare
 
-pairs_are : (outline : Outline) (stub : Bool) (f : FileData) (k file : ℕ) (pairs : List (Tree × ℕ)) → import_defs_by outline (text_in stub f) pairs ≡ flat_map (import_defs outline stub f) (map (λ pair. record { spec = pair.0; file = file; importer = k; imported = pair.1 }) pairs)
+pairs_are : (outline : Outline) (stub : Bool) (f : FileData) (k file : ℕ) (pairs : List (Tree × ℕ)) → import_defs_by outline (lined_file_in stub f) pairs ≡ flat_map (import_defs outline stub f) (map (λ pair. record { spec = pair.0; file = file; importer = k; imported = pair.1 }) pairs)
 pairs_are outline stub f k file [] = refl
 pairs_are outline stub f k file (pair ∷ pairs) = ap (λ l. import_defs_in outline stub f pair.1 (parts_of pair.0) ++ l) (pairs_are outline stub f k file pairs)
 
-defs_are : (outline : Outline) (k : ℕ) (stub : Bool) (means : ℕ → Meaning) (headers : Headers) (file : ℕ) (files : List FileData) (packages : List ℕ) → defs_by outline means headers file (map (text_in stub) files) packages ≡ defs_from outline stub means headers file files (imports_from k file files packages)
+defs_are : (outline : Outline) (k : ℕ) (stub : Bool) (means : ℕ → Meaning) (headers : Headers) (file : ℕ) (files : List FileData) (packages : List ℕ) → defs_by outline means headers file (map (lined_file_in stub) files) packages ≡ defs_from outline stub means headers file files (imports_from k file files packages)
 defs_are outline k stub means headers file [] packages = refl
 defs_are outline k stub means headers file (f ∷ files) packages =
     let n = length (import_specs f.tree) in
-    ap (λ l. (l ++ flat_map (constant_defs stub f means headers) (constants_in_file file f.tree)) ++ defs_by outline means headers (file + 1) (map (text_in stub) files) (drop n packages)) (pairs_are outline stub f k file (zip (import_specs f.tree) (take n packages)))
+    ap (λ l. (l ++ flat_map (constant_defs stub f means headers) (constants_in_file file f.tree)) ++ defs_by outline means headers (file + 1) (map (lined_file_in stub) files) (drop n packages)) (pairs_are outline stub f k file (zip (import_specs f.tree) (take n packages)))
     ∙ ap (λ l. defs_in outline stub means headers file f (imports_in k file (import_specs f.tree) (take n packages)) ++ l) (defs_are outline k stub means headers (file + 1) files (drop n packages))
 
-uses_are : (outline : Outline) (stub : Bool) (denotes : NodeId → Option ObjId) (file : ℕ) (files : List FileData) → uses_by outline denotes file (map (text_in stub) files) ≡ uses_from outline stub denotes file files
+uses_are : (outline : Outline) (stub : Bool) (denotes : NodeId → Option ObjId) (file : ℕ) (files : List FileData) → uses_by outline denotes file (map (lined_file_in stub) files) ≡ uses_from outline stub denotes file files
 uses_are outline stub denotes file [] = refl
 uses_are outline stub denotes file (f ∷ files) = ap (λ l. flat_map (occurrence_uses outline stub f denotes) (occurrences_in_file file f.tree) ++ l) (uses_are outline stub denotes (file + 1) files)
 
 -- the three groups of lines
-pub three_groups : (outline : Outline) (k : ℕ) (p : PackageData) (denotes : NodeId → Option ObjId) (means : ℕ → Meaning) (headers : Headers) (texts : List TextData) (start defs uses whole : List Line) → texts ≡ texts_in p → start ≡ [] → defs ≡ start ++ defs_by outline means headers 0 texts p.imports → uses ≡ defs ++ uses_by outline denotes 0 texts → whole ≡ uses ++ exprs_by means headers texts → whole ≡ lines_of outline k p denotes means headers
+pub three_groups : (outline : Outline) (k : ℕ) (p : PackageData) (denotes : NodeId → Option ObjId) (means : ℕ → Meaning) (headers : Headers) (texts : List LinedFileData) (start defs uses whole : List Line) → texts ≡ lined_files_in p → start ≡ [] → defs ≡ start ++ defs_by outline means headers 0 texts p.imports → uses ≡ defs ++ uses_by outline denotes 0 texts → whole ≡ uses ++ exprs_by means headers texts → whole ≡ lines_of outline k p denotes means headers
 three_groups outline k p denotes means headers texts start defs uses whole is is_start is_defs is_uses is_whole =
     let D = defs_by outline means headers 0 texts p.imports in
     let U = uses_by outline denotes 0 texts in
@@ -144,18 +144,18 @@ three_groups outline k p denotes means headers texts start defs uses whole is is
     ∙ ap (λ l. l ++ E) (is_uses ∙ ap (λ l. l ++ U) (is_defs ∙ ap (λ l. l ++ D) is_start))
     ∙ append_assoc D U E
     ∙ ap (λ ts. defs_by outline means headers 0 ts p.imports ++ (uses_by outline denotes 0 ts ++ exprs_by means headers ts)) is
-    ∙ ap (λ l. l ++ (uses_by outline denotes 0 (texts_in p) ++ exprs_by means headers (texts_in p))) (defs_are outline k p.stub means headers 0 p.files p.imports)
-    ∙ ap (λ l. defs_from outline p.stub means headers 0 p.files (imports_of k p) ++ (l ++ exprs_by means headers (texts_in p))) (uses_are outline p.stub denotes 0 p.files)
+    ∙ ap (λ l. l ++ (uses_by outline denotes 0 (lined_files_in p) ++ exprs_by means headers (lined_files_in p))) (defs_are outline k p.stub means headers 0 p.files p.imports)
+    ∙ ap (λ l. defs_from outline p.stub means headers 0 p.files (imports_of k p) ++ (l ++ exprs_by means headers (lined_files_in p))) (uses_are outline p.stub denotes 0 p.files)
     ∙ ap (λ l. defs_from outline p.stub means headers 0 p.files (imports_of k p) ++ (uses_from outline p.stub denotes 0 p.files ++ l)) (each_text (λ stub f. exprs_in_file stub means headers f) p.stub p.files)
 
 -- behind the last import of a file
 
-pub imports_done : (outline : Outline) (t : TextData) (specs : List (Bor Node)) (packages : List ℕ) (i : ℕ) (list whole : List Line) → min (length specs) (length packages) ≤ i → list ++ import_defs_by outline t (zip (trees_at (drop i specs)) (drop i packages)) ≡ whole → list ≡ whole
+pub imports_done : (outline : Outline) (t : LinedFileData) (specs : List (Bor Node)) (packages : List ℕ) (i : ℕ) (list whole : List Line) → min (length specs) (length packages) ≤ i → list ++ import_defs_by outline t (zip (trees_at (drop i specs)) (drop i packages)) ≡ whole → list ≡ whole
 imports_done outline t specs packages i list whole behind so_far =
     sym (append-nil list) ∙ ap (λ l. list ++ import_defs_by outline t l) (sym (pairs_done (λ node. tree_of node.now) specs packages i behind)) ∙ so_far
 
 -- one more file
-pub file_done : (outline : Outline) (means : ℕ → Meaning) (headers : Headers) (file n : ℕ) (left rest : List TextData) (t : TextData) (named front behind : List ℕ) (specs : List Tree) (cs : List Constant) (old mid new whole : List Line) → left ≡ t ∷ rest → specs ≡ import_specs t.file.tree → n ≡ length specs → front ≡ take n named → behind ≡ drop n named → mid ≡ old ++ import_defs_by outline t (zip specs front) → cs ≡ constants_in_file file t.file.tree → new ≡ mid ++ flat_map (constant_defs t.stub t.file means headers) cs → old ++ defs_by outline means headers file left named ≡ whole → new ++ defs_by outline means headers (file + 1) rest behind ≡ whole
+pub file_done : (outline : Outline) (means : ℕ → Meaning) (headers : Headers) (file n : ℕ) (left rest : List LinedFileData) (t : LinedFileData) (named front behind : List ℕ) (specs : List Tree) (cs : List Constant) (old mid new whole : List Line) → left ≡ t ∷ rest → specs ≡ import_specs t.file.tree → n ≡ length specs → front ≡ take n named → behind ≡ drop n named → mid ≡ old ++ import_defs_by outline t (zip specs front) → cs ≡ constants_in_file file t.file.tree → new ≡ mid ++ flat_map (constant_defs t.stub t.file means headers) cs → old ++ defs_by outline means headers file left named ≡ whole → new ++ defs_by outline means headers (file + 1) rest behind ≡ whole
 file_done outline means headers file n left rest t named front behind specs cs old mid new whole at is_specs len is_front is_behind is_mid is_cs is_new so_far =
     let S = import_specs t.file.tree in
     let N = length S in

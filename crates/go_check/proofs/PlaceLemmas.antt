@@ -7,7 +7,7 @@ use Rattle.std.specs.Map.{lookup}
 use Rattle.std.specs.Option.{option_map}
 use Rattle.indexmap.specs.IndexMap.{insert_entry}
 use Rattle.go_module.specs.declared.object.ObjId.{ObjId}
-use Rattle.go_model.specs.Meaning.{place_among}
+use Rattle.go_model.specs.Values.Meaning.{place_among}
 use Rattle.go_module.specs.Scopes.{same_object}
 
 same_is : (a b : ObjId) → same_object a b ≡ true → a ≡ b

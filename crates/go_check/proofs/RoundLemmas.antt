@@ -5,10 +5,10 @@ use Rattle.std.proofs.lemmas.Bool.{cases_eq}
 use Rattle.std.proofs.lemmas.List.{take_at}
 use Rattle.std.proofs.lemmas.Option.{unwrap_or-slice_get}
 use Rattle.go_model.specs.declared.meaning.Meaning.{Meaning}
-use Rattle.go_model.specs.Constants.{Constant}
-use Rattle.go_model.specs.Records.{value_over}
-use Rattle.go_model.specs.Headers.{headers_of, Follows, Justified, Holds, Known}
-use Rattle.go_model.specs.Quests.{IsPart}
+use Rattle.go_model.specs.Values.Constants.{Constant}
+use Rattle.go_model.specs.Values.Records.{value_over}
+use Rattle.go_model.specs.Values.Headers.{headers_of, Follows, Justified, Holds, Known}
+use Rattle.go_model.specs.Values.Quests.{IsPart}
 use Rattle.go_model.proofs.HeaderLemmas.{value_over-part, Follows-part, Follows-same, headers_of-here, headers_of-there, headers_of-holds, stays}
 use Rattle.go_check.specs.declared.constants.Constant.{Constant as OwnConstant}
 use Rattle.go_check.specs.Table.{slot_of, IsBacked, IsSettled, open_count}

@@ -6,7 +6,7 @@ use Rattle.std.specs.Option.{option_map_or}
 use Rattle.std.proofs.lemmas.List.{append_assoc}
 use Rattle.go_module.specs.declared.module.Package.{Package}
 use Rattle.go_module.specs.declared.scopes.Scopes.{Scopes}
-use Rattle.go_model.specs.Meaning.{KnownValues}
+use Rattle.go_model.specs.Values.Meaning.{KnownValues}
 use Rattle.go_module.specs.Modules.Module.{ModuleData, PackageData, package_view}
 use Rattle.go_graph.specs.Graph.{is_marked}
 use Rattle.go_model.specs.Phases.{AreReports, IsVerdict, all_told, skips, checks, imports_accepted, is_accepted, package_report}

@@ -8,8 +8,8 @@ use Rattle.go_model.specs.declared.meaning.Meaning.{Meaning}
 use Rattle.go_module.specs.declared.module.SourceFile.{SourceFile}
 use Rattle.go_module.specs.Modules.Module.{file_view}
 use Rattle.go_module.specs.Names.Constants.{const_specs}
-use Rattle.go_model.specs.Records.{Headers}
-use Rattle.go_model.specs.Rules.{broken_spec, broken_specs}
+use Rattle.go_model.specs.Values.Records.{Headers}
+use Rattle.go_model.specs.Values.Rules.{broken_spec, broken_specs}
 
 -- what two steps add
 pub joined : {X : Type 0} (old mid new a b whole : List X) → mid ≡ old ++ a → new ≡ mid ++ b → whole ≡ a ++ b → new ≡ old ++ whole

@@ -9,20 +9,20 @@ use Rattle.go_tree.specs.declared.node.NodeId.{NodeId}
 use Rattle.go_model.specs.declared.meaning.Meaning.{Meaning}
 use Rattle.go_module.specs.declared.object.ObjId.{ObjId}
 use Rattle.go_module.specs.declared.scopes.Scopes.{Scopes}
-use Rattle.go_model.specs.Constants.{Constant, constants_of, numbers_of}
+use Rattle.go_model.specs.Values.Constants.{Constant, constants_of, numbers_of}
 use Rattle.go_module.specs.Order.{IsListOf}
-use Rattle.go_model.specs.Headers.{Known}
-use Rattle.go_model.specs.Meaning.{KnownValues, meaning_by, meaning_in, place_among, uses_table}
+use Rattle.go_model.specs.Values.Headers.{Known}
+use Rattle.go_model.specs.Values.Meaning.{KnownValues, meaning_by, meaning_in, place_among, uses_table}
 use Rattle.go_module.specs.Modules.Module.{ModuleData, PackageData}
 use Rattle.go_model.specs.PackageLines.{lines_of, outline_of}
 use Rattle.go_model.specs.Phases.{HasHeaders, BreaksValues, IsVerdict, by_names, by_values, sound, values_of}
 use Rattle.go_module.specs.Places.{placed_by}
-use Rattle.go_model.specs.Records.{Headers}
+use Rattle.go_model.specs.Values.Records.{Headers}
 use Rattle.go_model.specs.Report.{VerdictData, accepted, refused}
-use Rattle.go_model.specs.Rules.{broken_values}
+use Rattle.go_model.specs.Values.Rules.{broken_values}
 use Rattle.go_module.specs.Scopes.{same_node, same_object}
-use Rattle.go_model.specs.Waiting.{Chain}
-use Rattle.go_module.specs.Names.BrokenNames.{broken_names}
+use Rattle.go_model.specs.Values.Waiting.{Chain}
+use Rattle.go_module.specs.Names.Rules.BrokenNames.{broken_names}
 use Rattle.go_module.specs.Names.Imports.{known_in}
 use Rattle.go_module.specs.Names.Tables.{IsScopesOf}
 use Rattle.go_scope.specs.Collecting.{IsBrokenNames}

@@ -11,15 +11,15 @@ use Rattle.go_tree.specs.Tree.{Tree, branch, Trees, no_trees, more_trees, id_of,
 use Rattle.go_model.specs.declared.meaning.Meaning.{Meaning}
 use Rattle.go_model.specs.declared.meaning.Meaning.TheVariants.{Own, Outer, Predeclared, Other}
 use Rattle.go_module.specs.declared.object.ObjId.{ObjId}
-use Rattle.go_model.specs.Constants.{Constant}
+use Rattle.go_model.specs.Values.Constants.{Constant}
 use Rattle.go_graph.specs.Graph.{Graph, HasEdge, Path, start, further, IsGraph, row_at}
 use Rattle.go_module.proofs.MemberLemmas.{contains_none}
-use Rattle.go_model.specs.Lacking.{lacking}
-use Rattle.go_model.specs.Meaning.{KnownValues, denoted_meaning, declared_meaning, outer_meaning, is_predeclared}
-use Rattle.go_model.specs.Quests.{Done, run}
-use Rattle.go_model.specs.Records.{Headers, record_of}
-use Rattle.go_model.specs.Tests.{name_test, selector_test, sum_test, asked_of}
-use Rattle.go_model.specs.Waiting.{lacked, lacked_in, lacked_among, lacked_by, Waits, Chain, one, more}
+use Rattle.go_model.specs.Values.Lacking.{lacking}
+use Rattle.go_model.specs.Values.Meaning.{KnownValues, denoted_meaning, declared_meaning, outer_meaning, is_predeclared}
+use Rattle.go_model.specs.Values.Quests.{Done, run}
+use Rattle.go_model.specs.Values.Records.{Headers, record_of}
+use Rattle.go_model.specs.Values.Tests.{name_test, selector_test, sum_test, asked_of}
+use Rattle.go_model.specs.Values.Waiting.{lacked, lacked_in, lacked_among, lacked_by, Waits, Chain, one, more}
 use Rattle.go_check.specs.declared.around.Around.{Around}
 use Rattle.go_check.specs.View.{PlacesBelow, denotes_by, means_by, places_by}
 

@@ -2,5 +2,5 @@
 pub mod View
 pub mod State
 pub mod Table
-pub mod Texts
-pub mod TextView
+pub mod LinedFiles
+pub mod LinedFileView

@@ -1,6 +1,6 @@
 -- What is known while the packages of a module are checked, one after another.
 use Rattle.std.specs.Prelude.{◌≡◌, ℕ, Bool, true, List, [], ◌++◌, drop, length, map}
-use Rattle.go_model.specs.Meaning.{KnownValues}
+use Rattle.go_model.specs.Values.Meaning.{KnownValues}
 use Rattle.go_module.specs.Modules.Module.{ModuleData, PackageData}
 use Rattle.go_graph.specs.Graph.{is_marked}
 use Rattle.go_model.specs.Phases.{AreReports}

@@ -2,9 +2,9 @@
 -- Says what the rounds that fill the table keep, and when nothing more can be filled in.
 use Rattle.std.specs.Prelude.{◌≡◌, ℕ, suc, ℤ, Option, Some, None, List, [], ◌∷◌, slice_get, unwrap_or}
 use Rattle.go_model.specs.declared.meaning.Meaning.{Meaning}
-use Rattle.go_model.specs.Constants.{Constant}
-use Rattle.go_model.specs.Records.{Headers}
-use Rattle.go_model.specs.Headers.{Follows, headers_of, Justified}
+use Rattle.go_model.specs.Values.Constants.{Constant}
+use Rattle.go_model.specs.Values.Records.{Headers}
+use Rattle.go_model.specs.Values.Headers.{Follows, headers_of, Justified}
 
 -- what a table has for the constant at each place
 abbrev pub slot_of : List (Option ℤ) → Headers

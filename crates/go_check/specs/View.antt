@@ -6,8 +6,8 @@ use Rattle.go_tree.specs.declared.node.NodeId.{NodeId}
 use Rattle.go_tree.specs.Tree.{tree_of}
 use Rattle.go_model.specs.declared.meaning.Meaning.{Meaning}
 use Rattle.go_module.specs.declared.object.ObjId.{ObjId}
-use Rattle.go_model.specs.Constants.{Constant, numbers_of}
-use Rattle.go_model.specs.Meaning.{meaning_by, place_among}
+use Rattle.go_model.specs.Values.Constants.{Constant, numbers_of}
+use Rattle.go_model.specs.Values.Meaning.{meaning_by, place_among}
 use Rattle.go_module.specs.Scopes.{same_node, same_object}
 use Rattle.go_check.specs.declared.around.Around.{Around}
 use Rattle.go_check.specs.declared.constants.Constant.{Constant as OwnConstant}

@@ -1,7 +1,7 @@
 // What identifiers mean in a package that is checked (Go specification, "Declarations and scope", "Qualified
 // identifiers").
 ghost use Rattle.std.specs.Prelude.{◌≡◌};
-ghost use Rattle.go_model.specs.Meaning as spec;
+ghost use Rattle.go_model.specs.Values.Meaning as spec;
 ghost use Rattle.go_check.specs.View.{means_by, places_by};
 
 use go_model::Meaning;

@@ -2,17 +2,17 @@
 ghost use Rattle.std.specs.Prelude.{◌≡◌, ◌++◌, ℕ, IfOk, OnOk, Some, is_some, map, pos};
 ghost use Rattle.std.specs.Option.{option_map};
 ghost use Rattle.go_num.specs.Arithmetic.{limited};
-ghost use Rattle.go_tree.specs.LiteralValues.{int_lit_value};
+ghost use Rattle.go_tree.specs.Lexical.LiteralValues.{int_lit_value};
 ghost use Rattle.go_tree.specs.Tree.{Tree, tree_of, trees_of, start_of, text_of, kind_of, parts_of, more_trees, no_trees};
 ghost use Rattle.go_tree.specs.declared.node_kind.NodeKind.TheVariants as node_kind;
 ghost use Rattle.go_module.specs.Broken.{told_if};
 ghost use Rattle.go_module.specs.Broken as places;
 ghost use Rattle.go_module.specs.Rules.{unbuilt_form};
-ghost use Rattle.go_model.specs.Quests.{Decided, run};
-ghost use Rattle.go_model.specs.Records.{Headers, record_of, sum_of};
-ghost use Rattle.go_model.specs.Records as records;
-ghost use Rattle.go_model.specs.Rules.{broken_among, broken_in, rule_at, told_at, wide_integer};
-ghost use Rattle.go_model.specs.Tests.{asked_of, name_test, selector_test, sum_test};
+ghost use Rattle.go_model.specs.Values.Quests.{Decided, run};
+ghost use Rattle.go_model.specs.Values.Records.{Headers, record_of, sum_of};
+ghost use Rattle.go_model.specs.Values.Records as records;
+ghost use Rattle.go_model.specs.Values.Rules.{broken_among, broken_in, rule_at, told_at, wide_integer};
+ghost use Rattle.go_model.specs.Values.Tests.{asked_of, name_test, selector_test, sum_test};
 ghost use Rattle.go_check.specs.Table.{slot_of};
 ghost use Rattle.go_check.specs.View.{means_by};
 

@@ -2,9 +2,9 @@
 ghost use Rattle.std.specs.Prelude.{◌≡◌, ◌++◌, IfOk, OnOk, length, map};
 ghost use Rattle.std.specs.Map.{lookup};
 ghost use Rattle.go_tree.specs.Tree.{tree_of};
-ghost use Rattle.go_model.specs.Constants as rule;
+ghost use Rattle.go_model.specs.Values.Constants as rule;
 ghost use Rattle.go_module.specs.declared.object.ObjId.{ObjId};
-ghost use Rattle.go_model.specs.Meaning.{place_among};
+ghost use Rattle.go_model.specs.Values.Meaning.{place_among};
 ghost use Rattle.go_module.specs.Modules.Module.{file_view};
 ghost use Rattle.go_module.specs.Scopes.{same_object};
 ghost use Rattle.go_check.specs.View.{constant_view, constants_view};

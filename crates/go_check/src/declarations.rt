@@ -11,8 +11,9 @@ ghost use Rattle.go_module.specs.Names.Constants.{const_specs, names_in_spec};
 ghost use Rattle.go_module.specs.Scopes.{same_object};
 ghost use Rattle.go_scope.specs.Blocks.{trees_at};
 
+use crate::lined_file::LinedFile;
 use crate::parts::names_in_spec;
-use crate::places::{Text, texts_of};
+use crate::places::lined_files;
 use go_base::NoMemory;
 use go_module::{At, Module, ObjId, Package, first_part};
 use go_scope::{const_specs, import_specs};
@@ -40,11 +41,15 @@ fn add_package(
     ensures { OnOk result (table.new.entries ≡ insert_all same_object table.old.entries
         (spec.declarations_of (package_view own.now))) }
 {
-    add_texts(alloc, &texts_of(alloc, own)?, table)
+    add_texts(alloc, &lined_files(alloc, own)?, table)
 }
 
 // Adds the declarations of files.
-fn add_texts(alloc: Global, texts: &[Text], table: &mut IndexMap<ObjId, At>) -> Result<(), NoMemory>
+fn add_texts(
+    alloc: Global,
+    texts: &[LinedFile],
+    table: &mut IndexMap<ObjId, At>,
+) -> Result<(), NoMemory>
     ensures { OnOk result (table.new.entries ≡ insert_all same_object table.old.entries
         (flat_map (λ t. spec.declarations_in t.stub (file_view t.file.now)) texts.now)) }
 {
@@ -55,7 +60,11 @@ fn add_texts(alloc: Global, texts: &[Text], table: &mut IndexMap<ObjId, At>) -> 
 }
 
 // Adds the declaration by each of these nodes of a file.
-fn add_nodes(text: &Text, nodes: &[&Node], table: &mut IndexMap<ObjId, At>) -> Result<(), NoMemory>
+fn add_nodes(
+    text: &LinedFile,
+    nodes: &[&Node],
+    table: &mut IndexMap<ObjId, At>,
+) -> Result<(), NoMemory>
     ensures { OnOk result (table.new.entries ≡ insert_all same_object table.old.entries
         (map (spec.declaration text.now.stub (file_view text.now.file.now)) (trees_at nodes.now))) }
 {
@@ -66,7 +75,7 @@ fn add_nodes(text: &Text, nodes: &[&Node], table: &mut IndexMap<ObjId, At>) -> R
 }
 
 // Adds the declaration by a node of a file.
-fn add_node(text: &Text, node: &Node, table: &mut IndexMap<ObjId, At>) -> Result<(), NoMemory>
+fn add_node(text: &LinedFile, node: &Node, table: &mut IndexMap<ObjId, At>) -> Result<(), NoMemory>
     ensures { OnOk result (table.new.entries ≡ insert_entry same_object table.old.entries
         (spec.declaration text.now.stub (file_view text.now.file.now) (tree_of node.now)).0
         (spec.declaration text.now.stub (file_view text.now.file.now) (tree_of node.now)).1) }

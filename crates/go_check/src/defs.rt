@@ -3,22 +3,22 @@
 ghost use Rattle.std.specs.Prelude.{◌≡◌, ◌++◌, ◌≤◌, IfOk, OnOk, length};
 ghost use Rattle.std.specs.List.{flat_map, prefix_len, zip};
 ghost use Rattle.go_tree.specs.Tree.{tree_of, start_of, parts_of};
-ghost use Rattle.go_model.specs.declared.records.What.TheVariants as what;
-ghost use Rattle.go_model.specs.Constants.{constants_from};
+ghost use Rattle.go_model.specs.declared.lines.What.TheVariants as what;
+ghost use Rattle.go_model.specs.Values.Constants.{constants_from};
 ghost use Rattle.go_module.specs.Names.Constants.{name_text};
 ghost use Rattle.go_module.specs.Names.Imports as imports;
 ghost use Rattle.go_model.specs.PackageLines as spec;
 ghost use Rattle.go_module.specs.Places.{at_offset};
 ghost use Rattle.go_scope.specs.Blocks.{trees_at};
 ghost use Rattle.go_check.specs.Table.{slot_of};
-ghost use Rattle.go_check.specs.Texts.{defs_by, files_of, import_defs_by, is_in};
-ghost use Rattle.go_check.specs.TextView.{file_of, outline_view, text_view, texts_view};
+ghost use Rattle.go_check.specs.LinedFiles.{defs_by, files_of, import_defs_by, is_in};
+ghost use Rattle.go_check.specs.LinedFileView.{file_of, outline_view, lined_file_view, lined_files_view};
 ghost use Rattle.go_check.specs.View.{constant_view, constants_view, means_by};
 
 use crate::around::Around;
 use crate::constants::Constant;
+use crate::lined_file::LinedFile;
 use crate::outline::Outline;
-use crate::places::Text;
 use crate::record::value_over;
 use go_base::NoMemory;
 use go_model::{DefKind, Line, What};
@@ -34,16 +34,16 @@ use std::alloc::Global;
 pub fn push_defs(
     alloc: Global,
     outline: &Outline,
-    texts: &[Text],
+    texts: &[LinedFile],
     packages: &[usize],
     around: &Around,
     table: &[Option<i128>],
     constants: &[Constant],
     lines: &mut Vec<Line>,
 ) -> Result<(), NoMemory>
-    requires { constants_view constants.now ≡ constants_from 0 (files_of (texts_view texts.now)) }
+    requires { constants_view constants.now ≡ constants_from 0 (files_of (lined_files_view texts.now)) }
     ensures { OnOk result (lines.new.items ≡ lines.old.items ++ defs_by (outline_view outline.now)
-        (means_by around.now) (slot_of table.now) 0 (texts_view texts.now) packages.now) }
+        (means_by around.now) (slot_of table.now) 0 (lined_files_view texts.now) packages.now) }
 {
     let mut named = packages;
     let mut start = 0;
@@ -75,13 +75,13 @@ fn run_length(constants: &[Constant], file: usize) -> usize
 fn push_imports(
     alloc: Global,
     outline: &Outline,
-    text: &Text,
+    text: &LinedFile,
     specs: &[&Node],
     packages: &[usize],
     lines: &mut Vec<Line>,
 ) -> Result<(), NoMemory>
     ensures { OnOk result (lines.new.items ≡ lines.old.items
-        ++ import_defs_by (outline_view outline.now) (text_view text.now) (zip (trees_at specs.now) packages.now)) }
+        ++ import_defs_by (outline_view outline.now) (lined_file_view text.now) (zip (trees_at specs.now) packages.now)) }
 {
     for i in 0..specs.len().min(packages.len()) {
         push_import(alloc, outline, text, specs[i], packages[i], lines)?;
@@ -93,7 +93,7 @@ fn push_imports(
 fn push_import(
     alloc: Global,
     outline: &Outline,
-    text: &Text,
+    text: &LinedFile,
     import: &Node,
     imported: usize,
     lines: &mut Vec<Line>,
@@ -111,7 +111,7 @@ fn push_import(
 fn push_named(
     alloc: Global,
     outline: &Outline,
-    text: &Text,
+    text: &LinedFile,
     name: &Node,
     imported: usize,
     lines: &mut Vec<Line>,
@@ -135,7 +135,7 @@ fn is_dot(name: &Node) -> bool
 // Pushes the lines of constants of a file.
 fn push_constants(
     alloc: Global,
-    text: &Text,
+    text: &LinedFile,
     around: &Around,
     table: &[Option<i128>],
     constants: &[Constant],
@@ -154,7 +154,7 @@ fn push_constants(
 // Pushes the line of a constant, where it has a value.
 fn push_constant(
     alloc: Global,
-    text: &Text,
+    text: &LinedFile,
     around: &Around,
     table: &[Option<i128>],
     constant: &Constant,
@@ -172,7 +172,7 @@ fn push_constant(
 }
 
 // The line of a name that is declared as that.
-fn def_line(alloc: Global, text: &Text, name: &Node, kind: DefKind) -> Result<Line, NoMemory>
+fn def_line(alloc: Global, text: &LinedFile, name: &Node, kind: DefKind) -> Result<Line, NoMemory>
     ensures { IfOk result (λ line. line ≡ record {
       at = at_offset text.now.stub (file_of text.now) (start_of (tree_of name.now));
       what = what.Def (name_text (tree_of name.now)) kind;

@@ -5,15 +5,15 @@ ghost use Rattle.std.specs.List.{flat_map};
 ghost use Rattle.go_tree.specs.declared.node_kind.NodeKind.TheVariants as node_kind;
 ghost use Rattle.go_tree.specs.Tree.{Tree, tree_of, trees_of, start_of, end_of, kind_of, parts_of, more_trees, no_trees};
 ghost use Rattle.go_model.specs.PackageLines as spec;
-ghost use Rattle.go_model.specs.Records.{record_of};
+ghost use Rattle.go_model.specs.Values.Records.{record_of};
 ghost use Rattle.go_check.specs.Table.{slot_of};
-ghost use Rattle.go_check.specs.Texts.{exprs_by, exprs_inside};
-ghost use Rattle.go_check.specs.TextView.{file_of, texts_view};
+ghost use Rattle.go_check.specs.LinedFiles.{exprs_by, exprs_inside};
+ghost use Rattle.go_check.specs.LinedFileView.{file_of, lined_files_view};
 ghost use Rattle.go_check.specs.View.{means_by};
 
 use crate::around::Around;
+use crate::lined_file::LinedFile;
 use crate::parts::values_in_spec;
-use crate::places::Text;
 use crate::record::{operands, parenthesized, record, sum};
 use go_base::NoMemory;
 use go_model::{Line, Mode, What};
@@ -26,13 +26,13 @@ use std::alloc::Global;
 /// Pushes the line of each expression in the files of a package. An error is want of memory.
 pub fn push_exprs(
     alloc: Global,
-    texts: &[Text],
+    texts: &[LinedFile],
     around: &Around,
     table: &[Option<i128>],
     lines: &mut Vec<Line>,
 ) -> Result<(), NoMemory>
     ensures { OnOk result (lines.new.items
-        ≡ lines.old.items ++ exprs_by (means_by around.now) (slot_of table.now) (texts_view texts.now)) }
+        ≡ lines.old.items ++ exprs_by (means_by around.now) (slot_of table.now) (lined_files_view texts.now)) }
 {
     for text in texts {
         push_file(alloc, text, around, table, lines)?;
@@ -43,7 +43,7 @@ pub fn push_exprs(
 // Pushes the lines of the expressions in a file.
 fn push_file(
     alloc: Global,
-    text: &Text,
+    text: &LinedFile,
     around: &Around,
     table: &[Option<i128>],
     lines: &mut Vec<Line>,
@@ -61,7 +61,7 @@ fn push_file(
 // Pushes the lines of the expressions in these.
 fn push_values(
     alloc: Global,
-    text: &Text,
+    text: &LinedFile,
     around: &Around,
     table: &[Option<i128>],
     values: &[Node],
@@ -81,7 +81,7 @@ fn push_values(
 // first, so that each value is computed once, from those of the parts, before the line of its node.
 fn push_value(
     alloc: Global,
-    text: &Text,
+    text: &LinedFile,
     around: &Around,
     table: &[Option<i128>],
     value: &Node,
@@ -100,7 +100,7 @@ fn push_value(
 // Pushes the lines of the expressions in one, the last first, and returns its record.
 #[cycle(exprs)]
 fn push_reversed(
-    text: &Text,
+    text: &LinedFile,
     around: &Around,
     table: &[Option<i128>],
     node: &Node,
@@ -119,7 +119,7 @@ fn push_reversed(
 // Pushes the lines of the expressions inside one, the last first, and returns the record of the whole.
 #[cycle(exprs)]
 fn push_inside(
-    text: &Text,
+    text: &LinedFile,
     around: &Around,
     table: &[Option<i128>],
     node: &Node,
@@ -146,7 +146,7 @@ fn push_inside(
 // behind a `.` is no expression.
 #[cycle(exprs)]
 fn push_others(
-    text: &Text,
+    text: &LinedFile,
     around: &Around,
     table: &[Option<i128>],
     node: &Node,
@@ -167,7 +167,7 @@ fn push_others(
 // Pushes the lines of the expressions in these parts, the last first.
 #[cycle(exprs)]
 fn push_parts(
-    text: &Text,
+    text: &LinedFile,
     around: &Around,
     table: &[Option<i128>],
     parts: &[Node],
@@ -199,7 +199,7 @@ fn qualifier(node: &Node) -> Option<&Node>
 
 // Pushes the line of an expression, where it has a record.
 fn push_expr(
-    text: &Text,
+    text: &LinedFile,
     node: &Node,
     value: Option<i128>,
     lines: &mut Vec<Line>,
@@ -214,7 +214,7 @@ fn push_expr(
 }
 
 // The line of an expression with that value.
-fn expr_line(text: &Text, node: &Node, v: i128) -> Result<Line, NoMemory>
+fn expr_line(text: &LinedFile, node: &Node, v: i128) -> Result<Line, NoMemory>
     ensures { IfOk result (λ line. line ∷ [] ≡ spec.expr_at text.now.stub (file_of text.now)
         (start_of (tree_of node.now)) (end_of (tree_of node.now)) (Some v)) }
 {

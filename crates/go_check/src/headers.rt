@@ -1,6 +1,6 @@
 // The headers of constants, found in rounds (Go specification, "Constant declarations").
 ghost use Rattle.std.specs.Prelude.{◌≡◌, ◌<◌, ◌↔◌, ℕ, ℤ, Some, false, length, IfOk, IsTrue};
-ghost use Rattle.go_model.specs.Headers.{Known};
+ghost use Rattle.go_model.specs.Values.Headers.{Known};
 ghost use Rattle.go_check.specs.Table.{slot_of, IsBacked, IsSettled, open_count};
 ghost use Rattle.go_check.specs.View.{constants_view, means_by};
 

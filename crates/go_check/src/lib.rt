@@ -24,6 +24,7 @@ mod waits;
 
 // Places.
 mod declarations;
+mod lined_file;
 mod outline;
 mod places;
 
@@ -39,3 +40,6 @@ mod module;
 mod package;
 
 pub use module::check_module;
+
+#[cfg(test)]
+mod tests;

@@ -1,10 +1,10 @@
 // The lines of an accepted package.
 ghost use Rattle.std.specs.Prelude.{◌≡◌, ℕ, IfOk};
-ghost use Rattle.go_model.specs.Constants.{constants_of};
+ghost use Rattle.go_model.specs.Values.Constants.{constants_of};
 ghost use Rattle.go_module.specs.Modules.Module.{package_view};
 ghost use Rattle.go_model.specs.PackageLines as spec;
 ghost use Rattle.go_check.specs.Table.{slot_of};
-ghost use Rattle.go_check.specs.TextView.{outline_view};
+ghost use Rattle.go_check.specs.LinedFileView.{outline_view};
 ghost use Rattle.go_check.specs.View.{constants_view, denotes_by, means_by};
 
 use crate::around::Around;
@@ -12,7 +12,7 @@ use crate::constants::Constant;
 use crate::defs::push_defs;
 use crate::exprs::push_exprs;
 use crate::outline::Outline;
-use crate::places::texts_of;
+use crate::places::lined_files;
 use crate::room::line_count;
 use crate::uses::push_uses;
 use go_base::NoMemory;
@@ -34,7 +34,7 @@ pub fn lines_of(
     ensures { IfOk result (λ lines. (k : ℕ) → lines.items ≡ spec.lines_of (outline_view outline.now) k
         (package_view own.now) (denotes_by around.now) (means_by around.now) (slot_of table.now)) }
 {
-    let texts = texts_of(alloc, own)?;
+    let texts = lined_files(alloc, own)?;
     let mut lines = Vec::with_capacity(alloc, line_count(own, around, constants))?;
     push_defs(
         alloc,

@@ -8,7 +8,7 @@ ghost use Rattle.go_model.specs.Phases as phases;
 ghost use Rattle.go_model.specs.Report.{report_view, verdict_view};
 ghost use Rattle.go_model.specs.Report as reports;
 ghost use Rattle.go_check.specs.State.{IsState};
-ghost use Rattle.go_check.specs.TextView.{outline_view};
+ghost use Rattle.go_check.specs.LinedFileView.{outline_view};
 
 use crate::declarations::declarations;
 use crate::outline::Outline;

@@ -2,7 +2,7 @@
 // declarations").
 ghost use Rattle.std.specs.Prelude.{◌≡◌, IfOk};
 ghost use Rattle.go_model.specs.PackageLines as spec;
-ghost use Rattle.go_check.specs.TextView.{outline_view};
+ghost use Rattle.go_check.specs.LinedFileView.{outline_view};
 
 use go_base::{Name, NoMemory};
 use go_module::{At, ObjId};

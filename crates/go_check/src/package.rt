@@ -3,7 +3,7 @@
 ghost use Rattle.std.specs.Prelude.{◌≡◌, ◌∷◌, ◌++◌, [], ℕ, true, IfOk, OnOk, Some, slice_get};
 ghost use Rattle.std.specs.Option.{option_map_or};
 ghost use Rattle.indexmap.specs.IndexMap.{insert_all};
-ghost use Rattle.go_model.specs.Constants.{constants_of};
+ghost use Rattle.go_model.specs.Values.Constants.{constants_of};
 ghost use Rattle.go_module.specs.Modules.Module.{ModuleData, package_view};
 ghost use Rattle.go_module.specs.Names.Imports.{known_in};
 ghost use Rattle.go_module.specs.Names.Tables.{IsScopesOf};
@@ -16,7 +16,7 @@ ghost use Rattle.go_module.specs.Scopes.{same_object};
 ghost use Rattle.go_scope.specs.Collecting.{StandsIn};
 ghost use Rattle.go_scope.specs.Known.{names_of};
 ghost use Rattle.go_check.specs.Table.{slot_of};
-ghost use Rattle.go_check.specs.TextView.{outline_view};
+ghost use Rattle.go_check.specs.LinedFileView.{outline_view};
 ghost use Rattle.go_check.specs.View.{IsAround, constants_view, denotes_by, means_by};
 
 use crate::around::Around;

@@ -1,7 +1,7 @@
 // The parts of constant specs (Go specification, "Constant declarations").
 ghost use Rattle.std.specs.Prelude.{◌≡◌, map};
 ghost use Rattle.go_tree.specs.Tree.{tree_of, trees_of};
-ghost use Rattle.go_model.specs.Constants as constants;
+ghost use Rattle.go_model.specs.Values.Constants as constants;
 ghost use Rattle.go_module.specs.Names.Constants as names;
 
 use go_module::{first_part, last_part, part_list};

@@ -2,7 +2,7 @@
 ghost use Rattle.std.specs.Prelude.{◌≡◌, IfSome, IfNone};
 ghost use Rattle.go_tree.specs.Tree.{Tree, tree_of, kind_of, parts_of, more_trees, no_trees};
 ghost use Rattle.go_tree.specs.declared.node_kind.NodeKind.TheVariants as node_kind;
-ghost use Rattle.go_model.specs.Records as records;
+ghost use Rattle.go_model.specs.Values.Records as records;
 ghost use Rattle.go_check.specs.Table.{slot_of};
 ghost use Rattle.go_check.specs.View.{constant_view, means_by};
 

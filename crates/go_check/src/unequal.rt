@@ -4,9 +4,9 @@ ghost use Rattle.std.specs.List.{flat_map, list_all};
 ghost use Rattle.go_tree.specs.Tree.{tree_of};
 ghost use Rattle.go_module.specs.Modules.Module.{file_view};
 ghost use Rattle.go_module.specs.Names.Constants.{const_specs};
-ghost use Rattle.go_model.specs.Records.{record_of};
-ghost use Rattle.go_model.specs.Rules.{broken_in, broken_spec, broken_specs};
-ghost use Rattle.go_model.specs.Rules as rules;
+ghost use Rattle.go_model.specs.Values.Records.{record_of};
+ghost use Rattle.go_model.specs.Values.Rules.{broken_in, broken_spec, broken_specs};
+ghost use Rattle.go_model.specs.Values.Rules as rules;
 ghost use Rattle.go_check.specs.Table.{slot_of};
 ghost use Rattle.go_check.specs.View.{means_by};
 

@@ -2,17 +2,17 @@
 // (Go specification, "Declarations and scope").
 ghost use Rattle.std.specs.Prelude.{◌≡◌, ◌++◌, IfOk, OnOk};
 ghost use Rattle.std.specs.List.{flat_map};
-ghost use Rattle.go_model.specs.declared.records.Line.{Line};
-ghost use Rattle.go_model.specs.declared.records.What.TheVariants as what;
+ghost use Rattle.go_model.specs.declared.lines.Line.{Line};
+ghost use Rattle.go_model.specs.declared.lines.What.TheVariants as what;
 ghost use Rattle.go_model.specs.PackageLines as spec;
 ghost use Rattle.go_module.specs.Places.{at_offset};
-ghost use Rattle.go_check.specs.Texts.{uses_by};
-ghost use Rattle.go_check.specs.TextView.{file_of, outline_view, texts_view};
+ghost use Rattle.go_check.specs.LinedFiles.{uses_by};
+ghost use Rattle.go_check.specs.LinedFileView.{file_of, outline_view, lined_files_view};
 ghost use Rattle.go_check.specs.View.{denotes_by};
 
 use crate::around::Around;
+use crate::lined_file::LinedFile;
 use crate::outline::Outline;
-use crate::places::Text;
 use go_base::{Name, NoMemory};
 use go_model::{Line, What};
 use go_module::{ObjId, Occurrence, Selected};
@@ -24,12 +24,12 @@ use std::alloc::Global;
 pub fn push_uses(
     alloc: Global,
     outline: &Outline,
-    texts: &[Text],
+    texts: &[LinedFile],
     around: &Around,
     lines: &mut Vec<Line>,
 ) -> Result<(), NoMemory>
     ensures { OnOk result (lines.new.items
-        ≡ lines.old.items ++ uses_by (outline_view outline.now) (denotes_by around.now) 0 (texts_view texts.now)) }
+        ≡ lines.old.items ++ uses_by (outline_view outline.now) (denotes_by around.now) 0 (lined_files_view texts.now)) }
 {
     for (file, text) in texts.iter().enumerate() {
         let found = occurrences_in_file(alloc, file, text.root())?;
@@ -41,7 +41,7 @@ pub fn push_uses(
 // Pushes the lines of the uses that occur in a file.
 fn push_occurrences(
     outline: &Outline,
-    text: &Text,
+    text: &LinedFile,
     around: &Around,
     found: &[Occurrence],
     lines: &mut Vec<Line>,
@@ -59,7 +59,7 @@ fn push_occurrences(
 // Pushes the line of an identifier, and that of the name behind its `.`.
 fn push_occurrence(
     outline: &Outline,
-    text: &Text,
+    text: &LinedFile,
     around: &Around,
     occurrence: &Occurrence,
     lines: &mut Vec<Line>,
@@ -82,7 +82,7 @@ fn push_occurrence(
 
 fn push_selected(
     outline: &Outline,
-    text: &Text,
+    text: &LinedFile,
     around: &Around,
     selected: &Option<Selected>,
     lines: &mut Vec<Line>,
@@ -100,7 +100,7 @@ fn push_selected(
 // Pushes the line of an identifier, where it denotes an object.
 fn push_use(
     outline: &Outline,
-    text: &Text,
+    text: &LinedFile,
     around: &Around,
     id: NodeId,
     from: usize,
@@ -120,7 +120,7 @@ fn push_use(
 // The line of a name that denotes this object.
 fn use_line(
     outline: &Outline,
-    text: &Text,
+    text: &LinedFile,
     d: ObjId,
     from: usize,
     name: &Name,

@@ -3,8 +3,8 @@ ghost use Rattle.std.specs.Prelude.{◌≡◌, ◌++◌, IfOk, OnOk};
 ghost use Rattle.go_graph.specs.Graph as marking;
 ghost use Rattle.go_module.specs.Order.{IsListOf};
 ghost use Rattle.go_module.specs.Modules.Module.{package_view};
-ghost use Rattle.go_model.specs.Rules as rules;
-ghost use Rattle.go_model.specs.Constants.{constants_of};
+ghost use Rattle.go_model.specs.Values.Rules as rules;
+ghost use Rattle.go_model.specs.Values.Constants.{constants_of};
 ghost use Rattle.go_check.specs.Table.{slot_of};
 ghost use Rattle.go_check.specs.View.{constant_view, constants_view, means_by};
 

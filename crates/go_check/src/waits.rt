@@ -2,10 +2,10 @@
 ghost use Rattle.std.specs.Prelude.{option_to_list, ◌≡◌, ◌++◌, ◌↔◌, ℕ, true, Some, IfOk, OnOk, length, map};
 ghost use Rattle.std.specs.List.{flat_map};
 ghost use Rattle.go_graph.specs.Graph.{is_marked};
-ghost use Rattle.go_model.specs.Lacking.{lacking};
-ghost use Rattle.go_model.specs.Quests.{run};
-ghost use Rattle.go_model.specs.Tests.{asked_of, name_test};
-ghost use Rattle.go_model.specs.Waiting.{Chain, lacked, lacked_among, lacked_in};
+ghost use Rattle.go_model.specs.Values.Lacking.{lacking};
+ghost use Rattle.go_model.specs.Values.Quests.{run};
+ghost use Rattle.go_model.specs.Values.Tests.{asked_of, name_test};
+ghost use Rattle.go_model.specs.Values.Waiting.{Chain, lacked, lacked_among, lacked_in};
 ghost use Rattle.go_model.specs.declared.meaning.Meaning.TheVariants as meanings;
 ghost use Rattle.go_tree.specs.Tree.{tree_of, trees_of};
 ghost use Rattle.go_check.specs.Table.{slot_of};

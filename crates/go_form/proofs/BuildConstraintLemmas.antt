@@ -4,9 +4,9 @@ use Rattle.std.specs.List.{AllPairs, Contains}
 use Rattle.std.proofs.lemmas.Bool.{cases_lt, cases_order, false≢true, and_parts}
 use Rattle.std.proofs.lemmas.List.{append-nil, length_push, get_or_push, get_or_append_left}
 use Rattle.std.proofs.lemmas.List.Elements.{Contains-push, Contains-push_cases, Contains-append_left, Contains-get_or}
-use Rattle.go_tree.specs.Characters.{decoded_at, is_blank, is_allowed, Run, none as run_none, more as run_more}
-use Rattle.go_tree.specs.Comments.{Closes, IsLineComment, IsGeneralComment, in_line_comment}
-use Rattle.go_tree.specs.Scan.{Space, blank, line, general, mark, Gap, none, more}
+use Rattle.go_tree.specs.Lexical.Characters.{decoded_at, is_white_space, is_allowed, Run, none as run_none, more as run_more}
+use Rattle.go_tree.specs.Lexical.Comments.{Closes, IsLineComment, IsGeneralComment, in_line_comment}
+use Rattle.go_tree.specs.Lexical.Scan.{Space, blank, line, general, mark, Gap, none, more}
 use Rattle.go_tree.proofs.ByteLemmas.{byte_char}
 use Rattle.go_tree.proofs.ContinuationLemmas.{behind_first}
 use Rattle.go_tree.proofs.SpaceLemmas.{some_same, slash_no_blank, closes_within, space_lies, one_space, no_mark}
@@ -65,7 +65,7 @@ pub gap_more : (bytes : List ℕ) (at to : ℕ) → Gap false bytes 0 at → Spa
 gap_more bytes at to g s = more g (s, λ e. absurd (false≢true e))
 
 -- a mark, or the comment that the bytes open, is the space that stands there
-pub mark_there : (bytes : List ℕ) (at to : ℕ) → Space bytes at to → is_blank (slice_index bytes at) ≡ false → slice_index bytes at ≢ 47 → Space bytes at (at + (decoded_at bytes at).size) × (at + (decoded_at bytes at).size ≤ length bytes)
+pub mark_there : (bytes : List ℕ) (at to : ℕ) → Space bytes at to → is_white_space (slice_index bytes at) ≡ false → slice_index bytes at ≢ 47 → Space bytes at (at + (decoded_at bytes at).size) × (at + (decoded_at bytes at).size ≤ length bytes)
 mark_there bytes at to (blank b) other slash = absurd (false≢true (sym other ∙ b))
 mark_there bytes at to (line c) other slash = absurd (slash c.opens.0)
 mark_there bytes at to (general c) other slash = absurd (slash c.opens.0)

@@ -2,8 +2,8 @@
 use Rattle.std.proofs.Common.{◌≡◌, ◌<◌, ◌≤◌, true, false, List, [], ◌∷◌, length, map, refl, arith}
 use Rattle.go_tree.specs.declared.node.Node.{Node}
 use Rattle.go_tree.specs.Tree.{trees_of, tree_of}
-use Rattle.go_form.specs.Statements.{second_name_at, third_at, are_several}
-use Rattle.go_form.specs.SwitchStatements.{are_two_at_most}
+use Rattle.go_form.specs.Families.Statements.{second_name_at, third_at, are_several}
+use Rattle.go_form.specs.Families.SwitchStatements.{are_two_at_most}
 
 pub no_second_name : (ns : List Node) → length ns < 2 → second_name_at (trees_of (map tree_of ns)) ≡ []
 no_second_name [] lt = refl

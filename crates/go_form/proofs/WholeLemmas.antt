@@ -6,7 +6,7 @@ use Rattle.go_base.specs.declared.rule.Broken.{Broken}
 use Rattle.go_base.specs.declared.rule.Rule.{Rule}
 use Rattle.go_tree.specs.Tree.{Tree, start_of}
 use Rattle.go_module.specs.Broken.{broken_at, told}
-use Rattle.go_form.specs.Rules.{build_constraint_rule}
+use Rattle.go_form.specs.Rules.{build_constraint}
 use Rattle.go_form.specs.BuildConstraints.{AreBuildConstraints}
 use Rattle.go_form.specs.Whole.{broken_in_tree, broken_forms, AreBrokenForms}
 use Rattle.go_module.proofs.OrderLemmas.{one_ascending}
@@ -36,9 +36,9 @@ told_moved file r xs ys moved b h =
 
 forms_moved : (file : ℕ) (t : Tree) (xs ys : List ℕ) → ((n : ℕ) → Contains xs n → Contains ys n) → (b : Broken) → Contains (broken_forms file xs t) b → Contains (broken_forms file ys t) b
 forms_moved file t xs ys moved b h = ⊎_elim
-    (λ (e : Contains (told file build_constraint_rule xs) b). Contains-append_left (told file build_constraint_rule ys) (broken_in_tree file t) b (told_moved file build_constraint_rule xs ys moved b e))
-    (λ (e : Contains (broken_in_tree file t) b). Contains-append_right (told file build_constraint_rule ys) (broken_in_tree file t) b e)
-    (Contains-append_cases (told file build_constraint_rule xs) (broken_in_tree file t) b h)
+    (λ (e : Contains (told file build_constraint xs) b). Contains-append_left (told file build_constraint ys) (broken_in_tree file t) b (told_moved file build_constraint xs ys moved b e))
+    (λ (e : Contains (broken_in_tree file t) b). Contains-append_right (told file build_constraint ys) (broken_in_tree file t) b e)
+    (Contains-append_cases (told file build_constraint xs) (broken_in_tree file t) b h)
 
 same_constraints : (bytes : List ℕ) (clause : ℕ) (xs ys : List ℕ) → AreBuildConstraints bytes clause xs → AreBuildConstraints bytes clause ys → (n : ℕ) → Contains xs n → Contains ys n
 same_constraints bytes clause xs ys hx hy n h = (hy.same n).1 ((hx.same n).0 h)

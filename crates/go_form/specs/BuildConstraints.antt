@@ -1,14 +1,11 @@
 -- Comments (Go specification), and build constraints, which the go command reads.
 -- Decides where build constraints stand: the line comments before the package clause that begin
--- their line, blanks aside, with `//go:build` and a blank or the end of the file.
+-- their line, blanks aside, with `//go:build` and white space or the end of the file.
 use Rattle.std.specs.Prelude.{◌≡◌, ℕ, ◌+◌, ◌-◌, ◌<◌, ◌≤◌, ◌==◌, ◌&&◌, ◌||◌, ◌↔◌, nat_eq, Bool, true, false, List, ◌++◌, drop, length, slice_index, AllPairs, Contains, codes}
 use Rattle.std.specs.List.{starts_with}
-use Rattle.go_tree.specs.Characters.{is_blank}
-use Rattle.go_tree.specs.Scan.{Gap}
-
--- a blank that does not end the line: a space, a tab or a carriage return
-abbrev pub is_space : ℕ → Bool
-is_space b = (b == 32) || ((b == 9) || (b == 13))
+use Rattle.go_base.specs.Place.{is_blank}
+use Rattle.go_tree.specs.Lexical.Characters.{is_white_space}
+use Rattle.go_tree.specs.Lexical.Scan.{Gap}
 
 -- the byte order mark, EF BB BF, is the first character
 abbrev pub begins_with_mark : List ℕ → Bool
@@ -23,13 +20,13 @@ pub record BeginsLine (bytes : List ℕ) (at : ℕ) : Type 0 where
   pub start : ℕ
   pub behind : start ≤ at
   pub is_start : is_line_start bytes start ≡ true
-  pub blanks : (k : ℕ) → start ≤ k → k < at → is_space (slice_index bytes k) ≡ true
+  pub blanks : (k : ℕ) → start ≤ k → k < at → is_blank (slice_index bytes k) ≡ true
 
--- `//go:build` stands there, and behind it a blank or the end of the file
+-- `//go:build` stands there, and behind it white space or the end of the file
 abbrev pub is_build_line : List ℕ → ℕ → Bool
-is_build_line bytes at = starts_with nat_eq (drop at bytes) (codes "//go:build") && ((at + 10 == length bytes) || is_blank (slice_index bytes (at + 10)))
+is_build_line bytes at = starts_with nat_eq (drop at bytes) (codes "//go:build") && ((at + 10 == length bytes) || is_white_space (slice_index bytes (at + 10)))
 
--- a build constraint stands at the offset: whole comments and blanks lead up to it, so that it
+-- a build constraint stands at the offset: whole comments and white space lead up to it, so that it
 -- stands in no comment
 pub record IsBuildConstraint (bytes : List ℕ) (clause at : ℕ) : Type 0 where
   pub before : at < clause

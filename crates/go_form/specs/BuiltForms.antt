@@ -5,7 +5,7 @@ use Rattle.std.specs.Prelude.{Bool, true, false}
 use Rattle.go_tree.specs.declared.node_kind.NodeKind.{NodeKind}
 use Rattle.go_tree.specs.declared.node_kind.NodeKind.TheVariants.{File, ImportDecl, ImportGroup, ConstDecl, ConstGroup, ConstSpec, VarDecl, VarGroup, TypeDecl, TypeGroup, IdentList, ExprList, Name, IntLit, FloatLit, ParenExpr, SelectorExpr, AddExpr}
 use Rattle.go_tree.specs.Tree.{Tree, branch, Trees, no_trees, more_trees}
-use Rattle.go_tree.specs.Grammar.TypeTrees.{is_name}
+use Rattle.go_tree.specs.Grammar.Trees.TypeTrees.{is_name}
 
 -- the kinds of nodes that are built, what stands in them aside
 abbrev pub is_built : NodeKind → Bool

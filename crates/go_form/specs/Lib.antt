@@ -2,15 +2,9 @@
 pub mod Whole
 pub mod Fault
 pub mod Rules
--- at one node: a family of rules in each
+-- at one node
 pub mod AtNode
-pub mod Parameters
-pub mod Declarations
-pub mod Guards
-pub mod Statements
-pub mod SwitchStatements
-pub mod StatementParts
-pub mod Nodes
+pub mod Families
 -- before the package clause
 pub mod BuildConstraints
 -- forms that are not built yet

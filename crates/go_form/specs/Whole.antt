@@ -31,7 +31,7 @@ broken_in_tree file t = told file unbuilt_form (unbuilt_in t) ++ flat_map (broke
 -- all that the file with that number breaks by its form, in any order: by the offsets of its build
 -- constraints and its tree
 abbrev pub broken_forms : ℕ → List ℕ → Tree → List Broken
-broken_forms file constraints t = told file rule.build_constraint_rule constraints ++ broken_in_tree file t
+broken_forms file constraints t = told file rule.build_constraint constraints ++ broken_in_tree file t
 
 -- the list that a report gives of it, by the bytes of the file and its tree
 pub record AreBrokenForms (file : ℕ) (bytes : List ℕ) (t : Tree) (list : List Broken) : Type 0 where

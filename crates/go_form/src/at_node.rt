@@ -4,11 +4,11 @@ ghost use Rattle.go_tree.specs.Tree.{tree_of};
 ghost use Rattle.go_module.specs.Broken.{told};
 ghost use Rattle.go_form.specs.AtNode as rules;
 ghost use Rattle.go_form.specs.Rules as rule;
-ghost use Rattle.go_form.specs.Parameters as of_parameters;
-ghost use Rattle.go_form.specs.Declarations as of_declarations;
-ghost use Rattle.go_form.specs.Guards as of_guards;
-ghost use Rattle.go_form.specs.Statements as of_statements;
-ghost use Rattle.go_form.specs.SwitchStatements as of_switches;
+ghost use Rattle.go_form.specs.Families.Parameters as of_parameters;
+ghost use Rattle.go_form.specs.Families.Declarations as of_declarations;
+ghost use Rattle.go_form.specs.Families.Guards as of_guards;
+ghost use Rattle.go_form.specs.Families.Statements as of_statements;
+ghost use Rattle.go_form.specs.Families.SwitchStatements as of_switches;
 
 use crate::declarations::{self, float_literal, generic_alias, missing_values};
 use crate::guards;
@@ -142,7 +142,7 @@ fn misplaced_variadics(
     found: &mut Vec<Broken>,
 ) -> Result<(), NoMemory>
     ensures { OnOk result (found.new.items ≡ found.old.items
-        ++ told file rule.misplaced_variadic_rule (of_parameters.misplaced_variadics_at (tree_of node.now))) }
+        ++ told file rule.misplaced_variadic (of_parameters.misplaced_variadics_at (tree_of node.now))) }
 {
     let mut places = Vec::new(alloc);
     parameters::misplaced_variadics(node, &mut places)?;
@@ -156,7 +156,7 @@ fn generic_method(
     found: &mut Vec<Broken>,
 ) -> Result<(), NoMemory>
     ensures { OnOk result (found.new.items ≡ found.old.items
-        ++ told file rule.generic_method_rule (of_parameters.generic_method_at (tree_of node.now))) }
+        ++ told file rule.generic_method (of_parameters.generic_method_at (tree_of node.now))) }
 {
     let mut places = Vec::new(alloc);
     parameters::generic_method(node, &mut places)?;
@@ -170,7 +170,7 @@ fn open_array_types(
     found: &mut Vec<Broken>,
 ) -> Result<(), NoMemory>
     ensures { OnOk result (found.new.items ≡ found.old.items
-        ++ told file rule.open_array_type_rule (of_declarations.open_array_types_at (tree_of node.now))) }
+        ++ told file rule.open_array_type (of_declarations.open_array_types_at (tree_of node.now))) }
 {
     let mut places = Vec::new(alloc);
     declarations::open_array_types(node, &mut places)?;
@@ -184,7 +184,7 @@ fn local_generic_types(
     found: &mut Vec<Broken>,
 ) -> Result<(), NoMemory>
     ensures { OnOk result (found.new.items ≡ found.old.items
-        ++ told file rule.local_generic_type_rule (of_declarations.local_generic_types_at (tree_of node.now))) }
+        ++ told file rule.local_generic_type (of_declarations.local_generic_types_at (tree_of node.now))) }
 {
     let mut places = Vec::new(alloc);
     declarations::local_generic_types(node, &mut places)?;
@@ -198,7 +198,7 @@ fn bad_defined_names(
     found: &mut Vec<Broken>,
 ) -> Result<(), NoMemory>
     ensures { OnOk result (found.new.items ≡ found.old.items
-        ++ told file rule.bad_defined_name_rule (of_statements.bad_defined_names_at (tree_of node.now))) }
+        ++ told file rule.bad_defined_name (of_statements.bad_defined_names_at (tree_of node.now))) }
 {
     let mut places = Vec::new(alloc);
     statements::bad_defined_names(node, &mut places)?;
@@ -212,7 +212,7 @@ fn defining_post_statement(
     found: &mut Vec<Broken>,
 ) -> Result<(), NoMemory>
     ensures { OnOk result (found.new.items ≡ found.old.items
-        ++ told file rule.defining_post_statement_rule (of_statements.defining_post_statement_at (tree_of node.now))) }
+        ++ told file rule.defining_post_statement (of_statements.defining_post_statement_at (tree_of node.now))) }
 {
     let mut places = Vec::new(alloc);
     statements::defining_post_statement(node, &mut places)?;
@@ -226,7 +226,7 @@ fn misplaced_guards(
     found: &mut Vec<Broken>,
 ) -> Result<(), NoMemory>
     ensures { OnOk result (found.new.items ≡ found.old.items
-        ++ told file rule.misplaced_guard_rule (of_guards.misplaced_guards_at (tree_of node.now))) }
+        ++ told file rule.misplaced_guard (of_guards.misplaced_guards_at (tree_of node.now))) }
 {
     let mut places = Vec::new(alloc);
     guards::misplaced_guards(node, &mut places)?;
@@ -240,7 +240,7 @@ fn bad_switch_header(
     found: &mut Vec<Broken>,
 ) -> Result<(), NoMemory>
     ensures { OnOk result (found.new.items ≡ found.old.items
-        ++ told file rule.bad_switch_header_rule (of_switches.bad_switch_header_at (tree_of node.now))) }
+        ++ told file rule.bad_switch_header (of_switches.bad_switch_header_at (tree_of node.now))) }
 {
     let mut places = Vec::new(alloc);
     switch_statements::bad_switch_header(node, &mut places)?;
@@ -254,7 +254,7 @@ fn repeated_defaults(
     found: &mut Vec<Broken>,
 ) -> Result<(), NoMemory>
     ensures { OnOk result (found.new.items ≡ found.old.items
-        ++ told file rule.repeated_default_rule (of_switches.repeated_defaults_at (tree_of node.now))) }
+        ++ told file rule.repeated_default (of_switches.repeated_defaults_at (tree_of node.now))) }
 {
     let mut places = Vec::new(alloc);
     switch_statements::repeated_defaults(node, &mut places)?;

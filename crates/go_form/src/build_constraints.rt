@@ -1,15 +1,16 @@
 // Build constraints before the package clause (Go specification, "Comments").
 ghost use Rattle.std.specs.Prelude.{◌≡◌, ◌≢◌, ℕ, ◌+◌, ◌-◌, ◌<◌, ◌≤◌, ◌⊎◌, ◌==◌, ◌&&◌, ◌↔◌, ◌++◌, ◌∷◌, [], true, false, length, slice_index, IsTrue, OnOk};
-ghost use Rattle.go_tree.specs.Characters.{decoded_at, is_blank};
-ghost use Rattle.go_tree.specs.Comments.{Closes, IsLineComment, IsGeneralComment};
-ghost use Rattle.go_tree.specs.Scan.{Space, Gap};
-ghost use Rattle.go_form.specs.BuildConstraints.{is_space, begins_with_mark, is_line_start, BeginsLine, is_build_line, GetsBuildConstraints};
+ghost use Rattle.go_base.specs.Place.{is_blank};
+ghost use Rattle.go_tree.specs.Lexical.Characters.{decoded_at, is_white_space};
+ghost use Rattle.go_tree.specs.Lexical.Comments.{Closes, IsLineComment, IsGeneralComment};
+ghost use Rattle.go_tree.specs.Lexical.Scan.{Space, Gap};
+ghost use Rattle.go_form.specs.BuildConstraints.{begins_with_mark, is_line_start, BeginsLine, is_build_line, GetsBuildConstraints};
 
 use bstr::decode_utf8;
-use go_base::NoMemory;
+use go_base::{NoMemory, is_blank};
 
 /// Pushes the offset of each build constraint, where `clause` is the offset of the package clause:
-/// blanks and whole comments lead up to it.
+/// white space and whole comments lead up to it.
 pub fn build_constraints(
     bytes: &[u8],
     clause: usize,
@@ -43,7 +44,7 @@ fn is_build_line(bytes: &[u8], at: usize) -> bool
     ensures { result ≡ is_build_line bytes.now at }
 {
     bytes[at..].starts_with(b"//go:build")
-        && (at + 10 == bytes.len() || is_blank(byte_at(bytes, at + 10)))
+        && (at + 10 == bytes.len() || is_white_space(byte_at(bytes, at + 10)))
 }
 
 fn begins_line(bytes: &[u8], at: usize) -> bool
@@ -58,11 +59,11 @@ fn begins_line(bytes: &[u8], at: usize) -> bool
 fn blanks_start(bytes: &[u8], at: usize) -> usize
     requires { at ≤ length bytes.now }
     ensures behind { result ≤ at }
-    ensures blanks { (k : ℕ) → result ≤ k → k < at → is_space (slice_index bytes.now k) ≡ true }
-    ensures first { 0 < result → is_space (slice_index bytes.now (result - 1)) ≡ false }
+    ensures blanks { (k : ℕ) → result ≤ k → k < at → is_blank (slice_index bytes.now k) ≡ true }
+    ensures first { 0 < result → is_blank (slice_index bytes.now (result - 1)) ≡ false }
 {
     let mut start = at;
-    while start > 0 && is_space(bytes[start - 1]) {
+    while start > 0 && is_blank(bytes[start - 1]) {
         start -= 1;
     }
     start
@@ -80,13 +81,13 @@ fn begins_with_mark(bytes: &[u8]) -> bool
     byte_at(bytes, 0) == 0xEF && byte_at(bytes, 1) == 0xBB && byte_at(bytes, 2) == 0xBF
 }
 
-// Where the blank, the comment or the byte order mark ends that stands at an offset.
+// Where the white space, the comment or the byte order mark ends that stands at an offset.
 fn space_end(bytes: &[u8], at: usize) -> usize
     requires { (to : ℕ) × Space bytes.now at to }
     ensures { Space bytes.now at result }
 {
     let byte = byte_at(bytes, at);
-    if is_blank(byte) {
+    if is_white_space(byte) {
         at + 1
     } else if byte != b'/' {
         at + char_size(bytes, at)
@@ -143,14 +144,8 @@ fn byte_at(bytes: &[u8], at: usize) -> u8
     if at < bytes.len() { bytes[at] } else { 0 }
 }
 
-fn is_blank(byte: u8) -> bool
-    ensures { result ≡ is_blank byte }
+fn is_white_space(byte: u8) -> bool
+    ensures { result ≡ is_white_space byte }
 {
     matches!(byte, b' ' | b'\t' | b'\r' | b'\n')
-}
-
-fn is_space(byte: u8) -> bool
-    ensures { result ≡ is_space byte }
-{
-    matches!(byte, b' ' | b'\t' | b'\r')
 }

@@ -5,7 +5,7 @@ ghost use Rattle.std.specs.Prelude.{◌≡◌, ◌++◌, OnOk, map};
 ghost use Rattle.std.specs.Option.{option_to_list};
 ghost use Rattle.std.specs.List.{flat_map};
 ghost use Rattle.go_tree.specs.Tree.{tree_of};
-ghost use Rattle.go_form.specs.Declarations as rules;
+ghost use Rattle.go_form.specs.Families.Declarations as rules;
 
 use crate::nodes::push_place;
 use go_base::NoMemory;
@@ -71,16 +71,16 @@ fn parts_but_literal_type(node: &Node) -> &[Node]
 
 fn push_open_arrays(parts: &[Node], found: &mut Vec<usize>) -> Result<(), NoMemory>
     ensures { OnOk result (found.new.items
-        ≡ found.old.items ++ flat_map rules.open_array_type (map tree_of parts.now)) }
+        ≡ found.old.items ++ flat_map rules.open_array_place (map tree_of parts.now)) }
 {
     for part in parts {
-        push_place(open_array_type(part), found)?;
+        push_place(open_array_place(part), found)?;
     }
     Ok(())
 }
 
-fn open_array_type(part: &Node) -> Option<usize>
-    ensures { option_to_list result ≡ rules.open_array_type (tree_of part.now) }
+fn open_array_place(part: &Node) -> Option<usize>
+    ensures { option_to_list result ≡ rules.open_array_place (tree_of part.now) }
 {
     match part.kind() {
         NodeKind::EllipsisArrayType => Some(part.start()),

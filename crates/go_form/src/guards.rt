@@ -1,9 +1,9 @@
 // Where an `x.(type)` stands other than in the guard of a switch (Go specification, "Type switches").
 ghost use Rattle.std.specs.Prelude.{◌≡◌, ◌++◌, ◌&&◌, true, OnOk, map};
 ghost use Rattle.go_tree.specs.Tree.{tree_of, trees_of};
-ghost use Rattle.go_form.specs.Nodes.{places_where};
-ghost use Rattle.go_form.specs.StatementParts.{is_guard, is_guard_expr};
-ghost use Rattle.go_form.specs.Guards as rules;
+ghost use Rattle.go_form.specs.Families.Nodes.{places_where};
+ghost use Rattle.go_form.specs.Families.StatementParts.{is_guard, is_guard_expr};
+ghost use Rattle.go_form.specs.Families.Guards as rules;
 
 use crate::nodes::push_if;
 use crate::statement_parts::{is_guard, is_guard_expr, is_short_declaration};

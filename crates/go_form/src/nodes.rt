@@ -1,8 +1,8 @@
 // Tests and places of nodes.
 ghost use Rattle.std.specs.Prelude.{◌≡◌, ◌++◌, OnOk, option_to_list};
 ghost use Rattle.go_tree.specs.Tree.{tree_of};
-ghost use Rattle.go_tree.specs.Grammar.TypeTrees.{is_name};
-ghost use Rattle.go_form.specs.Nodes as nodes;
+ghost use Rattle.go_tree.specs.Grammar.Trees.TypeTrees.{is_name};
+ghost use Rattle.go_form.specs.Families.Nodes as nodes;
 
 use go_base::NoMemory;
 use go_tree::{Node, NodeKind};

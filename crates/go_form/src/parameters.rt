@@ -5,7 +5,7 @@ ghost use Rattle.std.specs.Option.{option_to_list};
 ghost use Rattle.std.specs.List.{flat_map, list_any};
 ghost use Rattle.go_tree.specs.Tree.{tree_of, parts_of};
 ghost use Rattle.go_module.specs.NodeParts as parts;
-ghost use Rattle.go_form.specs.Parameters as rules;
+ghost use Rattle.go_form.specs.Families.Parameters as rules;
 
 use crate::nodes::{is_name, place_if, push_if, push_place};
 use go_base::NoMemory;

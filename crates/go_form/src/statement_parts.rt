@@ -2,7 +2,7 @@
 // "Type switches"): left sides, short variable declarations and guards.
 ghost use Rattle.std.specs.Prelude.{◌≡◌, map};
 ghost use Rattle.go_tree.specs.Tree.{tree_of, trees_of, parts_of};
-ghost use Rattle.go_form.specs.StatementParts as parts;
+ghost use Rattle.go_form.specs.Families.StatementParts as parts;
 
 use go_tree::{Node, NodeKind};
 

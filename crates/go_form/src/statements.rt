@@ -2,9 +2,9 @@
 // specification does not allow (Go specification, "Statements").
 ghost use Rattle.std.specs.Prelude.{◌≡◌, ◌++◌, OnOk, map, option_to_list};
 ghost use Rattle.go_tree.specs.Tree.{tree_of, trees_of, kind_of};
-ghost use Rattle.go_form.specs.Nodes.{places_where};
-ghost use Rattle.go_form.specs.StatementParts.{is_short_declaration};
-ghost use Rattle.go_form.specs.Statements as rules;
+ghost use Rattle.go_form.specs.Families.Nodes.{places_where};
+ghost use Rattle.go_form.specs.Families.StatementParts.{is_short_declaration};
+ghost use Rattle.go_form.specs.Families.Statements as rules;
 
 use crate::nodes::{is_name, place_if, push_if, push_place};
 use crate::statement_parts::{declares_guard, is_short_declaration, left_sides};

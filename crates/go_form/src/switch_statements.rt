@@ -2,8 +2,8 @@
 // not allow (Go specification, "Switch statements", "Select statements").
 ghost use Rattle.std.specs.Prelude.{◌≡◌, ◌++◌, OnOk, length, map, option_to_list};
 ghost use Rattle.go_tree.specs.Tree.{tree_of, trees_of, parts_of};
-ghost use Rattle.go_form.specs.Nodes.{places_where};
-ghost use Rattle.go_form.specs.SwitchStatements as rules;
+ghost use Rattle.go_form.specs.Families.Nodes.{places_where};
+ghost use Rattle.go_form.specs.Families.SwitchStatements as rules;
 
 use crate::nodes::{place_if, push_if};
 use crate::statement_parts::is_guard;

@@ -1,7 +1,7 @@
 // All that a file breaks by its form (Go specification, "Source file organization").
 ghost use Rattle.std.specs.Prelude.{◌≡◌, ℕ, ◌++◌, [], ◌∷◌, false, IsTrue, OnOk, IfOk, map};
 ghost use Rattle.std.specs.List.{flat_map};
-ghost use Rattle.go_tree.specs.Scan.{Gap};
+ghost use Rattle.go_tree.specs.Lexical.Scan.{Gap};
 ghost use Rattle.go_tree.specs.Tree.{tree_of, trees_of, start_of, parts_of};
 ghost use Rattle.go_module.specs.Broken.{told};
 ghost use Rattle.go_module.specs.Rules.{unbuilt_form};
@@ -22,7 +22,7 @@ use go_tree::{Node, NodeKind};
 use std::alloc::Global;
 
 /// The list of all that the file with that number breaks by its form, from its bytes and the root of its
-/// tree. Blanks and whole comments lead up to the tree.
+/// tree. White space and whole comments lead up to the tree.
 pub fn broken_forms(
     alloc: Global,
     file: usize,

@@ -16,7 +16,7 @@ use Rattle.go_graph.specs.Graph.{IsGraph, row_at, is_marked}
 use Rattle.go_module.specs.Modules.Module.{FileData, IsModuleOf, PackageData, first_name, in_order, package_at, places_in}
 use Rattle.go_module.specs.Modules.Packages.{IsTableOf, PackageTable, files_of, imports_of, is_home}
 use Rattle.go_module.specs.Modules.Paths.{has_path, homes, own_paths, same_text}
-use Rattle.go_load.specs.Assembly.{IsModuleOrder, cleared, package_with, packages_with, slot_at, taken}
+use Rattle.go_load.specs.Packages.Assembly.{IsModuleOrder, cleared, package_with, packages_with, slot_at, taken}
 use Rattle.go_module.proofs.MemberLemmas.{contains_head, contains_none, contains_tail}
 use Rattle.go_load.proofs.OrderPlaceLemmas.{once_from}
 use Rattle.go_load.proofs.PathSetLemmas.{at-any, less_differs, same, same_text-refl}

@@ -8,7 +8,7 @@ use Rattle.go_module.specs.Modules.Heads.{FileHead}
 use Rattle.go_module.specs.Modules.Paths.{same_text}
 use Rattle.go_module.specs.Modules.Packages.{PackageTable}
 use Rattle.go_graph.specs.Graph.{is_marked}
-use Rattle.go_module.specs.Modules.BrokenImports.{name_at, is_mixed, broken_names, broken_imports_at, broken_package, broken_if_reached}
+use Rattle.go_module.specs.Modules.BrokenImports.{name_at, is_mixed, broken_clauses, broken_imports_at, broken_package, broken_if_reached}
 use Rattle.go_module.proofs.MemberLemmas.{range_more}
 use Rattle.go_load.proofs.PathSetLemmas.{same, same_text-sym, list_any-map}
 
@@ -24,9 +24,9 @@ packages_more f k start old new so_far now =
     ∙ ap (λ x. start ++ flat_map f x) (sym (range_more 0 k) ∙ ap (range_with_len 0) one)
 
 -- what a reached package breaks, by its names and then by its imports
-pub package_told : (heads : List FileHead) (t : PackageTable) (k : ℕ) (paths : List (List ℕ)) (stubs : List Bool) (from_stub : Bool) (files : List ℕ) (start mid new : List Broken) → is_marked t.reached k ≡ true → paths ≡ t.paths → stubs ≡ t.stubs → from_stub ≡ is_marked t.stubs k → files ≡ unwrap_or (slice_get t.files k) [] → mid ≡ start ++ broken_names heads files → new ≡ mid ++ flat_map (broken_imports_at paths stubs heads from_stub) files → new ≡ start ++ broken_if_reached heads t k
+pub package_told : (heads : List FileHead) (t : PackageTable) (k : ℕ) (paths : List (List ℕ)) (stubs : List Bool) (from_stub : Bool) (files : List ℕ) (start mid new : List Broken) → is_marked t.reached k ≡ true → paths ≡ t.paths → stubs ≡ t.stubs → from_stub ≡ is_marked t.stubs k → files ≡ unwrap_or (slice_get t.files k) [] → mid ≡ start ++ broken_clauses heads files → new ≡ mid ++ flat_map (broken_imports_at paths stubs heads from_stub) files → new ≡ start ++ broken_if_reached heads t k
 package_told heads t k paths stubs from_stub files start mid new reached p s f row first now =
-    let names = broken_names heads files in
+    let names = broken_clauses heads files in
     let imports = flat_map (broken_imports_at paths stubs heads from_stub) files in
     now
     ∙ ap (λ x. x ++ imports) first

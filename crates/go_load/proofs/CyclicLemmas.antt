@@ -14,7 +14,7 @@ use Rattle.go_module.specs.Modules.Heads.{FileHead, ImportSpec}
 use Rattle.go_graph.specs.Cycles.{MarksCycles, MarksEach, OnCycle}
 use Rattle.go_module.specs.Modules.Packages.{PackageTable, IsTableOf, named, all_named, imports_at, imports_in, imports_of}
 use Rattle.go_graph.specs.Graph.{is_marked, row_at}
-use Rattle.go_load.specs.CyclicImports.{named_import, named_imports_at, named_imports_in, with_marks, cyclic_if_reached, cyclic_in}
+use Rattle.go_load.specs.Packages.CyclicImports.{named_import, named_imports_at, named_imports_in, with_marks, cyclic_if_reached, cyclic_in}
 use Rattle.go_module.proofs.MemberLemmas.{cons_cases, contains_head, contains_none, contains_tail}
 use Rattle.go_load.proofs.NamedLemmas.{all_named-append}
 use Rattle.go_load.proofs.TableGraphLemmas.{table_row, imports_length}

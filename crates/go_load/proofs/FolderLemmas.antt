@@ -19,9 +19,9 @@ use Rattle.go_mod.specs.ModuleRules.{broken_module_file, broken_rules, has_modul
 use Rattle.go_module.specs.Modules.PathParts.{folders, last_element}
 use Rattle.go_mod.proofs.ListingLemmas.{list_any-agree}
 use Rattle.go_module.proofs.MemberLemmas.{contains_head, contains_tail}
-use Rattle.go_load.specs.Calls.{IsListed, IsReadAt}
-use Rattle.go_load.specs.ModuleTexts.{IsModuleRead, IsPathIn, is_listed, rules_of}
-use Rattle.go_load.specs.ReadTexts.{AreGoFilesOf, AreTextsRead, IsTextRead}
+use Rattle.go_load.specs.Texts.Calls.{IsListed, IsReadAt}
+use Rattle.go_load.specs.Texts.ModuleTexts.{IsModuleRead, IsPathIn, is_listed, rules_of}
+use Rattle.go_load.specs.Texts.ReadTexts.{AreGoFilesOf, AreTextsRead, IsTextRead}
 
 -- the bytes that were read at a path
 abbrev pub read_at : List SourceText → List ℕ → List ℕ

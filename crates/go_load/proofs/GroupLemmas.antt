@@ -11,7 +11,7 @@ use Rattle.std.proofs.lemmas.List.{append-nil}
 use Rattle.std.proofs.lemmas.List.Elements.{filter-append}
 use Rattle.go_module.specs.Modules.Paths.{same_text}
 use Rattle.go_module.specs.Modules.Packages.{is_home}
-use Rattle.go_load.specs.PathSets.{place_of, home_place, put_in}
+use Rattle.go_load.specs.Packages.PathSets.{place_of, home_place, put_in}
 use Rattle.go_module.proofs.MemberLemmas.{range_more}
 use Rattle.go_load.proofs.PathSetLemmas.{same, same_text-sym, less_differs}
 

@@ -9,7 +9,7 @@ use Rattle.go_tree.specs.Tree.{Tree, tree_of}
 use Rattle.go_module.specs.Modules.Texts.{SourceText}
 use Rattle.go_module.specs.Modules.Heads.{FileHead, ImportSpec, AreImports, IsHeadOf, IsImportOf, specs_in}
 use Rattle.go_module.specs.Modules.Module.{AreHeads}
-use Rattle.go_load.specs.Trees.{AddsImports, trees_in}
+use Rattle.go_load.specs.Packages.Trees.{AddsImports, trees_in}
 
 imports-append : (a b : List Tree) (x y : List ImportSpec) → AreImports a x → AreImports b y → AreImports (a ++ b) (x ++ y)
 imports-append [] b [] y h k = k

@@ -14,9 +14,9 @@ use Rattle.go_module.specs.Modules.Module.{AreHeads, AreParts, ModuleData}
 use Rattle.go_module.specs.Modules.Packages.{PackageTable, IsTableOf}
 use Rattle.go_load.specs.declared.load_fault.LoadFault.{LoadFault}
 use Rattle.go_load.specs.declared.load_fault.LoadFault.TheVariants.{Broken, ReadFault, NoMemory}
-use Rattle.go_load.specs.Made.{IsMade, IsMadeFault, MadeBreaks, by_texts, by_packages, IsLoadFault}
-use Rattle.go_load.specs.Reading.{ReadsModule, ReadsBroken}
-use Rattle.go_load.specs.Trees.{AreWhole, IsTextsFault, trees_in}
+use Rattle.go_load.specs.Packages.Made.{IsMade, IsMadeFault, MadeBreaks, by_texts, by_packages, IsLoadFault}
+use Rattle.go_load.specs.Texts.Reading.{ReadsModule, ReadsBroken}
+use Rattle.go_load.specs.Packages.Trees.{AreWhole, IsTextsFault, trees_in}
 
 -- what texts break by themselves
 pub texts_fault : (path : List ℕ) (texts : List SourceText) (fault : LoadFault) → IsTextsFault texts fault → IsMadeFault path texts fault

@@ -6,7 +6,7 @@ use Rattle.std.specs.Option.{option_or}
 use Rattle.std.proofs.lemmas.Bool.{cases_eq}
 use Rattle.std.proofs.lemmas.Bool.Decides.{nat_tests}
 use Rattle.std.proofs.lemmas.List.{length-set, length-take-le, take_at, take_more}
-use Rattle.go_load.specs.Assembly.{put_first, slot_at}
+use Rattle.go_load.specs.Packages.Assembly.{put_first, slot_at}
 use Rattle.go_load.proofs.SlotLemmas.{slot-here, slot-other, Once}
 
 -- a list that was written whole

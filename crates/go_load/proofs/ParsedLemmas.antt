@@ -15,8 +15,8 @@ use Rattle.go_module.specs.Modules.Module.{AreTrees, first_number}
 use Rattle.go_load.specs.Sources.{NumbersOn, SourceBreaks}
 use Rattle.go_load.specs.declared.source.ReadSource.{ReadSource}
 use Rattle.go_load.specs.declared.source.ReadSource.TheVariants.{Whole, Broken as BrokenSource}
-use Rattle.go_load.specs.ReadSources.{IsSource}
-use Rattle.go_load.specs.Trees.{trees_in, next_number, AreNumbered, AreWhole, AreParsed, AddsText, tree, rules}
+use Rattle.go_load.specs.Texts.ReadSources.{IsSource}
+use Rattle.go_load.specs.Packages.Trees.{trees_in, next_number, AreNumbered, AreWhole, AreParsed, AddsText, tree, rules}
 
 pub breaks-more : (number last first next after : ℕ) (texts : List SourceText) (text : SourceText) (before list : List Placed) (broken : List Broken) → number + length texts ≡ last → TextsBreakFrom number first texts next before → SourceBreaks last next text.path text.bytes broken → NumbersOn next text.bytes broken after → list ≡ before ++ map (placed_in text) broken → TextsBreakFrom number first (texts ++ text ∷ []) after list
 breaks-more number last first next after [] text before list broken at none breaks on is =

@@ -13,7 +13,7 @@ use Rattle.std.proofs.lemmas.List.Folds.{list_any-append}
 use Rattle.std.proofs.lemmas.Slice.Eq.{bytes_eq-Decides}
 use Rattle.std.proofs.lemmas.List.{length-map, map-append, append-nil, append_assoc, take_more}
 use Rattle.go_module.specs.Modules.Paths.{same_text, has_path}
-use Rattle.go_load.specs.PathSets.{with_path, place_of}
+use Rattle.go_load.specs.Packages.PathSets.{with_path, place_of}
 
 same_truth : (a b : Bool) → (a ≡ true → b ≡ true) → (b ≡ true → a ≡ true) → a ≡ b
 same_truth true b there back = sym (there refl)

@@ -6,7 +6,7 @@ use Rattle.go_base.specs.declared.rule.Broken.{Broken}
 use Rattle.go_module.specs.declared.places.Placed.{Placed}
 use Rattle.go_module.specs.Modules.Texts.{SourceText}
 use Rattle.go_module.specs.Places.{placed_among, placed_in}
-use Rattle.go_load.specs.Placing.{is_in, text_at}
+use Rattle.go_load.specs.Packages.Placing.{is_in, text_at}
 
 same_number : (a b : ℕ) → (a == b) ≡ true → a ≡ b
 same_number a b e = grind (arith, e)

@@ -61,7 +61,7 @@ all_plain number first next [] [] [] list are breaks none = tt
 
 -- the path of a good module line
 
-line_by : (line : lines.Placed) (rest : List lines.Placed) (path : List ℕ) (o : Option (List ℕ)) → module_path line.text ≡ o → (Contains (map (λ l. l.text) rest) path → Ascii path) → Contains (map (λ l. l.text) (cons_option (placed_at line.offset o) rest)) path → Ascii path
+line_by : (line : lines.LineText) (rest : List lines.LineText) (path : List ℕ) (o : Option (List ℕ)) → module_path line.text ≡ o → (Contains (map (λ l. l.text) rest) path → Ascii path) → Contains (map (λ l. l.text) (cons_option (placed_at line.offset o) rest)) path → Ascii path
 line_by line rest path None e others h = others h
 line_by line rest path (Some found) e others h =
     ⊎_elim
@@ -69,7 +69,7 @@ line_by line rest path (Some found) e others h =
     (λ (has : Contains (map (λ l. l.text) rest) path). others has)
     (cons_cases found (map (λ l. l.text) rest) path h)
 
-pub lines_ascii : (list : List lines.Placed) (path : List ℕ) → Contains (map (λ l. l.text) (filter_map (declared_by module_path) list)) path → Ascii path
+pub lines_ascii : (list : List lines.LineText) (path : List ℕ) → Contains (map (λ l. l.text) (filter_map (declared_by module_path) list)) path → Ascii path
 lines_ascii [] path h = absurd (contains_none path h)
 lines_ascii (line ∷ list) path h = line_by line (filter_map (declared_by module_path) list) path (module_path line.text) refl (λ has. lines_ascii list path has) h
 

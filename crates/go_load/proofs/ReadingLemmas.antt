@@ -20,13 +20,13 @@ use Rattle.go_module.specs.Places.{placed_in}
 use Rattle.go_mod.specs.ModuleRules.{missing_module_file, module_file_path}
 use Rattle.go_load.proofs.FolderLemmas.{broken_is, files_are, folder_is, folder_read, module_bytes, path_read, texts_are}
 use Rattle.go_module.proofs.MemberLemmas.{cons_cases, contains_head, contains_none, contains_tail}
-use Rattle.go_load.specs.Calls.{IsListed, IsNoRule}
+use Rattle.go_load.specs.Texts.Calls.{IsListed, IsNoRule}
 use Rattle.go_mod.specs.ModuleFile.{IsModuleFile}
 use Rattle.go_mod.specs.declared.module_file.ModuleFile.{ModuleFile}
 use Rattle.go_mod.specs.declared.module_file.ModuleFile.TheVariants.{Broken as Bad}
-use Rattle.go_load.specs.ModuleTexts.{IsFaultOf, IsModuleFault, IsModulePath, IsModuleRead, IsTold, TellsRead, module_text_with, rules_of}
-use Rattle.go_load.specs.Reading.{ReadsBroken, ReadsModule}
-use Rattle.go_load.specs.ReadTexts.{Adds, AddsStubs, AreAllRead, AreBothRead, AreGoFilesOf, AreSomeStubFiles, IsTextRead}
+use Rattle.go_load.specs.Texts.ModuleTexts.{IsFaultOf, IsModuleFault, IsModulePath, IsModuleRead, IsTold, TellsRead, module_text_with, rules_of}
+use Rattle.go_load.specs.Texts.Reading.{ReadsBroken, ReadsModule}
+use Rattle.go_load.specs.Texts.ReadTexts.{Adds, AddsStubs, AreAllRead, AreBothRead, AreGoFilesOf, AreSomeStubFiles, IsTextRead}
 use Rattle.go_load.specs.declared.load_fault.LoadFault.{LoadFault}
 use Rattle.go_load.specs.declared.load_fault.LoadFault.TheVariants.{Broken, ReadFault, NoMemory}
 

@@ -8,8 +8,8 @@ use Rattle.go_tree.specs.Tree.{tree_of}
 use Rattle.go_module.specs.declared.module.SourceFile.{SourceFile}
 use Rattle.go_module.specs.Modules.Texts.{SourceText}
 use Rattle.go_module.specs.Modules.Module.{FileData, file_view, files_from}
-use Rattle.go_load.specs.SourceFiles.{file_if, file_with, joined}
-use Rattle.go_load.specs.Trees.{AreNumbered, trees_in}
+use Rattle.go_load.specs.Packages.SourceFiles.{file_if, file_with, joined}
+use Rattle.go_load.specs.Packages.Trees.{AreNumbered, trees_in}
 
 -- files with the numbers of their trees
 pub joined-numbered : (number : ℕ) (texts : List SourceText) (files : List File) → AreNumbered number files → joined texts files ≡ files_from number texts (trees_in files)

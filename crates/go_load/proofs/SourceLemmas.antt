@@ -10,7 +10,7 @@ use Rattle.go_module.specs.Modules.PathParts.{is_plain}
 use Rattle.go_load.specs.Sources.{special_file_path, AreBrokenWith, SourceBreaks}
 use Rattle.go_load.specs.declared.source.ReadSource.{ReadSource}
 use Rattle.go_load.specs.declared.source.ReadSource.TheVariants.{Whole, Broken}
-use Rattle.go_load.specs.ReadSources.{IsOneBroken, IsSource}
+use Rattle.go_load.specs.Texts.ReadSources.{IsOneBroken, IsSource}
 
 filled : (b : BrokenRule) (list : List BrokenRule) → list ≡ b ∷ [] → list ≢ []
 filled b list q n = absurd (let z = sym q ∙ n in cc)

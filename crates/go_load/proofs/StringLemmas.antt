@@ -4,11 +4,11 @@ use Rattle.std.specs.List.{slice_range}
 use Rattle.std.proofs.lemmas.List.{take_all}
 use Rattle.go_num.specs.Text.{most_text}
 use Rattle.go_tree.specs.declared.token.Token.{Token}
-use Rattle.go_tree.specs.LiteralValues.{string_lit_value}
-use Rattle.go_tree.specs.Scan.{IsNext}
+use Rattle.go_tree.specs.Lexical.LiteralValues.{string_lit_value}
+use Rattle.go_tree.specs.Lexical.Scan.{IsNext}
 use Rattle.go_scan.proofs.NextLemmas.{one_next}
 use Rattle.go_module.specs.Modules.Heads.{IsImportPath, IsOneString, literal, long, other}
-use Rattle.go_load.specs.Strings.{IsWholeText}
+use Rattle.go_load.specs.Packages.Strings.{IsWholeText}
 
 whole_range : (text : List ℕ) (a b : ℕ) → a ≡ 0 → b ≡ length text → slice_range text a b ≡ text
 whole_range text a b start end =

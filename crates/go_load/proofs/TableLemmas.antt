@@ -9,7 +9,7 @@ use Rattle.go_module.specs.Modules.PathParts.{folder_of_path}
 use Rattle.go_module.specs.Modules.Paths.{same_text, own_paths, has_path, import_path, home, homes}
 use Rattle.go_graph.specs.Graph.{is_marked, IsGraph, row_at}
 use Rattle.go_module.specs.Modules.Packages.{visible, named, all_named, imports_in, imports_of, files_of, IsPathList, IsTableOf, Reached}
-use Rattle.go_load.specs.PathSets.{imports_by}
+use Rattle.go_load.specs.Packages.PathSets.{imports_by}
 use Rattle.go_module.proofs.MemberLemmas.{cons_cases, contains_none}
 
 -- the imports by flags and files that are given for each path

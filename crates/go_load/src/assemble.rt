@@ -4,7 +4,7 @@ ghost use Rattle.go_module.specs.Modules.Texts.{as_text};
 ghost use Rattle.go_graph.specs.Graph.{IsGraph, row_at, is_marked};
 ghost use Rattle.go_module.specs.Modules.Module.{IsModuleOf, file_view, first_name, module_view, package_view};
 ghost use Rattle.go_module.specs.Modules.Packages.{IsTableOf};
-ghost use Rattle.go_load.specs.Assembly.{IsModuleOrder, cleared, files_left, package_with, packages_with};
+ghost use Rattle.go_load.specs.Packages.Assembly.{IsModuleOrder, cleared, files_left, package_with, packages_with};
 
 use crate::heads::Head;
 use crate::names_broken::name_at;

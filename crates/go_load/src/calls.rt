@@ -1,6 +1,6 @@
 // The calls on a tree.
 ghost use Rattle.std.specs.Prelude.{IfErr, IfOk};
-ghost use Rattle.go_load.specs.Calls.{IsListed, IsNoRule, IsReadAt, Leaves};
+ghost use Rattle.go_load.specs.Texts.Calls.{IsListed, IsNoRule, IsReadAt, Leaves};
 
 use crate::load_fault::LoadFault;
 use crate::source::MOST_BYTES;

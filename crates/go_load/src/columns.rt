@@ -2,7 +2,7 @@
 ghost use Rattle.std.specs.Prelude.{◌≡◌, IfOk, length, map, not};
 ghost use Rattle.go_module.specs.Modules.Paths.{has_path};
 ghost use Rattle.go_module.specs.Modules.Packages.{imports_of};
-ghost use Rattle.go_load.specs.PathSets.{imports_by};
+ghost use Rattle.go_load.specs.Packages.PathSets.{imports_by};
 
 use crate::heads::Head;
 use crate::named::imports_of;

@@ -2,10 +2,10 @@
 ghost use Rattle.std.specs.Prelude.{◌≡◌, ◌++◌, OnOk};
 ghost use Rattle.std.specs.List.{flat_map};
 ghost use Rattle.go_graph.specs.Cycles.{marks_of};
-ghost use Rattle.go_load.specs.CyclicImports.{named_import, named_imports_at, named_imports_in, with_marks, cyclic_if_reached, cyclic_in};
+ghost use Rattle.go_load.specs.Packages.CyclicImports.{named_import, named_imports_at, named_imports_in, with_marks, cyclic_if_reached, cyclic_in};
 ghost use Rattle.go_graph.specs.Graph.{row_at};
 
-use crate::heads::{Head, Import};
+use crate::heads::{Head, ImportSpec};
 use crate::named::named;
 use crate::path_set::PathSet;
 use crate::rules::CYCLIC_IMPORT;
@@ -123,7 +123,7 @@ fn add_each_import(
     stubs: &[bool],
     from_stub: bool,
     file: usize,
-    imports: &[Import],
+    imports: &[ImportSpec],
 ) -> Result<(), NoMemory>
     ensures { OnOk result (list.new.items ≡ list.old.items
         ++ flat_map (named_import places.now stubs.now from_stub file) imports.now) }
@@ -141,7 +141,7 @@ fn add_import(
     stubs: &[bool],
     from_stub: bool,
     file: usize,
-    import: &Import,
+    import: &ImportSpec,
 ) -> Result<(), NoMemory>
     ensures { OnOk result (list.new.items
         ≡ list.old.items ++ named_import places.now stubs.now from_stub file import.now) }

@@ -4,7 +4,7 @@ ghost use Rattle.std.specs.Cmp.Lexicographic.{slice_cmp};
 ghost use Rattle.std.specs.List.Sorted.{IsStrictlySortedBy};
 ghost use Rattle.std.specs.Ordering.{nat_cmp};
 ghost use Rattle.go_module.specs.Modules.Packages.{files_of};
-ghost use Rattle.go_load.specs.PathSets.{home_place, put_in};
+ghost use Rattle.go_load.specs.Packages.PathSets.{home_place, put_in};
 
 use crate::path_set::PathSet;
 use crate::paths::ImportPath;

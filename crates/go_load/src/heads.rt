@@ -6,12 +6,12 @@ use std::marker::Model;
 
 /// An import of a file: the path that its string names, and the offset of the string in bytes.
 #[derive(Debug, Drop)]
-pub struct Import {
+pub struct ImportSpec {
     path: Bytes,
     at: usize,
 }
 
-impl Model for Import {
+impl Model for ImportSpec {
     ghost use Rattle.go_module.specs.Modules.Heads.{ImportSpec};
 
     ghost Value = { ImportSpec };
@@ -19,12 +19,12 @@ impl Model for Import {
     ghost view = { λ import. record { path = import.path; at = import.at } };
 }
 
-impl Import {
+impl ImportSpec {
     /// The import of `path` by the string at `at`.
     pub fn new(path: Bytes, at: usize) -> Self
         ensures { result ≡ record { path = path; at = at } }
     {
-        Import { path, at }
+        ImportSpec { path, at }
     }
 
     /// The path that the string names.
@@ -50,7 +50,7 @@ pub struct Head {
     path: Name,
     name: Bytes,
     name_at: usize,
-    imports: Vec<Import>,
+    imports: Vec<ImportSpec>,
 }
 
 impl Model for Head {
@@ -70,7 +70,13 @@ impl Model for Head {
 impl Head {
     /// The head of the file at `path` below its root. A `stub` lies below the root of stubs. `name` is
     /// the name in its package clause, at the byte `name_at`, and its imports stand in source order.
-    pub fn new(stub: bool, path: Name, name: Bytes, name_at: usize, imports: Vec<Import>) -> Self
+    pub fn new(
+        stub: bool,
+        path: Name,
+        name: Bytes,
+        name_at: usize,
+        imports: Vec<ImportSpec>,
+    ) -> Self
         ensures { result ≡ record {
           stub = stub;
           path = path;
@@ -117,7 +123,7 @@ impl Head {
     }
 
     /// The imports in source order.
-    pub fn imports(&self) -> &[Import]
+    pub fn imports(&self) -> &[ImportSpec]
         ensures { result.now ≡ self.now.imports }
     {
         &self.imports

@@ -1,9 +1,9 @@
 // The paths that imports name (Go specification, "Import declarations", "String literals").
 ghost use Rattle.std.specs.Prelude.{◌≡◌, ◌↔◌, IfOk, IsTrue, length, None, []};
 ghost use Rattle.go_tree.specs.declared.token.Token.{Token as TokenOf};
-ghost use Rattle.go_tree.specs.Scan.{IsNext};
+ghost use Rattle.go_tree.specs.Lexical.Scan.{IsNext};
 ghost use Rattle.go_module.specs.Modules.Heads.{IsImportPath, IsOneString};
-ghost use Rattle.go_load.specs.Strings.{IsWholeText};
+ghost use Rattle.go_load.specs.Packages.Strings.{IsWholeText};
 
 use go_base::{Bytes, NoMemory};
 use go_num::TextFault;

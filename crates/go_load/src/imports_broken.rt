@@ -1,10 +1,10 @@
 // What imports and package names break.
 ghost use Rattle.std.specs.Prelude.{◌≡◌, ◌++◌, OnOk};
 ghost use Rattle.std.specs.List.{flat_map};
-ghost use Rattle.go_module.specs.Modules.BrokenImports.{begins_with, is_unnamed, is_unbuilt, broken_import, broken_imports_at, broken_package, broken_if_reached, broken_imports_in};
+ghost use Rattle.go_module.specs.Modules.BrokenImports.{begins_with, is_unnamed, is_special, broken_import, broken_imports_at, broken_package, broken_if_reached, broken_imports_in};
 ghost use Rattle.go_graph.specs.Graph.{row_at};
 
-use crate::heads::{Head, Import};
+use crate::heads::{Head, ImportSpec};
 use crate::named::named;
 use crate::names_broken::add_names;
 use crate::path_set::PathSet;
@@ -96,7 +96,7 @@ fn add_each_import(
     stubs: &[bool],
     from_stub: bool,
     file: usize,
-    imports: &[Import],
+    imports: &[ImportSpec],
 ) -> Result<(), NoMemory>
     ensures { OnOk result (found.new.items ≡ found.old.items
         ++ flat_map (broken_import places.now stubs.now from_stub file) imports.now) }
@@ -114,7 +114,7 @@ fn add_import(
     stubs: &[bool],
     from_stub: bool,
     file: usize,
-    import: &Import,
+    import: &ImportSpec,
 ) -> Result<(), NoMemory>
     ensures { OnOk result (found.new.items
         ≡ found.old.items ++ broken_import places.now stubs.now from_stub file import.now) }
@@ -125,8 +125,8 @@ fn add_import(
         unnamed,
         broken_at(file, import.at(), MISSING_PACKAGE),
     )?;
-    let unbuilt = is_unbuilt(import.path());
-    add_if(found, unbuilt, broken_at(file, import.at(), SPECIAL_IMPORT))
+    let special = is_special(import.path());
+    add_if(found, special, broken_at(file, import.at(), SPECIAL_IMPORT))
 }
 
 // Whether the path of an import names no package.
@@ -137,8 +137,8 @@ fn is_unnamed(places: &PathSet, stubs: &[bool], from_stub: bool, path: &[u8]) ->
 }
 
 // Whether an import by this path is outside the language that is checked.
-fn is_unbuilt(path: &[u8]) -> bool
-    ensures { result ≡ is_unbuilt path.now }
+fn is_special(path: &[u8]) -> bool
+    ensures { result ≡ is_special path.now }
 {
     path == b"C".as_slice()
         || path == b"unsafe".as_slice()

@@ -47,7 +47,7 @@ mod slots;
 mod source_files;
 
 pub use go_module::{Module, Package, SourceFile};
-pub use heads::{Head, Import};
+pub use heads::{Head, ImportSpec};
 pub use laws::{imports_stand_before, numbers_ascend, one_load};
 pub use load_fault::LoadFault;
 pub use loading::load;
@@ -55,7 +55,7 @@ pub use packages::packages_of;
 pub use packages_broken::broken_packages;
 pub use paths::ImportPath;
 pub use rules::{
-    CYCLIC_IMPORT, LARGE_FILE, MISSING_PACKAGE, PACKAGE_NAME, SPECIAL_FILE_PATH, SPECIAL_IMPORT,
+    CYCLIC_IMPORT, LARGE_FILE, MISSING_PACKAGE, MIXED_PACKAGE, SPECIAL_FILE_PATH, SPECIAL_IMPORT,
 };
 pub use source::{MOST_BYTES, ReadSource, read_source};
 pub use table::Packages;

@@ -2,7 +2,7 @@
 ghost use Rattle.std.specs.Prelude.{◌≡◌};
 ghost use Rattle.go_base.specs.declared.tree.TreeFault.TheVariants.{Failed};
 ghost use Rattle.go_load.specs.declared.load_fault.LoadFault.TheVariants.{NoMemory as OutOfMemory};
-ghost use Rattle.go_load.specs.Reading.{fault_of};
+ghost use Rattle.go_load.specs.Texts.Reading.{fault_of};
 
 use go_base::{NoMemory, TreeFault};
 use go_module::Placed;

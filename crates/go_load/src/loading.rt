@@ -4,7 +4,7 @@ ghost use Rattle.std.specs.Option.{option_copied};
 ghost use Rattle.go_base.specs.Counters.{Rose};
 ghost use Rattle.go_load.specs.Loading.{LoadsModule};
 ghost use Rattle.go_module.specs.Modules.Module.{module_view};
-ghost use Rattle.go_load.specs.Made.{IsLoadFault, IsMade, IsMadeFault};
+ghost use Rattle.go_load.specs.Packages.Made.{IsLoadFault, IsMade, IsMadeFault};
 
 use crate::assemble::module_of;
 use crate::load_fault::LoadFault;

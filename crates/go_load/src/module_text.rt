@@ -3,8 +3,8 @@ ghost use Rattle.std.specs.Prelude.{◌≡◌, None, Some, IfErr, IfOk, IsErrOf,
 ghost use Rattle.std.specs.Cmp.Lexicographic.{pointwise};
 ghost use Rattle.std.specs.List.{list_any};
 ghost use Rattle.go_mod.specs.ModuleRules.{module_file_path};
-ghost use Rattle.go_load.specs.Calls.{IsNoRule, Leaves};
-ghost use Rattle.go_load.specs.ModuleTexts.{IsFaultOf, IsModuleFault, IsModulePath, IsModuleRead, IsPathIn, IsTold};
+ghost use Rattle.go_load.specs.Texts.Calls.{IsNoRule, Leaves};
+ghost use Rattle.go_load.specs.Texts.ModuleTexts.{IsFaultOf, IsModuleFault, IsModulePath, IsModuleRead, IsPathIn, IsTold};
 
 use crate::calls::read_file;
 use crate::load_fault::LoadFault;

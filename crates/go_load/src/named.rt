@@ -3,7 +3,7 @@ ghost use Rattle.std.specs.Prelude.{◌≡◌, [], ◌∷◌, ◌++◌, IfOk, On
 ghost use Rattle.go_graph.specs.Graph.{is_marked};
 ghost use Rattle.go_module.specs.Modules.Packages.{named, all_named, imports_at, imports_of};
 
-use crate::heads::{Head, Import};
+use crate::heads::{Head, ImportSpec};
 use crate::path_set::PathSet;
 use go_base::NoMemory;
 use go_graph::{Numbers, is_marked};
@@ -64,7 +64,7 @@ fn add_named(
     places: &PathSet,
     stubs: &[bool],
     from_stub: bool,
-    imports: &[Import],
+    imports: &[ImportSpec],
 ) -> Result<(), NoMemory>
     ensures { OnOk result (list.new
         ≡ list.old ++ all_named places.now stubs.now from_stub imports.now) }
@@ -81,7 +81,7 @@ fn add_import(
     places: &PathSet,
     stubs: &[bool],
     from_stub: bool,
-    import: &Import,
+    import: &ImportSpec,
 ) -> Result<(), NoMemory>
     ensures { OnOk result (list.new
         ≡ list.old ++ all_named places.now stubs.now from_stub (import.now ∷ [])) }

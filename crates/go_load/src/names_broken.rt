@@ -3,16 +3,16 @@ ghost use Rattle.std.specs.Prelude.{◌≡◌, ◌++◌, ◌||◌, not, codes, O
 ghost use Rattle.std.specs.List.{list_any};
 ghost use Rattle.go_module.specs.Modules.Paths.{same_text};
 ghost use Rattle.go_module.specs.Broken.{broken_at};
-ghost use Rattle.go_module.specs.Modules.BrokenImports.{mixed_package, name_at, name_place, is_mixed, broken_names};
+ghost use Rattle.go_module.specs.Modules.BrokenImports.{mixed_package, name_at, name_place, is_mixed, broken_clauses};
 
 use crate::heads::Head;
-use crate::rules::PACKAGE_NAME;
+use crate::rules::MIXED_PACKAGE;
 use go_base::{Broken, NoMemory};
 use go_module::broken_at;
 
 /// Adds what the package names of these files break.
 pub fn add_names(found: &mut Vec<Broken>, heads: &[Head], files: &[usize]) -> Result<(), NoMemory>
-    ensures { OnOk result (found.new.items ≡ found.old.items ++ broken_names heads.now files.now) }
+    ensures { OnOk result (found.new.items ≡ found.old.items ++ broken_clauses heads.now files.now) }
 {
     if is_mixed(heads, files) {
         return add_each_name(found, heads, files);
@@ -26,7 +26,7 @@ fn add_each_name(found: &mut Vec<Broken>, heads: &[Head], files: &[usize]) -> Re
         ++ map (λ file. broken_at file (name_place heads.now file) mixed_package) files.now) }
 {
     for file in files {
-        found.push(broken_at(*file, name_place(heads, *file), PACKAGE_NAME))?;
+        found.push(broken_at(*file, name_place(heads, *file), MIXED_PACKAGE))?;
     }
     Ok(())
 }

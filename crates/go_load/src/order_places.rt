@@ -1,7 +1,7 @@
 // The places of packages in an order.
 ghost use Rattle.std.specs.Prelude.{◌≡◌, ◌==◌, ◌<◌, ◌++◌, ℕ, All, IfOk, None, OnOk, length, option_to_list, position, replicate};
 ghost use Rattle.std.specs.List.{filter_map};
-ghost use Rattle.go_load.specs.Assembly.{put_first, slot_at};
+ghost use Rattle.go_load.specs.Packages.Assembly.{put_first, slot_at};
 
 use go_base::NoMemory;
 use std::alloc::Global;

@@ -2,7 +2,7 @@
 ghost use Rattle.std.specs.Prelude.{◌≡◌, ◌+◌, [], IfErr, IfOk, OnOk, length};
 ghost use Rattle.go_tree.specs.Tree.{id_of, tree_of};
 ghost use Rattle.go_load.specs.Loading.{TextsBreak};
-ghost use Rattle.go_load.specs.Trees.{AddsText, AreParsed, AreWhole, IsTextsFault, next_number, trees_in};
+ghost use Rattle.go_load.specs.Packages.Trees.{AddsText, AreParsed, AreWhole, IsTextsFault, next_number, trees_in};
 
 use crate::load_fault::LoadFault;
 use crate::places::placed_list;

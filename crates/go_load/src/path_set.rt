@@ -3,7 +3,7 @@ ghost use Rattle.std.specs.Prelude.{◌≡◌, [], not, ◌<◌, ℕ, List, leng
 ghost use Rattle.std.specs.Cmp.Lexicographic.{slice_cmp};
 ghost use Rattle.std.specs.List.Sorted.{IsStrictlySortedBy};
 ghost use Rattle.std.specs.Ordering.{nat_cmp};
-ghost use Rattle.go_load.specs.PathSets.{with_path, place_of};
+ghost use Rattle.go_load.specs.Packages.PathSets.{with_path, place_of};
 ghost use Rattle.go_module.specs.Modules.Paths.{has_path};
 
 use crate::paths::ImportPath;

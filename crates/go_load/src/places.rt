@@ -2,7 +2,7 @@
 ghost use Rattle.std.specs.Prelude.{◌≡◌, ◌≤◌, ◌++◌, IfOk, OnOk, length, map};
 ghost use Rattle.std.specs.List.{prefix_len};
 ghost use Rattle.go_module.specs.Places.{empty_text, placed_among, placed_in};
-ghost use Rattle.go_load.specs.Placing.{is_in, text_at};
+ghost use Rattle.go_load.specs.Packages.Placing.{is_in, text_at};
 
 use go_base::{Broken, Bytes, Lines, Name, NoMemory};
 use go_module::{At, Placed, Text};

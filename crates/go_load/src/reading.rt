@@ -2,9 +2,9 @@
 ghost use Rattle.std.specs.Prelude.{◌≡◌, IfErr, IfOk, IsErrOf};
 ghost use Rattle.std.specs.Option.{option_copied};
 ghost use Rattle.go_base.specs.Counters.{Rose};
-ghost use Rattle.go_load.specs.Calls.{IsListed, IsNoRule, Leaves};
-ghost use Rattle.go_load.specs.Reading.{ReadsBroken, ReadsModule};
-ghost use Rattle.go_load.specs.ReadTexts.{Adds, AddsStubs, AreAllRead, AreBothRead, AreSomeStubFiles, IsTextRead};
+ghost use Rattle.go_load.specs.Texts.Calls.{IsListed, IsNoRule, Leaves};
+ghost use Rattle.go_load.specs.Texts.Reading.{ReadsBroken, ReadsModule};
+ghost use Rattle.go_load.specs.Texts.ReadTexts.{Adds, AddsStubs, AreAllRead, AreBothRead, AreSomeStubFiles, IsTextRead};
 
 use crate::calls::{list_files, read_file};
 use crate::load_fault::LoadFault;

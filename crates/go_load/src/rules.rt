@@ -15,7 +15,7 @@ pub const CYCLIC_IMPORT: Rule = Rule {
 
 /// The name in a package clause, where those of a folder differ or one is `_` (Go specification,
 /// "Package clause").
-pub const PACKAGE_NAME: Rule = Rule {
+pub const MIXED_PACKAGE: Rule = Rule {
     family: Family::P,
     number: 3,
 };

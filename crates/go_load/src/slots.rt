@@ -1,7 +1,7 @@
 // Files that are still to be put into packages: they stand at their numbers until they are taken.
 ghost use Rattle.std.specs.Prelude.{◌≡◌, ◌++◌, IfOk, None, OnOk, Some, map, option_map, option_to_list, slice_set};
 ghost use Rattle.go_module.specs.Modules.Module.{file_view};
-ghost use Rattle.go_load.specs.Assembly.{cleared, files_left, slot_at, taken};
+ghost use Rattle.go_load.specs.Packages.Assembly.{cleared, files_left, slot_at, taken};
 
 use go_base::NoMemory;
 use go_module::SourceFile;

@@ -1,9 +1,9 @@
 // What a Go file breaks by itself (Go specification, "Source file organization").
 ghost use Rattle.std.specs.Prelude.{false, IfOk};
-ghost use Rattle.go_tree.specs.Scan.{Gap};
+ghost use Rattle.go_tree.specs.Lexical.Scan.{Gap};
 ghost use Rattle.go_tree.specs.Tree.{start_of, tree_of};
 ghost use Rattle.go_load.specs.Sources.{AreBrokenWith};
-ghost use Rattle.go_load.specs.ReadSources.{IsOneBroken, IsSource};
+ghost use Rattle.go_load.specs.Texts.ReadSources.{IsOneBroken, IsSource};
 
 use crate::rules::{LARGE_FILE, SPECIAL_FILE_PATH};
 use go_base::{Broken, NoMemory};

@@ -1,8 +1,8 @@
 // The files of a module, of their texts and trees.
 ghost use Rattle.std.specs.Prelude.{◌≡◌, ◌++◌, IfOk, OnOk, length, map};
 ghost use Rattle.go_module.specs.Modules.Module.{file_view, files_from};
-ghost use Rattle.go_load.specs.SourceFiles.{file_if, file_with, joined};
-ghost use Rattle.go_load.specs.Trees.{AreNumbered, trees_in};
+ghost use Rattle.go_load.specs.Packages.SourceFiles.{file_if, file_with, joined};
+ghost use Rattle.go_load.specs.Packages.Trees.{AreNumbered, trees_in};
 
 use go_base::NoMemory;
 use go_module::{SourceFile, Text};

@@ -3,9 +3,9 @@ ghost use Rattle.std.specs.Prelude.{◌≡◌, ◌∷◌, [], IfOk, OnOk, length
 ghost use Rattle.go_tree.specs.Tree.{tree_of};
 ghost use Rattle.go_module.specs.Modules.Heads.{IsHeadOf, IsImportOf, AreImports, specs_in, import_specs};
 ghost use Rattle.go_module.specs.Modules.Module.{AreHeads};
-ghost use Rattle.go_load.specs.Trees.{AddsImports, trees_in};
+ghost use Rattle.go_load.specs.Packages.Trees.{AddsImports, trees_in};
 
-use crate::heads::{Head, Import};
+use crate::heads::{Head, ImportSpec};
 use crate::import_strings::import_path_of;
 use go_base::{Bytes, NoMemory};
 use go_module::{Text, first_part, last_part, part_list};
@@ -36,7 +36,7 @@ fn head_of(alloc: Global, text: &Text, root: &Node) -> Result<Head, NoMemory>
 }
 
 // The imports of a file.
-fn imports_in(alloc: Global, root: &Node) -> Result<Vec<Import>, NoMemory>
+fn imports_in(alloc: Global, root: &Node) -> Result<Vec<ImportSpec>, NoMemory>
     ensures { IfOk result (λ imports. AreImports (import_specs (tree_of root.now)) imports.items) }
 {
     let mut imports = Vec::new(alloc);
@@ -50,7 +50,7 @@ fn imports_in(alloc: Global, root: &Node) -> Result<Vec<Import>, NoMemory>
 fn add_declaration(
     alloc: Global,
     declaration: &Node,
-    imports: &mut Vec<Import>,
+    imports: &mut Vec<ImportSpec>,
 ) -> Result<(), NoMemory>
     ensures { OnOk result (AddsImports (specs_in (tree_of declaration.now)) imports.old.items imports.new.items) }
 {
@@ -62,7 +62,7 @@ fn add_declaration(
 }
 
 // Adds an import for each spec.
-fn add_specs(alloc: Global, specs: &[Node], imports: &mut Vec<Import>) -> Result<(), NoMemory>
+fn add_specs(alloc: Global, specs: &[Node], imports: &mut Vec<ImportSpec>) -> Result<(), NoMemory>
     ensures { OnOk result (AddsImports (map tree_of specs.now) imports.old.items imports.new.items) }
 {
     for spec in specs {
@@ -72,10 +72,10 @@ fn add_specs(alloc: Global, specs: &[Node], imports: &mut Vec<Import>) -> Result
 }
 
 // The import of a spec.
-fn import_of(alloc: Global, spec: &Node) -> Result<Import, NoMemory>
+fn import_of(alloc: Global, spec: &Node) -> Result<ImportSpec, NoMemory>
     ensures { IfOk result (λ import. IsImportOf (tree_of spec.now) import) }
 {
     let string = last_part(spec);
     let path = import_path_of(alloc, string.text())?;
-    Ok(Import::new(path, string.start()))
+    Ok(ImportSpec::new(path, string.start()))
 }

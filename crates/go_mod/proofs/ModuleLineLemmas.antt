@@ -6,7 +6,7 @@ use Rattle.std.proofs.lemmas.List.{drop-drop, drop_more, take_more, take_all, ta
 use Rattle.std.proofs.lemmas.List.Splits.{slice_split_first, slice_split_none}
 use Rattle.std.proofs.lemmas.List.Sums.{prefix_len_passes}
 use Rattle.go_base.specs.Place.{is_newline}
-use Rattle.go_mod.specs.ModuleLines.{Placed, before_comment, content, placed_from}
+use Rattle.go_mod.specs.ModuleLines.{LineText, before_comment, content, placed_from}
 
 -- a byte that begins no comment stands before the comment
 no_comment : (b : ℕ) (bs : List ℕ) → starts_with nat_eq (b ∷ bs) (codes "//") ≡ false → before_comment (b ∷ bs) ≡ b ∷ before_comment bs
@@ -26,11 +26,11 @@ comment_more line end lt none front =
     ∙ front
 
 -- what counts of the lines from an offset on; past the end there are none
-abbrev pub lines_from : List ℕ → ℕ → List Placed
+abbrev pub lines_from : List ℕ → ℕ → List LineText
 lines_from bytes offset = cond (nat_lt (length bytes) offset) [] (placed_from offset (slice_split is_newline (drop offset bytes)))
 
 -- the line that begins at an offset
-abbrev pub line_at : List ℕ → ℕ → Placed
+abbrev pub line_at : List ℕ → ℕ → LineText
 line_at bytes offset = record { offset = offset; text = content (before_first is_newline (drop offset bytes)) }
 
 lines_inside : (bytes : List ℕ) (offset : ℕ) → offset ≤ length bytes → lines_from bytes offset ≡ placed_from offset (slice_split is_newline (drop offset bytes))
@@ -85,7 +85,7 @@ pub lines_step : (bytes : List ℕ) (offset len : ℕ) (text : List ℕ) → off
     len ≡ position_or_len is_newline (take (length bytes - offset) (drop offset bytes)) → text ≡ content (take len (take (length bytes - offset) (drop offset bytes))) →
     record { offset = offset; text = text } ∷ lines_from bytes (offset + (len + 1)) ≡ lines_from bytes offset
 lines_step bytes offset len text le end is =
-    let placed : ℕ → List ℕ → List Placed = λ n t. record { offset = offset; text = t } ∷ lines_from bytes (offset + (n + 1)) in
+    let placed : ℕ → List ℕ → List LineText = λ n t. record { offset = offset; text = t } ∷ lines_from bytes (offset + (n + 1)) in
     let rest = take_rest bytes offset in
     ap (placed len) (is ∙ ap (λ t. content (take len t)) rest)
     ∙ ap (λ n. placed n (content (take n (drop offset bytes)))) (end ∙ ap (position_or_len is_newline) rest)

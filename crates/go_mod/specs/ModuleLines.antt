@@ -4,16 +4,12 @@ use Rattle.std.specs.Prelude.{ℕ, ◌+◌, ◌-◌, ◌==◌, ◌&&◌, ◌||�
 use Rattle.std.specs.Prelude.{List, [], ◌∷◌, codes, drop, length, take}
 use Rattle.std.specs.List.{starts_with, ends_with, prefix_len, suffix_len, take_while, slice_split}
 use Rattle.std.specs.Cmp.Lexicographic.{pointwise}
-use Rattle.go_base.specs.Place.{is_newline}
+use Rattle.go_base.specs.Place.{is_blank, is_newline}
 
 -- a text, and the offset of the line that it stands in
-pub record Placed : Type 0 where
+pub record LineText : Type 0 where
   pub offset : ℕ
   pub text : List ℕ
-
--- a space, a tab or a carriage return
-abbrev pub is_blank : ℕ → Bool
-is_blank b = (b == 32) || ((b == 9) || (b == 13))
 
 abbrev pub is_not_blank : ℕ → Bool
 is_not_blank b = not (is_blank b)
@@ -41,13 +37,13 @@ content line = trim_end (trim_start (before_comment line))
 
 -- what counts of each line, at the offset of the line's first byte, where the first one begins at the
 -- offset that is given
-abbrev pub placed_from : ℕ → List (List ℕ) → List Placed
+abbrev pub placed_from : ℕ → List (List ℕ) → List LineText
 placed_from offset [] = []
 placed_from offset (line ∷ lines) =
     record { offset = offset; text = content line }
     ∷ placed_from (offset + length line + 1) lines
 
-abbrev pub lines_of : List ℕ → List Placed
+abbrev pub lines_of : List ℕ → List LineText
 lines_of bytes = placed_from 0 (slice_split is_newline bytes)
 
 -- the longest front without blanks
@@ -69,7 +65,7 @@ abbrev pub closes_block : List ℕ → Bool
 closes_block text = starts_with nat_eq text (codes ")")
 
 -- the lines that stand in no block, where the first line stands in an open block or not
-abbrev pub outside_blocks : Bool → List Placed → List Placed
+abbrev pub outside_blocks : Bool → List LineText → List LineText
 outside_blocks in_block [] = []
 outside_blocks true (line ∷ lines) = outside_blocks (not (closes_block line.text)) lines
 outside_blocks false (line ∷ lines) =

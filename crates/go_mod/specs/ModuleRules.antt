@@ -10,7 +10,7 @@ use Rattle.go_base.specs.declared.rule.Rule.{Rule}
 use Rattle.go_module.specs.Broken.{broken_at, told}
 use Rattle.go_mod.specs.Folders.{Folder}
 use Rattle.go_mod.specs.LanguageVersion.{go_version, is_1_21}
-use Rattle.go_mod.specs.ModuleLines.{Placed, lines_of, outside_blocks}
+use Rattle.go_mod.specs.ModuleLines.{LineText, lines_of, outside_blocks}
 use Rattle.go_mod.specs.ModulePath.{module_path}
 
 -- M1: a root without go.mod
@@ -26,43 +26,43 @@ abbrev pub go_line : Rule
 go_line = record { family = M; number = 3 }
 
 -- U1: another version than 1.21
-abbrev pub other_version_rule : Rule
-other_version_rule = record { family = U; number = 1 }
+abbrev pub other_version : Rule
+other_version = record { family = U; number = 1 }
 
 -- a text, if there is one, at the offset of its line
-abbrev pub placed_at : ℕ → Option (List ℕ) → Option Placed
+abbrev pub placed_at : ℕ → Option (List ℕ) → Option LineText
 placed_at offset declared = option_map (λ text. record { offset = offset; text = text }) declared
 
 -- what a line declares, at the line's offset
-abbrev pub declared_by : (List ℕ → Option (List ℕ)) → Placed → Option Placed
+abbrev pub declared_by : (List ℕ → Option (List ℕ)) → LineText → Option LineText
 declared_by declares line = placed_at line.offset (declares line.text)
 
 -- the good module lines, each with its path
-abbrev pub module_lines : List ℕ → List Placed
+abbrev pub module_lines : List ℕ → List LineText
 module_lines bytes = filter_map (declared_by module_path) (outside_blocks false (lines_of bytes))
 
 -- the good go lines, each with its version
-abbrev pub go_lines : List ℕ → List Placed
+abbrev pub go_lines : List ℕ → List LineText
 go_lines bytes = filter_map (declared_by go_version) (outside_blocks false (lines_of bytes))
 
 -- where there is not exactly one line: at the start of the file for none, and at each of several
-abbrev pub unless_one : List Placed → List ℕ
+abbrev pub unless_one : List LineText → List ℕ
 unless_one [] = 0 ∷ []
 unless_one (line ∷ []) = []
 unless_one (line ∷ (other ∷ lines)) = map (λ l. l.offset) (line ∷ (other ∷ lines))
 
 -- where the one go line has another version
-abbrev pub other_version : List Placed → List ℕ
-other_version [] = []
-other_version (line ∷ []) = if is_1_21 line.text then [] else line.offset ∷ []
-other_version (line ∷ (other ∷ lines)) = []
+abbrev pub other_versions : List LineText → List ℕ
+other_versions [] = []
+other_versions (line ∷ []) = if is_1_21 line.text then [] else line.offset ∷ []
+other_versions (line ∷ (other ∷ lines)) = []
 
 -- the rules that good module lines and good go lines break
-abbrev pub broken_lines : List Placed → List Placed → List Broken
+abbrev pub broken_lines : List LineText → List LineText → List Broken
 broken_lines modules gos =
     told 0 module_line (unless_one modules)
     ++ told 0 go_line (unless_one gos)
-    ++ told 0 other_version_rule (other_version gos)
+    ++ told 0 other_version (other_versions gos)
 
 abbrev pub broken_rules : List ℕ → List Broken
 broken_rules bytes = broken_lines (module_lines bytes) (go_lines bytes)

@@ -2,12 +2,12 @@
 ghost use Rattle.std.specs.Prelude.{◌≡◌, ◌++◌, ◌∷◌, [], List, map, false, IfOk, OnOk};
 ghost use Rattle.std.specs.List.{filter_map, cons_option};
 ghost use Rattle.std.specs.Option.{option_copied};
-ghost use Rattle.go_mod.specs.ModuleLines.{Placed};
+ghost use Rattle.go_mod.specs.ModuleLines.{LineText};
 ghost use Rattle.go_mod.specs.Seen.{seen};
 ghost use Rattle.go_mod.specs.ModulePath.{module_path};
 ghost use Rattle.go_mod.specs.LanguageVersion.{go_version};
 ghost use Rattle.go_module.specs.Broken.{told};
-ghost use Rattle.go_mod.specs.ModuleRules.{broken_lines, declared_by, placed_at, unless_one, other_version};
+ghost use Rattle.go_mod.specs.ModuleRules.{broken_lines, declared_by, placed_at, unless_one, other_versions};
 ghost use Rattle.go_mod.specs.ModuleFile.{IsModuleFile};
 
 use crate::language_version::{go_version, is_1_21};
@@ -73,7 +73,7 @@ fn push_declared<'a>(
     offset: usize,
     declared: Option<&'a [u8]>,
 ) -> Result<(), NoMemory>
-    ensures { OnOk result ((rest : List Placed) →
+    ensures { OnOk result ((rest : List LineText) →
         map seen found.new.items ++ rest
         ≡ map seen found.old.items ++ cons_option (placed_at offset (option_copied declared.entry)) rest) }
 {
@@ -122,7 +122,7 @@ fn push_each(list: &mut Vec<Broken>, rule: Rule, lines: &[Line<'_>]) -> Result<(
 
 fn push_other_version(list: &mut Vec<Broken>, gos: &[Line<'_>]) -> Result<(), NoMemory>
     ensures { OnOk result (list.new.items
-        ≡ list.old.items ++ told 0 OTHER_VERSION (other_version (map seen gos.now))) }
+        ≡ list.old.items ++ told 0 OTHER_VERSION (other_versions (map seen gos.now))) }
 {
     if let [line] = gos
         && !is_1_21(line.text)

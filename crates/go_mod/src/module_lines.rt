@@ -1,11 +1,11 @@
 // Lines of go.mod (Go modules reference, "go.mod files").
 ghost use Rattle.std.specs.Prelude.{◌≡◌, ◌≤◌, ◌∷◌, ◌++◌, List, map, length, false, IfOk};
 ghost use Rattle.std.specs.List.{position_or_len, prefix_len, suffix_len};
-ghost use Rattle.go_base.specs.Place.{is_newline};
-ghost use Rattle.go_mod.specs.ModuleLines.{Placed, is_blank, is_not_blank, is_text, trim_start, trim_end, before_comment, content, first_word, argument, opens_block, closes_block, lines_of, outside_blocks};
+ghost use Rattle.go_base.specs.Place.{is_blank, is_newline};
+ghost use Rattle.go_mod.specs.ModuleLines.{LineText, is_not_blank, is_text, trim_start, trim_end, before_comment, content, first_word, argument, opens_block, closes_block, lines_of, outside_blocks};
 ghost use Rattle.go_mod.specs.Seen.{seen};
 
-use go_base::NoMemory;
+use go_base::{NoMemory, is_blank};
 use std::alloc::Global;
 
 /// A text of go.mod, and the offset of the line that it stands in.
@@ -35,7 +35,7 @@ pub(crate) fn outside_blocks(alloc: Global, bytes: &[u8]) -> Result<Vec<Line<'_>
 
 // Pushes the line, if it stands in no block, and says whether the next one stands in an open block.
 fn add_line<'a>(lines: &mut Vec<Line<'a>>, line: Line<'a>, in_block: bool) -> Result<bool, NoMemory>
-    ensures { IfOk result (λ next_in. (rest : List Placed) →
+    ensures { IfOk result (λ next_in. (rest : List LineText) →
         map seen lines.new.items ++ outside_blocks next_in rest
         ≡ map seen lines.old.items ++ outside_blocks in_block (seen line.entry ∷ rest)) }
 {
@@ -137,12 +137,6 @@ fn closes_block(text: &[u8]) -> bool
     ensures { result ≡ closes_block text.now }
 {
     text.starts_with(b")")
-}
-
-fn is_blank(byte: u8) -> bool
-    ensures { result ≡ is_blank byte }
-{
-    matches!(byte, b' ' | b'\t' | b'\r')
 }
 
 /// Whether the bytes are this text.

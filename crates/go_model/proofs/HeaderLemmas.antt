@@ -6,10 +6,10 @@ use Rattle.go_tree.specs.declared.node_kind.NodeKind.TheVariants.{AddExpr, Paren
 use Rattle.go_tree.specs.Tree.{Tree, branch, no_trees, more_trees, id_of}
 use Rattle.go_model.specs.declared.meaning.Meaning.{Meaning}
 use Rattle.go_model.specs.declared.meaning.Meaning.TheVariants.{Own, Outer, Predeclared, Other}
-use Rattle.go_model.specs.Constants.{Constant}
-use Rattle.go_model.specs.Records.{Headers, meant_value, sum_of, record_of, value_over}
-use Rattle.go_model.specs.Headers.{headers_of, Follows, Justified, Holds, Known}
-use Rattle.go_model.specs.Quests.{IsPart}
+use Rattle.go_model.specs.Values.Constants.{Constant}
+use Rattle.go_model.specs.Values.Records.{Headers, meant_value, sum_of, record_of, value_over}
+use Rattle.go_model.specs.Values.Headers.{headers_of, Follows, Justified, Holds, Known}
+use Rattle.go_model.specs.Values.Quests.{IsPart}
 
 sum_of-part : (a b a' b' : Option ℤ) (v : ℤ) → ((x : ℤ) → a ≡ Some x → a' ≡ Some x) → ((x : ℤ) → b ≡ Some x → b' ≡ Some x) → sum_of a b ≡ Some v → sum_of a' b' ≡ Some v
 sum_of-part None b a' b' v pa pb e = cc

@@ -5,9 +5,9 @@ use Rattle.go_tree.specs.declared.node_kind.NodeKind.TheVariants.{AddExpr, Selec
 use Rattle.go_tree.specs.Tree.{Tree, branch, no_trees, more_trees, id_of}
 use Rattle.go_model.specs.declared.meaning.Meaning.{Meaning}
 use Rattle.go_model.specs.declared.meaning.Meaning.TheVariants.{Own, Outer, Predeclared, Other}
-use Rattle.go_model.specs.Records.{Headers, record_of}
-use Rattle.go_model.specs.Quests.{Asked, Decided, Lacks, Quest, Done, run, IsPart, Stays}
-use Rattle.go_model.specs.Tests.{selector_test, sum_test, test_of}
+use Rattle.go_model.specs.Values.Records.{Headers, record_of}
+use Rattle.go_model.specs.Values.Quests.{Asked, Decided, Lacks, Quest, Done, run, IsPart, Stays}
+use Rattle.go_model.specs.Values.Tests.{selector_test, sum_test, test_of}
 use Rattle.go_model.specs.Laws.{TestStays}
 use Rattle.go_model.proofs.HeaderLemmas.{record_of-part}
 use Rattle.go_model.proofs.QuestLemmas.{run-stays}

@@ -4,16 +4,16 @@ use Rattle.std.specs.Prelude.{◌↔◌}
 use Rattle.std.proofs.Math.Path.{fun_ext}
 use Rattle.go_base.specs.declared.rule.Broken.{Broken}
 use Rattle.go_model.specs.declared.meaning.Meaning.{Meaning}
-use Rattle.go_model.specs.Constants.{Constant, constants_of}
+use Rattle.go_model.specs.Values.Constants.{Constant, constants_of}
 use Rattle.go_module.specs.Order.{IsListOf}
-use Rattle.go_model.specs.Meaning.{KnownValues, meaning_in}
+use Rattle.go_model.specs.Values.Meaning.{KnownValues, meaning_in}
 use Rattle.go_module.specs.Modules.Module.{ModuleData, PackageData}
 use Rattle.go_module.specs.Places.{placed_by}
-use Rattle.go_model.specs.Records.{Headers}
+use Rattle.go_model.specs.Values.Records.{Headers}
 use Rattle.go_model.specs.Report.{VerdictData, refused, skipped, accepted, PackageReportData, ReportData}
-use Rattle.go_model.specs.Rules.{broken_values}
-use Rattle.go_model.specs.Waiting.{Chain}
-use Rattle.go_module.specs.Names.BrokenNames.{broken_names}
+use Rattle.go_model.specs.Values.Rules.{broken_values}
+use Rattle.go_model.specs.Values.Waiting.{Chain}
+use Rattle.go_module.specs.Names.Rules.BrokenNames.{broken_names}
 use Rattle.go_module.specs.Names.Imports.{known_in}
 use Rattle.go_model.specs.Phases.{HasHeaders, BreaksValues, IsVerdict, by_names, by_values, sound, is_accepted, package_report, package_lines, known_after, AreReports, all_told, skips, checks, ReportOf}
 use Rattle.go_module.proofs.BrokenListLemmas.{one_list, none_of_none}

@@ -1,6 +1,6 @@
 -- What stays of a question as the map of headers grows.
 use Rattle.std.proofs.Common.{◌≡◌, ℕ, Option, Some, None, refl, sym, ap, subst}
-use Rattle.go_model.specs.Quests.{Asked, Lacks, Quest, Done, Need, run, IsPart, Stays}
+use Rattle.go_model.specs.Values.Quests.{Asked, Lacks, Quest, Done, Need, run, IsPart, Stays}
 
 -- a question whose header is there, or is missing
 pub run-Some : {H A : Type 0} (known : ℕ → Option H) (d : ℕ) (next : H → Quest H A) (h : H) → known d ≡ Some h → run known (Need d next) ≡ run known (next h)

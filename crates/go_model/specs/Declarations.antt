@@ -2,7 +2,7 @@
 -- Decides where the objects of a module are declared, as a report has it.
 use Rattle.std.specs.Prelude.{List, [], ◌++◌, Bool, map}
 use Rattle.std.specs.List.{flat_map}
-use Rattle.indexmap.specs.IndexMap.{insert_all}
+use Rattle.go_module.specs.IndexMap.{insert_all}
 use Rattle.go_tree.specs.Tree.{Tree, id_of, start_of}
 use Rattle.go_module.specs.declared.object.ObjId.{ObjId}
 use Rattle.go_module.specs.declared.places.At.{At}

@@ -4,11 +4,11 @@
 use Rattle.std.specs.Prelude.{◌≡◌, ℕ, ℤ, Bool, Some, None, List}
 use Rattle.go_tree.specs.Tree.{Tree}
 use Rattle.go_model.specs.declared.meaning.Meaning.{Meaning}
-use Rattle.go_model.specs.Constants.{Constant}
-use Rattle.go_model.specs.Records.{Headers, record_of}
-use Rattle.go_model.specs.Headers.{Known}
-use Rattle.go_model.specs.Quests.{Decided, Lacks, Quest}
-use Rattle.go_model.specs.Tests.{test_of, asked_of}
+use Rattle.go_model.specs.Values.Constants.{Constant}
+use Rattle.go_model.specs.Values.Records.{Headers, record_of}
+use Rattle.go_model.specs.Values.Headers.{Known}
+use Rattle.go_model.specs.Values.Quests.{Decided, Lacks, Quest}
+use Rattle.go_model.specs.Values.Tests.{test_of, asked_of}
 
 -- a test that is asked is asked alike over more headers; one that is decided is decided alike, and one
 -- that lacks a header lacks it as long as it is missing

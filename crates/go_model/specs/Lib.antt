@@ -4,16 +4,8 @@ pub mod Report
 pub mod PackageLines
 pub mod Declarations
 pub mod Text
--- the constants of a package
-pub mod Constants
-pub mod Meaning
-pub mod Records
-pub mod Headers
-pub mod Quests
-pub mod Tests
-pub mod Waiting
-pub mod Lacking
-pub mod Rules
+-- the constants of a package, their values, and the rules on them
+pub mod Values
 pub mod Laws
 -- what these rest on
 pub use Rattle.go_module.specs.Modules

@@ -19,15 +19,15 @@ use Rattle.go_module.specs.declared.block.Selected.{Selected}
 use Rattle.go_model.specs.declared.meaning.Meaning.{Meaning}
 use Rattle.go_module.specs.declared.object.ObjId.{ObjId}
 use Rattle.go_model.specs.declared.rec.Mode.TheVariants.{Const as ConstMode}
-use Rattle.go_model.specs.declared.records.DefKind.TheVariants.{Const, Package}
-use Rattle.go_model.specs.declared.records.Line.{Line}
-use Rattle.go_model.specs.declared.records.What.TheVariants.{Def, Used, Expr}
+use Rattle.go_model.specs.declared.lines.DefKind.TheVariants.{Const, Package}
+use Rattle.go_model.specs.declared.lines.Line.{Line}
+use Rattle.go_model.specs.declared.lines.What.TheVariants.{Def, Used, Expr}
 use Rattle.go_module.specs.declared.places.At.{At}
-use Rattle.go_model.specs.Constants.{Constant, constants_in_file, values_in_spec}
+use Rattle.go_model.specs.Values.Constants.{Constant, constants_in_file, values_in_spec}
 use Rattle.go_module.specs.Modules.Module.{FileData, PackageData, ModuleData}
 use Rattle.go_module.specs.Places.{at_offset}
 use Rattle.go_model.specs.Declarations.{declarations}
-use Rattle.go_model.specs.Records.{Headers, record_of, value_over}
+use Rattle.go_model.specs.Values.Records.{Headers, record_of, value_over}
 use Rattle.go_module.specs.Scopes.{same_object}
 use Rattle.go_module.specs.Names.Constants.{const_specs, name_text}
 use Rattle.go_module.specs.Names.Imports.{Importing, imports_of, is_dot}

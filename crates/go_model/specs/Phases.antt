@@ -7,25 +7,25 @@ use Rattle.std.specs.Prelude.{◌≡◌, ℕ, ℤ, ◌+◌, ◌↔◌, Bool, tru
 use Rattle.std.specs.List.{flat_map, list_all}
 use Rattle.std.specs.Map.{lookup}
 use Rattle.std.specs.Option.{option_map_or}
-use Rattle.indexmap.specs.IndexMap.{insert_all}
+use Rattle.go_module.specs.IndexMap.{insert_all}
 use Rattle.go_base.specs.declared.rule.Broken.{Broken}
 use Rattle.go_model.specs.declared.meaning.Meaning.{Meaning}
 use Rattle.go_module.specs.declared.object.ObjId.{ObjId}
-use Rattle.go_model.specs.declared.records.Line.{Line}
-use Rattle.go_model.specs.Constants.{Constant, constants_of, number_of}
+use Rattle.go_model.specs.declared.lines.Line.{Line}
+use Rattle.go_model.specs.Values.Constants.{Constant, constants_of, number_of}
 use Rattle.go_module.specs.Order.{IsListOf}
-use Rattle.go_model.specs.Headers.{Known}
-use Rattle.go_model.specs.Meaning.{KnownValues, meaning_in, uses_table}
+use Rattle.go_model.specs.Values.Headers.{Known}
+use Rattle.go_model.specs.Values.Meaning.{KnownValues, meaning_in, uses_table}
 use Rattle.go_module.specs.Modules.Module.{ModuleData, PackageData}
 use Rattle.go_model.specs.PackageLines.{lines_of, outline_of}
-use Rattle.go_graph.specs.Graph.{is_marked}
+use Rattle.go_module.specs.Graph.{is_marked}
 use Rattle.go_module.specs.Places.{placed_by}
-use Rattle.go_model.specs.Records.{Headers, value_over}
+use Rattle.go_model.specs.Values.Records.{Headers, value_over}
 use Rattle.go_model.specs.Report.{VerdictData, accepted, refused, skipped, PackageReportData, ReportData}
-use Rattle.go_model.specs.Rules.{broken_values}
+use Rattle.go_model.specs.Values.Rules.{broken_values}
 use Rattle.go_module.specs.Scopes.{same_node, same_object}
-use Rattle.go_model.specs.Waiting.{Chain}
-use Rattle.go_module.specs.Names.BrokenNames.{broken_names}
+use Rattle.go_model.specs.Values.Waiting.{Chain}
+use Rattle.go_module.specs.Names.Rules.BrokenNames.{broken_names}
 use Rattle.go_module.specs.Names.Imports.{known_in}
 
 -- the headers of a package's constants, and which of them wait for themselves

@@ -1,7 +1,7 @@
 -- The report of a module.
 -- Says what a report has. Which report a module has: `Phases`. How it reads: `Text`.
 use Rattle.std.specs.Prelude.{ℕ, List, map}
-use Rattle.go_model.specs.declared.records.Line.{Line}
+use Rattle.go_model.specs.declared.lines.Line.{Line}
 use Rattle.go_model.specs.declared.report.PackageReport.{PackageReport}
 use Rattle.go_module.specs.declared.places.Placed.{Placed}
 use Rattle.go_model.specs.declared.report.Report.{Report}

@@ -2,11 +2,11 @@
 // contract of a function that does nothing.
 ghost use Rattle.std.specs.Prelude.{◌≡◌, ℕ, List, Option};
 ghost use Rattle.go_tree.specs.Tree.{Tree};
-ghost use Rattle.go_model.specs.Quests.{IsPart, Quest, Stays, run};
+ghost use Rattle.go_model.specs.Values.Quests.{IsPart, Quest, Stays, run};
 ghost use Rattle.go_model.specs.declared.meaning.Meaning.{Meaning};
-ghost use Rattle.go_model.specs.Constants.{Constant};
+ghost use Rattle.go_model.specs.Values.Constants.{Constant};
 ghost use Rattle.go_module.specs.Modules.Module.{ModuleData};
-ghost use Rattle.go_model.specs.Records.{Headers};
+ghost use Rattle.go_model.specs.Values.Records.{Headers};
 ghost use Rattle.go_model.specs.Phases.{ReportOf};
 ghost use Rattle.go_model.specs.Report.{ReportData};
 ghost use Rattle.go_model.specs.Laws.{TestStays, RecordsStay, OneHeader};

@@ -16,7 +16,7 @@ mod outcome;
 mod rec;
 
 // Reports.
-mod records;
+mod lines;
 mod report;
 
 // Tests.
@@ -29,8 +29,8 @@ pub use go_module::{
 };
 pub use header::Header;
 pub use laws::{decided_stays, one_header, one_report, records_stay, tests_stay};
+pub use lines::{DefKind, Line, NamedObject, Records, What};
 pub use meaning::Meaning;
 pub use outcome::{Answer, Outcome, Spot};
 pub use rec::{Mode, Rec};
-pub use records::{DefKind, Line, NamedObject, Records, What};
 pub use report::{PackageReport, Report, Verdict};

@@ -1,5 +1,5 @@
 // Reports of modules. Every place is written out, so that a report needs no module to be read.
-use crate::records::Records;
+use crate::lines::Records;
 use go_base::Name;
 use go_module::Placed;
 
@@ -21,7 +21,7 @@ pub struct PackageReport {
     pub verdict: Verdict,
 }
 
-/// What is said of a package: its records; the rules that it breaks; or nothing, since a package that it
+/// What is said of a package: its lines; the rules that it breaks; or nothing, since a package that it
 /// imports is not accepted.
 #[derive(Debug, Drop)]
 pub enum Verdict {

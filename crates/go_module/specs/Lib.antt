@@ -10,3 +10,9 @@ pub mod Rules
 pub mod Places
 -- parts of nodes
 pub mod NodeParts
+-- what these rest on, for those who cite them
+pub use Rattle.go_graph.specs.Graph
+pub use Rattle.go_text.specs.Files
+pub use Rattle.go_text.specs.Copies
+pub use Rattle.go_text.specs.Numbers
+pub use Rattle.indexmap.specs.IndexMap

@@ -7,7 +7,4 @@ pub mod Imports
 pub mod Occurrences
 pub mod Regions
 pub mod Tables
-pub mod BlockRules
-pub mod ImportRules
-pub mod OccurrenceRules
-pub mod BrokenNames
+pub mod Rules

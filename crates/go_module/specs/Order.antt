@@ -9,8 +9,8 @@ use Rattle.go_base.specs.declared.rule.Family.TheVariants.{S, M, P, C, R, I, N, 
 use Rattle.go_base.specs.declared.rule.Rule.{Rule}
 
 -- The place of a family in the table of rules: M, S, P, C, I, R, N, U, L. Where a row of the table stands out
--- of this order, its neighbours are of other phases, or it is told alone, or they are told at nodes that never
--- begin alike: no list of one phase can show the difference.
+-- of this order, its neighbours are of other phases, or it is told alone: no list of one phase can show the
+-- difference.
 abbrev pub family_rank : Family → ℕ
 family_rank M = 1
 family_rank S = 2

@@ -5,13 +5,13 @@ use Rattle.go_tree.specs.declared.token.Token.{Token}
 use Rattle.go_tree.specs.declared.token.TokenKind.{TokenKind}
 use Rattle.go_tree.specs.declared.token.TokenKind.TheVariants.{End}
 use Rattle.go_tree.specs.declared.production.Production.TheVariants.{File}
-use Rattle.go_tree.specs.Scan.{ScanFrom, IsNext, Stand}
+use Rattle.go_tree.specs.Lexical.Scan.{ScanFrom, IsNext, Stand}
 use Rattle.go_text.specs.declared.fault.ParseFault.{ParseFault}
 use Rattle.go_text.specs.declared.fault.ParseFault.TheVariants.{Lexical, Syntax, High, NoMemory}
 use Rattle.go_text.specs.Faults.{Spot, IsFaultOf, IsWrong}
 use Rattle.go_parse_x.specs.Files.{IsText, IsFault, Faults}
 use Rattle.go_tree.specs.Tree.{Tree}
-use Rattle.go_parse_x.specs.Opened.{tree_without}
+use Rattle.go_parse_x.specs.Tables.Opened.{tree_without}
 use Rattle.go_tree.specs.Height.{AllFit}
 use Rattle.go_text.specs.Copies.{with_copies}
 use Rattle.go_text.specs.Numbers.{numbered}

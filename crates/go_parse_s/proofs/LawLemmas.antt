@@ -6,9 +6,9 @@ use Rattle.go_tree.specs.declared.token.TokenKind.{TokenKind}
 use Rattle.go_tree.specs.declared.token.TokenKind.TheVariants.{End}
 use Rattle.go_tree.specs.declared.production.Production.TheVariants.{File}
 use Rattle.go_tree.specs.Height.{height_of, AllFit}
-use Rattle.go_tree.specs.Scan.{ScanFrom, IsNext, Stand}
+use Rattle.go_tree.specs.Lexical.Scan.{ScanFrom, IsNext, Stand}
 use Rattle.go_tree.specs.Tree.{Tree}
-use Rattle.go_tree.specs.Grammar.Sentence.{Derives, Begins}
+use Rattle.go_tree.specs.Grammar.Trees.Sentence.{Derives, Begins}
 use Rattle.go_tree.proofs.SentenceLemmas.{one_tree_lem}
 use Rattle.go_scan.proofs.NextLemmas.{one_next}
 use Rattle.go_scan.proofs.ScanLemmas.{Head, head_of, one_scan}

@@ -6,10 +6,10 @@ use Rattle.std.proofs.lemmas.Bool.{cases_order, and_parts}
 use Rattle.std.proofs.lemmas.List.{take_all}
 use Rattle.go_base.specs.declared.rule.Rule.{Rule}
 use Rattle.go_tree.specs.declared.token.TokenKind.{TokenKind}
-use Rattle.go_tree.specs.Characters.{is_allowed, IsForbidden, Ends}
-use Rattle.go_tree.specs.Comments.{in_line_comment, in_general_comment}
-use Rattle.go_tree.specs.Faults.{CanGoOn, line, general, raw, string, string_escape, rune, rune_escape, rune_closes, IsEscapeFront, forbidden_byte, missing_token, IsForbiddenByte, IsMissingToken, IsLex}
-use Rattle.go_tree.specs.Literals.{in_raw, is_escape}
+use Rattle.go_tree.specs.Lexical.Characters.{is_allowed, IsForbidden, Ends}
+use Rattle.go_tree.specs.Lexical.Comments.{in_line_comment, in_general_comment}
+use Rattle.go_tree.specs.Lexical.Faults.{CanGoOn, line, general, raw, string, string_escape, rune, rune_escape, rune_closes, IsEscapeFront, forbidden_byte, missing_token, IsForbiddenByte, IsMissingToken, IsLex}
+use Rattle.go_tree.specs.Lexical.Literals.{in_raw, is_escape}
 use Rattle.go_tree.specs.declared.lex.Lex.{Lex}
 use Rattle.go_scan.specs.Escapes.{IsQuote, NoCharacter}
 use Rattle.go_scan.specs.Reading.{IsStuck}

@@ -1,7 +1,7 @@
 -- The numbers that a tree had before are of no account for those that it gets.
 use Rattle.std.proofs.Common.{◌≡◌, ℕ, ◌+◌, Bool, true, false, if◌then◌else◌, refl, ap, sym, ◌∙◌, arith}
 use Rattle.go_tree.specs.Tree.{Tree, branch, Trees, no_trees, more_trees, end_of, node_count, node_count_of_all}
-use Rattle.go_parse_x.specs.Opened.{unnumbered, all_unnumbered}
+use Rattle.go_parse_x.specs.Tables.Opened.{unnumbered, all_unnumbered}
 use Rattle.go_parse_x.proofs.OpenedLemmas.{start_of-unnumbered}
 use Rattle.go_text.specs.Copies.{with_copies, all_with_copies, specs_with_copies, completed, list_behind, copy_if_any, last_end, is_group}
 use Rattle.go_text.specs.Numbers.{numbered, all_numbered}

@@ -1,9 +1,9 @@
 -- Where the tree of a file starts: at its first token, up to which stand blanks and comments alone.
 use Rattle.std.proofs.Common.{◌≡◌, ℕ, false, List, [], ◌∷◌, None, refl, subst, sym, ap, ◌∙◌}
 use Rattle.go_tree.specs.declared.token.Token.{Token}
-use Rattle.go_tree.specs.Scan.{Scan, ScanFrom, IsNext, IsPlace, IsFirst, ends, newline, written, Gap}
+use Rattle.go_tree.specs.Lexical.Scan.{Scan, ScanFrom, IsNext, IsPlace, IsFirst, ends, newline, written, Gap}
 use Rattle.go_tree.specs.Tree.{Tree, branch, start_of}
-use Rattle.go_tree.specs.Grammar.Spans.{HasRun}
+use Rattle.go_tree.specs.Grammar.Trees.Spans.{HasRun}
 use Rattle.go_tree.proofs.GrammarSpans.{file_lem}
 use Rattle.go_text.specs.Copies.{with_copies}
 use Rattle.go_text.specs.Files.{IsFileOf}

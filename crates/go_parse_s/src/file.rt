@@ -1,8 +1,8 @@
 // Whole files (Go specification, "Source file organization").
 ghost use Rattle.std.specs.Prelude.{◌≡◌, ◌≤◌, false, IfOk, IfErr};
-ghost use Rattle.go_tree.specs.Scan.{Gap};
+ghost use Rattle.go_tree.specs.Lexical.Scan.{Gap};
 ghost use Rattle.go_tree.specs.Tree.{tree_of, start_of};
-ghost use Rattle.go_parse_x.specs.Opened.{tree_without};
+ghost use Rattle.go_parse_x.specs.Tables.Opened.{tree_without};
 ghost use Rattle.go_text.specs.Copies.{with_copies};
 ghost use Rattle.go_text.specs.CopyCount.{copied_nodes, most_copied_nodes};
 ghost use Rattle.go_text.specs.Faults.{IsFaultOf};
@@ -29,7 +29,7 @@ pub const MOST_HEIGHT: usize = 1_000;
 /// copies would have more than `MOST_COPIED_NODES` nodes together, the answer is NoMemory, before any
 /// is made.
 ///
-/// Blanks and whole comments lead up to the tree's first byte.
+/// White space and whole comments lead up to the tree's first byte.
 ///
 /// The faults name the earliest token: Syntax the first up to which no file begins with the tokens,
 /// High the first whose height passes `MOST_HEIGHT`; Lexical stands where no token starts behind those

@@ -17,22 +17,6 @@ pub use go_text::ParseFault;
 pub use laws::{file_or_fault, one_fault, one_file};
 
 #[cfg(test)]
-mod control_tests;
-#[cfg(test)]
-mod copy_tests;
-#[cfg(test)]
-mod cut_tests;
-#[cfg(test)]
-mod declaration_tests;
-#[cfg(test)]
-mod file_tests_support;
-#[cfg(test)]
-mod height_tests;
+mod file_tests;
 #[cfg(test)]
 mod long_tests;
-#[cfg(test)]
-mod refusal_tests;
-#[cfg(test)]
-mod statement_refusal_tests;
-#[cfg(test)]
-mod statement_tests;

@@ -3,10 +3,10 @@ use Rattle.std.proofs.Common.{◌≡◌, ◌≢◌, ℕ, zero, suc, ◌-◌, Lis
 use Rattle.go_tree.specs.declared.token.Token.{Token}
 use Rattle.go_tree.specs.declared.token.TokenKind.{TokenKind}
 use Rattle.go_tree.specs.declared.token.TokenKind.TheVariants.{End}
-use Rattle.go_tree.specs.Scan.{IsNext}
+use Rattle.go_tree.specs.Lexical.Scan.{IsNext}
 use Rattle.go_tree.specs.declared.lex.Lex.{Lex}
 use Rattle.go_parse_x.specs.Texts.{IsAhead, IsLexAhead}
-use Rattle.go_tree.specs.Faults.{IsLex}
+use Rattle.go_tree.specs.Lexical.Faults.{IsLex}
 
 module _ (bytes : List ℕ) (at : ℕ) (last : Option TokenKind) where
   -- where no token starts, none stands ahead

@@ -6,12 +6,12 @@ use Rattle.go_tree.specs.declared.token.TokenKind.{TokenKind}
 use Rattle.go_tree.specs.declared.token.TokenKind.TheVariants.{End}
 use Rattle.go_tree.specs.declared.production.Production.{Production}
 use Rattle.go_tree.specs.Height.{height_of}
-use Rattle.go_tree.specs.Scan.{IsNext, Stand}
+use Rattle.go_tree.specs.Lexical.Scan.{IsNext, Stand}
 use Rattle.go_tree.specs.Grammar.RightSide.{Call, RightSide}
-use Rattle.go_tree.specs.Grammar.Reading.{State, OpenNode, before, tree_read}
-use Rattle.go_tree.specs.Grammar.Brackets.{through_all, standing}
-use Rattle.go_tree.specs.Grammar.Prediction.{starts}
-use Rattle.go_tree.specs.Grammar.Sentence.{production, tables, ReadsGo, IsA, Begins}
+use Rattle.go_tree.specs.Grammar.Trees.Reading.{State, OpenNode, before, tree_read}
+use Rattle.go_tree.specs.Grammar.Tables.Brackets.{through_all, standing}
+use Rattle.go_tree.specs.Grammar.Tables.Prediction.{starts}
+use Rattle.go_tree.specs.Grammar.Trees.Sentence.{production, tables, ReadsGo, IsA, Begins}
 use Rattle.go_tree.proofs.PredictionLemmas.{unique}
 use Rattle.go_tree.proofs.GrammarLemmas.{tables_right}
 use Rattle.go_tree.proofs.GrammarBalance.{tree_lem}
@@ -27,14 +27,14 @@ use Rattle.go_parse_x.specs.declared.progress.Progress.TheVariants.{Passed, AtBl
 use Rattle.go_parse_x.specs.declared.seen.Seen.{Seen}
 use Rattle.go_text.specs.Faults.{Spot}
 use Rattle.go_parse_x.specs.Answers.{Went, IsAnswer, IsBlock, IsReady, spot_of}
-use Rattle.go_parse_x.specs.Opened.{tree_without, Rises}
+use Rattle.go_parse_x.specs.Tables.Opened.{tree_without, Rises}
 use Rattle.go_parse_x.specs.Pieces.{HasRead, View, IsNew, IsAsked, IsOpen, IsAwaiting, open_view, OpensBlock, PassesNoBlock, new_view}
-use Rattle.go_parse_x.specs.Steps.{IsTooHigh, IsStray, IsProgress, IsRead, HasNumbers, behind}
+use Rattle.go_parse_x.specs.Machine.Steps.{IsTooHigh, IsStray, IsProgress, IsRead, HasNumbers, behind}
 use Rattle.go_parse_x.specs.Targets.{piece, hands}
 use Rattle.go_parse_x.specs.Texts.{one}
-use Rattle.go_tree.specs.Faults.{IsLex}
-use Rattle.go_parse_x.specs.Turns as turns
-use Rattle.go_parse_x.specs.Turns.{at, is_asked, IsSound, IsStuck, GoesOn}
+use Rattle.go_tree.specs.Lexical.Faults.{IsLex}
+use Rattle.go_parse_x.specs.Machine.Turns as turns
+use Rattle.go_parse_x.specs.Machine.Turns.{at, is_asked, IsSound, IsStuck, GoesOn}
 use Rattle.go_parse_x.proofs.EndTokenLemmas.{is_file}
 use Rattle.go_parse_x.proofs.PieceLemmas.{IsPiece, fits_on, goes_begin, stuck_never, astray_never, asked_no_whole, inside_no_whole, end_whole, end_no_whole, end_token_never, piece_is}
 use Rattle.go_parse_x.proofs.NoBlockLemmas.{none_passed, one_passed, both_passed}

@@ -6,12 +6,12 @@ use Rattle.go_tree.specs.declared.token.TokenKind.{TokenKind}
 use Rattle.go_tree.specs.declared.token.TokenKind.TheVariants.{LeftBrace, Semicolon}
 use Rattle.go_tree.specs.declared.production.Production.{Production}
 use Rattle.go_tree.specs.Grammar.RightSide.{RightSide, Do, Call, Nothing, Seq, Or, Many, When, Act, Pass}
-use Rattle.go_tree.specs.Grammar.TokenKinds.{same_kind}
-use Rattle.go_tree.specs.Grammar.Reading.{looks}
-use Rattle.go_tree.specs.Grammar.Prediction.{begins, is_empty, starts, next_of, expand}
-use Rattle.go_tree.specs.Grammar.Sentence.{production, tables}
+use Rattle.go_tree.specs.Grammar.Tables.TokenKinds.{same_kind}
+use Rattle.go_tree.specs.Grammar.Trees.Reading.{looks}
+use Rattle.go_tree.specs.Grammar.Tables.Prediction.{begins, is_empty, starts, next_of, expand}
+use Rattle.go_tree.specs.Grammar.Trees.Sentence.{production, tables}
 use Rattle.go_tree.proofs.NestingLemmas.{same_kinds}
-use Rattle.go_parse_x.specs.Braces.{is_block, act_is_brace, is_brace, is_braced, all_braced}
+use Rattle.go_parse_x.specs.Machine.Braces.{is_block, act_is_brace, is_brace, is_braced, all_braced}
 use Rattle.std.specs.Bool.{MatchBool}
 use Rattle.std.proofs.lemmas.Bool.{MatchBool-at_false}
 use Rattle.go_tree.proofs.ByProduction.{by_production}

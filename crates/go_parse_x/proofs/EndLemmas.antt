@@ -3,14 +3,14 @@ use Rattle.std.proofs.Common.{◌≡◌, ℕ, Bool, true, false, MatchBool, List
 use Rattle.go_tree.specs.declared.token.Token.{Token}
 use Rattle.go_tree.specs.declared.production.Production.{Production}
 use Rattle.go_tree.specs.Grammar.RightSide.{RightSide, Do, Call, Nothing, Seq, Or, Many, When, Act, Ahead, OneOf, Both}
-use Rattle.go_tree.specs.Grammar.Reading.{State, OpenNode, at_end, does, calls, nothing, in_turn, left, right, done, again, chosen, passed_by, acted, looks, next_start}
-use Rattle.go_tree.specs.Grammar.Prediction.{AllDecided, is_empty}
-use Rattle.go_tree.specs.Grammar.Sentence.{production, tables, ReadsGo}
+use Rattle.go_tree.specs.Grammar.Trees.Reading.{State, OpenNode, at_end, does, calls, nothing, in_turn, left, right, done, again, chosen, passed_by, acted, looks, next_start}
+use Rattle.go_tree.specs.Grammar.Tables.Prediction.{AllDecided, is_empty}
+use Rattle.go_tree.specs.Grammar.Trees.Sentence.{production, tables, ReadsGo}
 use Rattle.go_tree.proofs.EmptyLemmas.{empty_parts, empty_read}
 use Rattle.go_tree.proofs.PredictionLemmas.{open_act, call_decided}
 use Rattle.go_tree.proofs.GrammarLemmas.{tables_right}
-use Rattle.go_parse_x.specs.Turns.{at, IsSameAtEnd}
-use Rattle.go_parse_x.specs.Ends.{IsEnding, IsFinished}
+use Rattle.go_parse_x.specs.Machine.Turns.{at, IsSameAtEnd}
+use Rattle.go_parse_x.specs.Machine.Ends.{IsEnding, IsFinished}
 
 -- what is read where no token is left can be empty
 first_empty : (bytes : List ℕ) (g : RightSide Production) (gs : List (RightSide Production)) (s e : State) → s.rest ≡ [] → ReadsGo bytes (g ∷ gs) s e → is_empty tables g ≡ true

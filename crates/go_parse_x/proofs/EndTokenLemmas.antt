@@ -8,9 +8,9 @@ use Rattle.go_tree.specs.declared.production.Production.{Production}
 use Rattle.go_tree.specs.declared.production.Production.TheVariants as p
 use Rattle.go_tree.specs.Tree.{Tree}
 use Rattle.go_tree.specs.Grammar.RightSide.{RightSide, Do, Call, Nothing, Seq, Or, Many, When, Act, Pass, Open, Reopen, Adopt, CheckType, Close}
-use Rattle.go_tree.specs.Grammar.TokenKinds.{code, same_kind}
-use Rattle.go_tree.specs.Grammar.Reading.{State, at_end, does, calls, nothing, in_turn, left, right, done, again, chosen, passed_by, acted}
-use Rattle.go_tree.specs.Grammar.Sentence.{production, ReadsGo, Derives}
+use Rattle.go_tree.specs.Grammar.Tables.TokenKinds.{code, same_kind}
+use Rattle.go_tree.specs.Grammar.Trees.Reading.{State, at_end, does, calls, nothing, in_turn, left, right, done, again, chosen, passed_by, acted}
+use Rattle.go_tree.specs.Grammar.Trees.Sentence.{production, ReadsGo, Derives}
 use Rattle.go_tree.proofs.EmptyLemmas.{rest_kept}
 use Rattle.go_tree.proofs.ReadingStepLemmas.{passes}
 use Rattle.go_tree.proofs.ByProduction.{by_test}

@@ -8,13 +8,13 @@ use Rattle.go_tree.specs.declared.token.TokenKind.TheVariants.{End}
 use Rattle.go_tree.specs.declared.production.Production.{Production}
 use Rattle.go_tree.specs.declared.production.Production.TheVariants as p
 use Rattle.go_tree.specs.Grammar.RightSide.{RightSide, Do, Call, Seq, Act, Pass, Open, Close}
-use Rattle.go_tree.specs.Grammar.TokenKinds.{same_kind}
-use Rattle.go_tree.specs.Grammar.Reading.{State, acted, before, at_end, does, calls}
-use Rattle.go_tree.specs.Grammar.Sentence.{production, ReadsGo, IsA, Begins}
+use Rattle.go_tree.specs.Grammar.Tables.TokenKinds.{same_kind}
+use Rattle.go_tree.specs.Grammar.Trees.Reading.{State, acted, before, at_end, does, calls}
+use Rattle.go_tree.specs.Grammar.Trees.Sentence.{production, ReadsGo, IsA, Begins}
 use Rattle.go_tree.proofs.EmptyLemmas.{rest_kept}
 use Rattle.go_tree.proofs.NestingLemmas.{passed_token, same_kinds}
 use Rattle.go_tree.proofs.ReadingLemmas.{split, in_turn_of}
-use Rattle.go_tree.specs.Scan.{Stand}
+use Rattle.go_tree.specs.Lexical.Scan.{Stand}
 use Rattle.go_parse_x.proofs.EndTokenLemmas.{all_endless, from_end, end_stays, end_there}
 
 entered : (bytes : List ℕ) (n : Production) (gs : List (RightSide Production)) (s e : State) → ReadsGo bytes (Call n ∷ gs) s e → ReadsGo bytes (production n ∷ gs) s e

@@ -8,25 +8,25 @@ use Rattle.go_tree.specs.declared.production.Production.TheVariants as p
 use Rattle.go_tree.specs.Height.{height_of, AllFit}
 use Rattle.go_tree.specs.Tree.{Tree}
 use Rattle.go_tree.specs.Grammar.RightSide.{RightSide, Call}
-use Rattle.go_tree.specs.Grammar.Reading.{State, OpenNode, before}
-use Rattle.go_tree.specs.Grammar.Brackets.{through_all, standing}
-use Rattle.go_tree.specs.Grammar.Completion.{completion, tokens_of}
-use Rattle.go_tree.specs.Grammar.Rank.{top_rank}
-use Rattle.go_tree.specs.Grammar.Spans.{end_of_last}
-use Rattle.go_tree.specs.Grammar.Sentence.{texts, ReadsGo, IsA, Derives}
+use Rattle.go_tree.specs.Grammar.Trees.Reading.{State, OpenNode, before}
+use Rattle.go_tree.specs.Grammar.Tables.Brackets.{through_all, standing}
+use Rattle.go_tree.specs.Grammar.Tables.Completion.{completion, tokens_of}
+use Rattle.go_tree.specs.Grammar.Tables.Rank.{top_rank}
+use Rattle.go_tree.specs.Grammar.Trees.Spans.{end_of_last}
+use Rattle.go_tree.specs.Grammar.Trees.Sentence.{texts, ReadsGo, IsA, Derives}
 use Rattle.go_tree.proofs.BlockLemmas.{block_in_place}
 use Rattle.go_tree.proofs.GrammarBlocks.{block_braces, block_heights}
 use Rattle.go_tree.proofs.SentenceLemmas.{completes_lem}
 use Rattle.go_tree.proofs.SpanActLemmas.{ends}
 use Rattle.go_scan.proofs.NextLemmas.{one_next}
 use Rattle.go_parse_x.specs.declared.heights.Heights.{Heights}
-use Rattle.go_parse_x.specs.Braces.{all_braced}
-use Rattle.go_parse_x.specs.Heights.{Counts}
-use Rattle.go_parse_x.specs.Opened.{added, Rises}
+use Rattle.go_parse_x.specs.Machine.Braces.{all_braced}
+use Rattle.go_parse_x.specs.Machine.Heights.{Counts}
+use Rattle.go_parse_x.specs.Tables.Opened.{added, Rises}
 use Rattle.go_parse_x.specs.Pieces.{HasRead, View, IsOpen, IsAwaiting}
 use Rattle.go_parse_x.specs.Texts.{IsBehind, none, one}
-use Rattle.go_tree.specs.Scan.{Stand}
-use Rattle.go_parse_x.specs.Turns.{at, IsFull, IsSound, IsSolid}
+use Rattle.go_tree.specs.Lexical.Scan.{Stand}
+use Rattle.go_parse_x.specs.Machine.Turns.{at, IsFull, IsSound, IsSolid}
 use Rattle.go_parse_x.proofs.BraceLemmas.{braced_behind}
 use Rattle.go_parse_x.proofs.PieceLemmas.{IsPiece, reads_begin}
 

@@ -5,8 +5,8 @@ use Rattle.std.proofs.Math.Nat.{zero-max}
 use Rattle.std.proofs.lemmas.Bool.Decides.{eqb_tells}
 use Rattle.std.proofs.lemmas.Nat.Bits.{bit_at_or, bit_at-pow_same, bit_at-pow_other, bit_at-zero, bit_at-lt}
 use Rattle.go_tree.specs.declared.token.TokenKind.{TokenKind}
-use Rattle.go_tree.specs.Grammar.TokenKinds.{code, is_in}
-use Rattle.go_parse_x.specs.KindSets.{set_of, has_kind}
+use Rattle.go_tree.specs.Grammar.Tables.TokenKinds.{code, is_in}
+use Rattle.go_parse_x.specs.Tables.KindSets.{set_of, has_kind}
 
 with_one : (b : ℕ) → b < 2 → (max 1 b == 1) ≡ true
 with_one zero h = refl

@@ -6,14 +6,14 @@ use Rattle.std.proofs.lemmas.Map.Views.{any-filter_same}
 use Rattle.go_tree.specs.declared.token.TokenKind.{TokenKind}
 use Rattle.go_tree.specs.declared.production.Production.{Production}
 use Rattle.go_tree.specs.Grammar.RightSide.{RightSide, Do, Call, Nothing, Seq, Or, Many, When, Pass, Open, Reopen, Adopt, CheckType, Close}
-use Rattle.go_tree.specs.Grammar.TokenKinds.{same_kind, is_in}
-use Rattle.go_tree.specs.Grammar.Prediction.{begins, is_empty, may_look, may_miss}
-use Rattle.go_tree.specs.Grammar.Sentence.{tables}
+use Rattle.go_tree.specs.Grammar.Tables.TokenKinds.{same_kind, is_in}
+use Rattle.go_tree.specs.Grammar.Tables.Prediction.{begins, is_empty, may_look, may_miss}
+use Rattle.go_tree.specs.Grammar.Trees.Sentence.{tables}
 use Rattle.go_tree.proofs.NestingLemmas.{same_kinds}
 use Rattle.go_parse_x.specs.declared.line.Step.{Step}
-use Rattle.go_parse_x.specs.KindSets.{set_of}
-use Rattle.go_parse_x.specs.Leads.{kinds_of, is_led, is_led_option, led_from, all_led, IsSetOf}
-use Rattle.go_parse_x.specs.Lines.{side_at}
+use Rattle.go_parse_x.specs.Tables.KindSets.{set_of}
+use Rattle.go_parse_x.specs.Tables.Leads.{kinds_of, is_led, is_led_option, led_from, all_led, IsSetOf}
+use Rattle.go_parse_x.specs.Tables.Lines.{side_at}
 use Rattle.go_parse_x.proofs.KindSetLemmas.{set_has}
 
 or_false : (b : Bool) → (b || false) ≡ b

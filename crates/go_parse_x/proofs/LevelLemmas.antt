@@ -4,7 +4,7 @@ use Rattle.std.proofs.lemmas.List.{same_from_push}
 use Rattle.go_tree.specs.Height.{Mark, Bracket, Lasting, Passing, behind_close, behind_separator}
 use Rattle.go_parse_x.specs.declared.heights.Level.{Level}
 use Rattle.go_parse_x.specs.declared.heights.Levels.{Levels}
-use Rattle.go_parse_x.specs.Heights.{lasting_in, passing_in, level_in, enclosing, AreLevels}
+use Rattle.go_parse_x.specs.Machine.Heights.{lasting_in, passing_in, level_in, enclosing, AreLevels}
 
 -- where there is an enclosing level, the marks below the innermost bracket have it
 pub record Below (ms : List Mark) (levels : List Level) (level : Level) : Type 0 where

@@ -22,4 +22,4 @@ pub mod AnswerLemmas
 pub mod GiveLemmas
 pub mod TextLemmas
 pub mod ReadyLemmas
-pub mod EmptyBlockLemmas
+pub mod HandedBlockLemmas

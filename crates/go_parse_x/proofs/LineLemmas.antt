@@ -6,7 +6,7 @@ use Rattle.go_tree.specs.Grammar.RightSide as r
 use Rattle.go_tree.specs.Grammar.RightSide.{RightSide}
 use Rattle.go_parse_x.specs.declared.line.Step.{Step}
 use Rattle.go_parse_x.specs.declared.line.Step.TheVariants.{Pass, Open, Reopen, Adopt, CheckType, Close, Call, Nothing, Seq, Or, Many, When}
-use Rattle.go_parse_x.specs.Lines.{from_step, from_option, decode, side_at}
+use Rattle.go_parse_x.specs.Tables.Lines.{from_step, from_option, decode, side_at}
 
 -- nothing stands outside a line
 past : (depth : ℕ) (line : List Step) (at : ℕ) → length line ≤ at → decode depth line at ≡ r.Nothing

@@ -8,18 +8,18 @@ use Rattle.go_tree.specs.declared.node_kind.NodeKind.TheVariants as k
 use Rattle.go_tree.specs.declared.production.Production.{Production}
 use Rattle.go_tree.specs.declared.production.Production.TheVariants as p
 use Rattle.go_tree.specs.Grammar.RightSide.{RightSide, Call}
-use Rattle.go_tree.specs.Grammar.TokenKinds.{same_kind}
-use Rattle.go_tree.specs.Grammar.Reading.{State, OpenNode, close_last, does, calls, nothing, in_turn, left, right, done, again}
-use Rattle.go_tree.specs.Grammar.Completion.{Firm, completion, tokens_of}
-use Rattle.go_tree.specs.Grammar.Rank.{top_rank}
-use Rattle.go_tree.specs.Grammar.Sentence.{production, tables, texts, ReadsGo}
+use Rattle.go_tree.specs.Grammar.Tables.TokenKinds.{same_kind}
+use Rattle.go_tree.specs.Grammar.Trees.Reading.{State, OpenNode, close_last, does, calls, nothing, in_turn, left, right, done, again}
+use Rattle.go_tree.specs.Grammar.Tables.Completion.{Firm, completion, tokens_of}
+use Rattle.go_tree.specs.Grammar.Tables.Rank.{top_rank}
+use Rattle.go_tree.specs.Grammar.Trees.Sentence.{production, tables, texts, ReadsGo}
 use Rattle.go_tree.proofs.PredictionLemmas.{first_token}
 use Rattle.go_tree.proofs.GrammarLemmas.{tables_right}
 use Rattle.go_tree.proofs.SentenceLemmas.{completes_lem}
 use Rattle.go_parse_x.specs.declared.seen.Seen.{Seen}
-use Rattle.go_parse_x.specs.Braces.{all_braced}
+use Rattle.go_parse_x.specs.Machine.Braces.{all_braced}
 use Rattle.go_parse_x.specs.Pieces.{HasRead, OpensBlock, PassesNoBlock}
-use Rattle.go_parse_x.specs.Turns.{at, is_asked, IsAsSeen, IsPassed, IsAssumed}
+use Rattle.go_parse_x.specs.Machine.Turns.{at, is_asked, IsAsSeen, IsPassed, IsAssumed}
 use Rattle.go_parse_x.proofs.PieceLemmas.{seen_on}
 
 abbrev token_of : TokenKind → Token

@@ -5,14 +5,14 @@ use Rattle.go_tree.specs.declared.token.TokenKind.{TokenKind}
 use Rattle.go_tree.specs.declared.token.TokenKind.TheVariants.{LeftBrace, Semicolon}
 use Rattle.go_tree.specs.declared.production.Production.{Production}
 use Rattle.go_tree.specs.Height.{height_of}
-use Rattle.go_tree.specs.Scan.{IsNext}
+use Rattle.go_tree.specs.Lexical.Scan.{IsNext}
 use Rattle.go_tree.specs.Grammar.RightSide.{RightSide, Call}
-use Rattle.go_tree.specs.Grammar.Reading.{State, OpenNode, calls, before}
-use Rattle.go_tree.specs.Grammar.Brackets.{through_all, standing}
-use Rattle.go_tree.specs.Grammar.Completion.{completion, tokens_of, spell, is_there}
-use Rattle.go_tree.specs.Grammar.Prediction.{AllDecided, starts}
-use Rattle.go_tree.specs.Grammar.Rank.{top_rank}
-use Rattle.go_tree.specs.Grammar.Sentence.{production, tables, texts, ReadsGo, Begins}
+use Rattle.go_tree.specs.Grammar.Trees.Reading.{State, OpenNode, calls, before}
+use Rattle.go_tree.specs.Grammar.Tables.Brackets.{through_all, standing}
+use Rattle.go_tree.specs.Grammar.Tables.Completion.{completion, tokens_of, spell, is_there}
+use Rattle.go_tree.specs.Grammar.Tables.Prediction.{AllDecided, starts}
+use Rattle.go_tree.specs.Grammar.Tables.Rank.{top_rank}
+use Rattle.go_tree.specs.Grammar.Trees.Sentence.{production, tables, texts, ReadsGo, Begins}
 use Rattle.go_tree.proofs.PredictionLemmas.{call_decided}
 use Rattle.go_tree.proofs.GrammarLemmas.{tables_right, texts_right}
 use Rattle.go_tree.proofs.GrammarBrackets.{brackets_start, brackets_expand}
@@ -27,12 +27,12 @@ use Rattle.go_parse_x.specs.declared.reading.Target.TheVariants as target
 use Rattle.go_parse_x.specs.Targets.{reads, piece, hands}
 use Rattle.go_parse_x.specs.declared.reading.Reading.TheVariants.{Plain, Header, TypeOnly, Signature, Params, TypeParams}
 use Rattle.go_parse_x.specs.declared.seen.Seen.{Seen}
-use Rattle.go_parse_x.specs.Braces.{is_brace, is_braced, all_braced}
-use Rattle.go_parse_x.specs.Heights.{Counts}
-use Rattle.go_parse_x.specs.Opened.{Rises}
+use Rattle.go_parse_x.specs.Machine.Braces.{is_brace, is_braced, all_braced}
+use Rattle.go_parse_x.specs.Machine.Heights.{Counts}
+use Rattle.go_parse_x.specs.Tables.Opened.{Rises}
 use Rattle.go_parse_x.specs.Pieces.{HasRead, View, open_view, new_view, view_of, IsNew, IsAsked, IsOpen, IsAwaiting}
 use Rattle.go_parse_x.specs.Texts.{none, one}
-use Rattle.go_parse_x.specs.Turns.{at, IsAsSeen, IsSound, IsSolid, GoesOn, IsSame, IsPassed, IsAssumed, IsAtBlock}
+use Rattle.go_parse_x.specs.Machine.Turns.{at, IsAsSeen, IsSound, IsSolid, GoesOn, IsSame, IsPassed, IsAssumed, IsAtBlock}
 use Rattle.go_parse_x.proofs.PieceLemmas.{IsPiece, piece_is, seen_on, fits_on, none_fits, reads_begin, goes_begin, passed_read}
 use Rattle.go_parse_x.proofs.SpelledLemmas.{production_spelled}
 use Rattle.go_parse_x.proofs.TurnLemmas.{same_goes_on}

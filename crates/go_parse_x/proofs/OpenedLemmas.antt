@@ -7,7 +7,7 @@ use Rattle.go_tree.specs.declared.node.Node.TheOpen.{Node-F}
 use Rattle.go_tree.specs.declared.node.Node.TheFolds.{fold-roll-Node}
 use Rattle.go_tree.specs.Tree.{Tree, branch, more_trees, tree_step, tree_of, trees_of, start_of}
 use Rattle.go_parse_x.specs.declared.opened.OpenNode.{OpenNode}
-use Rattle.go_parse_x.specs.Opened.{unnumbered, all_unnumbered, numbers_in, numbers_among, numbers, Rises}
+use Rattle.go_parse_x.specs.Tables.Opened.{unnumbered, all_unnumbered, numbers_in, numbers_among, numbers, Rises}
 
 -- one more at the end of a list stands first in the list from its end
 pub seen_push : {X Y : Type 0} (f : X → Y) (xs : List X) (x : X) → reverse (map f (xs ++ x ∷ [])) ≡ f x ∷ reverse (map f xs)

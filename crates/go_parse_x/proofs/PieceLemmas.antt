@@ -8,10 +8,10 @@ use Rattle.go_tree.specs.declared.production.Production.{Production}
 use Rattle.go_tree.specs.Height.{height_of, AllFit}
 use Rattle.go_tree.specs.Tree.{Tree}
 use Rattle.go_tree.specs.Grammar.RightSide.{RightSide, Call}
-use Rattle.go_tree.specs.Grammar.TokenKinds.{same_kind}
-use Rattle.go_tree.specs.Grammar.Reading.{State, OpenNode, before, tree_read}
-use Rattle.go_tree.specs.Grammar.Brackets.{Level, through_all, standing}
-use Rattle.go_tree.specs.Grammar.Sentence.{production, tables, ReadsGo, IsA, Derives, Begins, is_whole, can_be_empty}
+use Rattle.go_tree.specs.Grammar.Tables.TokenKinds.{same_kind}
+use Rattle.go_tree.specs.Grammar.Trees.Reading.{State, OpenNode, before, tree_read}
+use Rattle.go_tree.specs.Grammar.Tables.Brackets.{Level, through_all, standing}
+use Rattle.go_tree.specs.Grammar.Trees.Sentence.{production, tables, ReadsGo, IsA, Derives, Begins, is_whole, can_be_empty}
 use Rattle.go_tree.proofs.EmptyLemmas.{series_empty, empty_read, empty_parts}
 use Rattle.go_tree.proofs.GrammarLemmas.{tables_right}
 use Rattle.go_tree.proofs.GrammarBrackets.{brackets_empty}
@@ -25,7 +25,7 @@ use Rattle.go_parse_x.specs.Targets.{reads, piece, hands}
 use Rattle.go_parse_x.specs.declared.seen.Seen.{Seen}
 use Rattle.go_parse_x.specs.Pieces.{HasRead}
 use Rattle.go_parse_x.specs.Texts.{IsBehind, none, one}
-use Rattle.go_parse_x.specs.Turns.{at, is_asked, IsAsSeen, GoesOn, IsPassed, IsStuck}
+use Rattle.go_parse_x.specs.Machine.Turns.{at, is_asked, IsAsSeen, GoesOn, IsPassed, IsStuck}
 use Rattle.go_parse_x.proofs.EndTokenLemmas.{is_file, no_end_read}
 
 -- what pieces and files have in common

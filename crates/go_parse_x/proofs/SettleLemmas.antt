@@ -3,15 +3,15 @@ use Rattle.std.proofs.Common.{◌≡◌, ℕ, Bool, true, false, List, Option, N
 use Rattle.go_tree.specs.declared.token.TokenKind.{TokenKind}
 use Rattle.go_tree.specs.declared.production.Production.{Production}
 use Rattle.go_tree.specs.Grammar.RightSide.{RightSide}
-use Rattle.go_tree.specs.Grammar.Reading.{OpenNode}
-use Rattle.go_tree.specs.Grammar.Completion.{completion, tokens_of}
-use Rattle.go_tree.specs.Grammar.Rank.{top_rank}
-use Rattle.go_tree.specs.Grammar.Sentence.{texts}
+use Rattle.go_tree.specs.Grammar.Trees.Reading.{OpenNode}
+use Rattle.go_tree.specs.Grammar.Tables.Completion.{completion, tokens_of}
+use Rattle.go_tree.specs.Grammar.Tables.Rank.{top_rank}
+use Rattle.go_tree.specs.Grammar.Trees.Sentence.{texts}
 use Rattle.go_tree.proofs.SentenceLemmas.{completes_lem}
 use Rattle.go_parse_x.specs.declared.seen.Seen.{Seen}
 use Rattle.go_parse_x.specs.declared.seen.Turn.{Turn}
 use Rattle.go_parse_x.specs.declared.seen.Turn.TheVariants.{Passed, Asked, Stuck, Astray, Unseen, AtBlock}
-use Rattle.go_parse_x.specs.Turns.{is_asked, IsSound, GoesOn, IsSame, IsPassed, IsStuck, IsAsked, IsMet, IsAtBlock, IsTurn, IsSettled}
+use Rattle.go_parse_x.specs.Machine.Turns.{is_asked, IsSound, GoesOn, IsSame, IsPassed, IsStuck, IsAsked, IsMet, IsAtBlock, IsTurn, IsSettled}
 use Rattle.go_parse_x.proofs.TurnLemmas.{same_then, same_anyway, same_passed, same_stuck, same_goes_on, same_asked}
 
 -- what was assumed so far

@@ -5,12 +5,12 @@ use Rattle.go_tree.specs.declared.token.Token.{Token}
 use Rattle.go_tree.specs.declared.token.TokenKind.{TokenKind}
 use Rattle.go_tree.specs.declared.production.Production.{Production}
 use Rattle.go_tree.specs.Grammar.RightSide.{RightSide, Do, Call, Nothing, Seq, Or, Many, When, Ahead, OneOf, Both}
-use Rattle.go_tree.specs.Grammar.Reading.{looks}
-use Rattle.go_tree.specs.Grammar.Completion.{spell, is_there}
-use Rattle.go_tree.specs.Grammar.Rank.{top_rank}
-use Rattle.go_tree.specs.Grammar.Prediction.{begins, next_of, starts, expand}
-use Rattle.go_tree.specs.Grammar.Sentence.{production, tables, texts}
-use Rattle.go_parse_x.specs.Turns.{pairs_spelled, all_spelled}
+use Rattle.go_tree.specs.Grammar.Trees.Reading.{looks}
+use Rattle.go_tree.specs.Grammar.Tables.Completion.{spell, is_there}
+use Rattle.go_tree.specs.Grammar.Tables.Rank.{top_rank}
+use Rattle.go_tree.specs.Grammar.Tables.Prediction.{begins, next_of, starts, expand}
+use Rattle.go_tree.specs.Grammar.Trees.Sentence.{production, tables, texts}
+use Rattle.go_parse_x.specs.Machine.Turns.{pairs_spelled, all_spelled}
 use Rattle.go_tree.proofs.ByProduction.{by_test}
 
 pub production_spelled : (n : Production) → pairs_spelled (production n) ≡ true

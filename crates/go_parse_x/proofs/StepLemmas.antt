@@ -4,17 +4,17 @@ use Rattle.go_tree.specs.declared.token.TokenKind.{TokenKind}
 use Rattle.go_tree.specs.declared.production.Production.{Production}
 use Rattle.go_tree.specs.declared.production.Production.TheVariants.{Block}
 use Rattle.go_tree.specs.Grammar.RightSide.{RightSide, Do, Call, Nothing, Seq, Act}
-use Rattle.go_tree.specs.Grammar.Reading.{OpenNode}
-use Rattle.go_tree.specs.Grammar.Prediction.{is_empty, next_of}
-use Rattle.go_tree.specs.Grammar.Sentence.{production, tables}
+use Rattle.go_tree.specs.Grammar.Trees.Reading.{OpenNode}
+use Rattle.go_tree.specs.Grammar.Tables.Prediction.{is_empty, next_of}
+use Rattle.go_tree.specs.Grammar.Trees.Sentence.{production, tables}
 use Rattle.go_parse_x.specs.declared.seen.Seen.{Seen}
 use Rattle.go_parse_x.specs.declared.seen.Turn.{Turn}
 use Rattle.go_parse_x.specs.declared.seen.Turn.TheVariants.{Passed, Turned, Asked, Stuck, Astray, Unseen, AtBlock}
-use Rattle.go_parse_x.specs.Braces.{is_block}
-use Rattle.go_parse_x.specs.KindSets.{has_kind}
-use Rattle.go_parse_x.specs.Leads.{IsSetOf}
-use Rattle.go_parse_x.specs.Turns.{IsSound, IsSame, IsTurn, IsCheaper}
-use Rattle.go_parse_x.specs.Weights.{cost}
+use Rattle.go_parse_x.specs.Machine.Braces.{is_block}
+use Rattle.go_parse_x.specs.Tables.KindSets.{has_kind}
+use Rattle.go_parse_x.specs.Tables.Leads.{IsSetOf}
+use Rattle.go_parse_x.specs.Machine.Turns.{IsSound, IsSame, IsTurn, IsCheaper}
+use Rattle.go_parse_x.specs.Machine.Weights.{cost}
 use Rattle.go_parse_x.proofs.TurnLemmas.{same_then, same_anyway, same_passed, same_stuck, same_asked, call_same, nothing_same, seq_same}
 use Rattle.go_parse_x.proofs.WeightLemmas.{call_cheaper, seq_cheaper}
 

@@ -7,12 +7,12 @@ use Rattle.go_tree.specs.declared.token.TokenKind.{TokenKind}
 use Rattle.go_tree.specs.declared.token.TokenKind.TheVariants.{End}
 use Rattle.go_tree.specs.declared.production.Production.{Production}
 use Rattle.go_tree.specs.declared.production.Production.TheVariants as p
-use Rattle.go_tree.specs.Scan.{IsNext, Stand}
+use Rattle.go_tree.specs.Lexical.Scan.{IsNext, Stand}
 use Rattle.go_tree.specs.Tree.{tree_of}
 use Rattle.go_tree.specs.Grammar.RightSide.{RightSide, Call}
-use Rattle.go_tree.specs.Grammar.Reading.{State, OpenNode, before, tree_read}
-use Rattle.go_tree.specs.Grammar.Prediction.{AllDecided}
-use Rattle.go_tree.specs.Grammar.Sentence.{production, tables, ReadsGo, IsA, Derives, Begins}
+use Rattle.go_tree.specs.Grammar.Trees.Reading.{State, OpenNode, before, tree_read}
+use Rattle.go_tree.specs.Grammar.Tables.Prediction.{AllDecided}
+use Rattle.go_tree.specs.Grammar.Trees.Sentence.{production, tables, ReadsGo, IsA, Derives, Begins}
 use Rattle.go_tree.proofs.PredictionLemmas.{unique}
 use Rattle.go_tree.proofs.GrammarLemmas.{tables_right}
 use Rattle.go_tree.proofs.GrammarBalance.{tree_lem}
@@ -24,12 +24,12 @@ use Rattle.go_parse_x.specs.declared.seen.Seen.{Seen}
 use Rattle.go_text.specs.Faults.{Spot}
 use Rattle.go_parse_x.specs.Answers.{EndsAt, Says, IsAnswer}
 use Rattle.go_parse_x.specs.Files.{Reached, Faults, IsFault, IsText, EndsText, IsTextAnswer, IsUnfinished, IsFinishedBy}
-use Rattle.go_parse_x.specs.Opened.{tree_without, numbers_in, Rises}
+use Rattle.go_parse_x.specs.Tables.Opened.{tree_without, numbers_in, Rises}
 use Rattle.go_tree.specs.Height.{AllFit}
 use Rattle.go_parse_x.specs.Pieces.{HasRead, View, IsOpen}
-use Rattle.go_parse_x.specs.Steps.{Fits, IsTooHigh, behind}
-use Rattle.go_tree.specs.Faults.{IsLex}
-use Rattle.go_parse_x.specs.Turns.{at, is_asked, IsPassed, IsStuck, IsAssumed, GoesOn}
+use Rattle.go_parse_x.specs.Machine.Steps.{Fits, IsTooHigh, behind}
+use Rattle.go_tree.specs.Lexical.Faults.{IsLex}
+use Rattle.go_parse_x.specs.Machine.Turns.{at, is_asked, IsPassed, IsStuck, IsAssumed, GoesOn}
 use Rattle.go_tree.proofs.StandLemmas.{stand_append}
 use Rattle.go_parse_x.proofs.FileEndLemmas.{file_ends, no_file}
 use Rattle.go_parse_x.proofs.PieceLemmas.{IsPiece, fits_on, goes_begin, stuck_never, passed_read, end_whole}

@@ -8,13 +8,13 @@ use Rattle.go_tree.specs.declared.token.TokenKind.TheVariants.{Ident, KwChan, Ar
 use Rattle.go_tree.specs.declared.production.Production.{Production}
 use Rattle.go_tree.specs.declared.production.Production.TheVariants.{Block}
 use Rattle.go_tree.specs.Grammar.RightSide.{RightSide, Do, Call, Nothing, Seq, Or, Many, When, Act, Pass, Open, Reopen, Adopt, CheckType, Close, Ahead, Both}
-use Rattle.go_tree.specs.Grammar.TokenKinds.{code, same_kind}
-use Rattle.go_tree.specs.Grammar.Reading.{State, OpenNode, at_end, does, acted, looks, next_start, passed, reopened, reopen, adopted, close_last, ends_in_type}
-use Rattle.go_tree.specs.Grammar.Brackets.{through_all, standing}
+use Rattle.go_tree.specs.Grammar.Tables.TokenKinds.{code, same_kind}
+use Rattle.go_tree.specs.Grammar.Trees.Reading.{State, OpenNode, at_end, does, acted, looks, next_start, passed, reopened, reopen, adopted, close_last, ends_in_type}
+use Rattle.go_tree.specs.Grammar.Tables.Brackets.{through_all, standing}
 use Rattle.go_tree.specs.Tree.{Tree}
-use Rattle.go_tree.specs.Grammar.Prediction.{act_is_empty, begins, next_of, starts, expand}
-use Rattle.go_tree.specs.Grammar.Rank.{top_rank}
-use Rattle.go_tree.specs.Grammar.Sentence.{production, tables, texts, ReadsGo}
+use Rattle.go_tree.specs.Grammar.Tables.Prediction.{act_is_empty, begins, next_of, starts, expand}
+use Rattle.go_tree.specs.Grammar.Tables.Rank.{top_rank}
+use Rattle.go_tree.specs.Grammar.Trees.Sentence.{production, tables, texts, ReadsGo}
 use Rattle.go_tree.proofs.PredictionLemmas.{first_token, expand_reads, expand_back, expand_decided, open_act}
 use Rattle.go_tree.proofs.CompletionLemmas.{expand_held, firm_held}
 use Rattle.go_tree.proofs.GrammarLemmas.{tables_right, texts_right}
@@ -23,14 +23,14 @@ use Rattle.go_parse_x.specs.declared.line.Asked.{Asked}
 use Rattle.go_parse_x.specs.declared.line.Asked.TheVariants.{Brace, Bracket, Result, Qualifier, Receive}
 use Rattle.go_parse_x.specs.declared.line.Step.{Step}
 use Rattle.go_parse_x.specs.declared.seen.Seen.{Seen}
-use Rattle.go_parse_x.specs.Lines.{ahead_of, side, sides}
-use Rattle.go_parse_x.specs.Turns.{at, is_asked, IsAsSeen, IsSound, IsSolid, IsSame, IsPassed, IsStuck, GoesOn, IsAsked, IsAtBlock, IsFull, AsksFor}
+use Rattle.go_parse_x.specs.Tables.Lines.{ahead_of, side, sides}
+use Rattle.go_parse_x.specs.Machine.Turns.{at, is_asked, IsAsSeen, IsSound, IsSolid, IsSame, IsPassed, IsStuck, GoesOn, IsAsked, IsAtBlock, IsFull, AsksFor}
 use Rattle.go_tree.proofs.BracketLemmas.{through_act, through_pass, check_inside}
 use Rattle.go_tree.proofs.GrammarBrackets.{brackets_expand}
 use Rattle.go_tree.proofs.StartLemmas.{all_begin, whens_begin, IsSure, act_starts_same}
 use Rattle.go_tree.proofs.GrammarStarts.{starts_expand, begin_expand}
 use Rattle.go_tree.proofs.NestingLemmas.{same_kinds}
-use Rattle.go_parse_x.specs.Braces.{is_block, all_braced}
+use Rattle.go_parse_x.specs.Machine.Braces.{is_block, all_braced}
 use Rattle.go_parse_x.proofs.BraceLemmas.{not_block, expand_braced, braced_behind, brace_passed}
 use Rattle.go_parse_x.proofs.SpelledLemmas.{expand_spelled, parts_spelled}
 

@@ -2,9 +2,9 @@
 use Rattle.std.proofs.Common.{◌≡◌, Bool, true, false, ◌↔◌, IsTrue, refl}
 use Rattle.go_tree.specs.declared.node_kind.NodeKind.TheVariants as k
 use Rattle.go_tree.specs.Tree.{Tree, branch, no_trees, more_trees, kind_of, parts_of}
-use Rattle.go_tree.specs.Grammar.TypeTrees.{is_name, is_type_name, is_type}
-use Rattle.go_parse_x.specs.Opened.{unnumbered, all_unnumbered}
-use Rattle.go_parse_x.specs.TypeParts.{shape_of, has_shape, is_type_name_of, is_channel, is_channel_of}
+use Rattle.go_tree.specs.Grammar.Trees.TypeTrees.{is_name, is_type_name, is_type}
+use Rattle.go_parse_x.specs.Tables.Opened.{unnumbered, all_unnumbered}
+use Rattle.go_parse_x.specs.Tables.TypeParts.{shape_of, has_shape, is_type_name_of, is_channel, is_channel_of}
 
 pub name_from_kind : (t : Tree) (b : Bool) → (IsTrue b ↔ (kind_of t ≡ k.Name)) → b ≡ is_name (unnumbered t)
 name_from_kind (branch id from to k.Name text parts) b h = h.1 refl

@@ -3,10 +3,10 @@ use Rattle.std.proofs.Common.{◌≡◌, ℕ, ◌+◌, ◌<◌, Bool, true, fals
 use Rattle.std.proofs.lemmas.Bool.Decides.{nat_tests}
 use Rattle.go_tree.specs.declared.production.Production.{Production}
 use Rattle.go_tree.specs.Grammar.RightSide.{RightSide, Do, Call, Nothing, Seq, Or, Many, When, Act, Ahead}
-use Rattle.go_tree.specs.Grammar.Prediction.{act_is_empty, is_empty}
-use Rattle.go_tree.specs.Grammar.Sentence.{production, tables}
+use Rattle.go_tree.specs.Grammar.Tables.Prediction.{act_is_empty, is_empty}
+use Rattle.go_tree.specs.Grammar.Trees.Sentence.{production, tables}
 use Rattle.go_tree.proofs.GrammarStarts.{empty_exact}
-use Rattle.go_parse_x.specs.Weights.{weight, weigh, cost}
+use Rattle.go_parse_x.specs.Machine.Weights.{weight, weigh, cost}
 use Rattle.go_tree.proofs.ByProduction.{by_test}
 
 -- a right side weighs less than the name of its production

@@ -5,9 +5,9 @@ use Rattle.go_tree.specs.declared.token.Token.{Token}
 use Rattle.go_tree.specs.declared.production.Production.{Production}
 use Rattle.go_tree.specs.declared.production.Production.TheVariants.{Block}
 use Rattle.go_tree.specs.Height.{height_of, AllFit}
-use Rattle.go_tree.specs.Scan.{IsNext, Stand}
+use Rattle.go_tree.specs.Lexical.Scan.{IsNext, Stand}
 use Rattle.go_tree.specs.Tree.{tree_of}
-use Rattle.go_tree.specs.Grammar.Sentence.{IsA, Derives, Begins}
+use Rattle.go_tree.specs.Grammar.Trees.Sentence.{IsA, Derives, Begins}
 use Rattle.go_text.specs.Faults.{Spot}
 use Rattle.go_parse_x.specs.declared.cursor.Cursor.{Cursor}
 use Rattle.go_text.specs.declared.fault.ParseFault.{ParseFault}
@@ -15,10 +15,10 @@ use Rattle.go_text.specs.declared.fault.ParseFault.TheVariants.{Lexical, Syntax,
 use Rattle.go_parse_x.specs.declared.parsed.Parsed.{Parsed}
 use Rattle.go_parse_x.specs.declared.parsed.Parsed.TheVariants as parsed
 use Rattle.go_parse_x.specs.declared.pending.Pending.{Pending}
-use Rattle.go_parse_x.specs.Opened.{tree_without, numbers_in, Rises}
+use Rattle.go_parse_x.specs.Tables.Opened.{tree_without, numbers_in, Rises}
 use Rattle.go_parse_x.specs.Pieces.{OpensBlock, PassesNoBlock, IsNew, open_view, view_of, IsOpen, IsAwaiting}
 use Rattle.go_parse_x.specs.Targets.{hands}
-use Rattle.go_tree.specs.Faults.{IsLex}
+use Rattle.go_tree.specs.Lexical.Faults.{IsLex}
 
 abbrev pub spot_of : Cursor → Spot
 spot_of c = record { at = c.at; last = c.last }

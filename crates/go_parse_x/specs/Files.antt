@@ -5,19 +5,19 @@ use Rattle.go_tree.specs.declared.token.Token.{Token}
 use Rattle.go_tree.specs.declared.token.TokenKind.TheVariants.{End}
 use Rattle.go_tree.specs.declared.production.Production.{Production}
 use Rattle.go_tree.specs.declared.production.Production.TheVariants.{File}
-use Rattle.go_tree.specs.Scan.{IsNext, Stand}
+use Rattle.go_tree.specs.Lexical.Scan.{IsNext, Stand}
 use Rattle.go_tree.specs.Tree.{Tree, tree_of}
 use Rattle.go_tree.specs.Grammar.RightSide.{RightSide}
-use Rattle.go_tree.specs.Grammar.Reading.{State, OpenNode, tree_read}
-use Rattle.go_tree.specs.Grammar.Sentence.{ReadsGo, Derives, Begins}
+use Rattle.go_tree.specs.Grammar.Trees.Reading.{State, OpenNode, tree_read}
+use Rattle.go_tree.specs.Grammar.Trees.Sentence.{ReadsGo, Derives, Begins}
 use Rattle.go_text.specs.declared.fault.ParseFault.{ParseFault}
 use Rattle.go_text.specs.declared.fault.ParseFault.TheVariants.{Lexical, Syntax, High, NoMemory}
 use Rattle.go_text.specs.Faults.{Spot}
 use Rattle.go_parse_x.specs.Answers.{EndsAt, IsHigh}
-use Rattle.go_parse_x.specs.Opened.{tree_without, numbers_in, Rises}
+use Rattle.go_parse_x.specs.Tables.Opened.{tree_without, numbers_in, Rises}
 use Rattle.go_tree.specs.Height.{AllFit}
-use Rattle.go_parse_x.specs.Turns.{at}
-use Rattle.go_tree.specs.Faults.{IsLex}
+use Rattle.go_parse_x.specs.Machine.Turns.{at}
+use Rattle.go_tree.specs.Lexical.Faults.{IsLex}
 
 -- these are the tokens from one place to another; an n begins with them, and none has a height past what is free
 pub record Reached (bytes : List ℕ) (n : Production) (free : ℕ) (from to : Spot) (tokens : List Token) : Type 0 where

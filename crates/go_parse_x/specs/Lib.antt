@@ -1,19 +1,12 @@
-pub mod Lines
-pub mod Shapes
-pub mod Sizes
-pub mod KindSets
-pub mod Leads
-pub mod Opened
-pub mod TypeParts
-pub mod Heights
-pub mod Weights
-pub mod Braces
-pub mod Turns
-pub mod Ends
-pub mod Texts
+-- what public contracts cite
 pub mod Targets
 pub mod Pieces
 pub mod Answers
-pub mod Steps
+pub mod Texts
 pub mod Files
-pub mod EmptyBlocks
+-- what is still to be read, and what a token makes of it
+pub mod Machine
+-- the grammar as tables
+pub mod Tables
+-- what tests hand in
+pub mod HandedBlocks

@@ -6,21 +6,21 @@ use Rattle.go_tree.specs.declared.token.TokenKind.TheVariants.{LeftBrace}
 use Rattle.go_tree.specs.declared.production.Production.{Production}
 use Rattle.go_tree.specs.declared.production.Production.TheVariants as p
 use Rattle.go_tree.specs.Height.{AllFit}
-use Rattle.go_tree.specs.Scan.{IsNext}
+use Rattle.go_tree.specs.Lexical.Scan.{IsNext}
 use Rattle.go_tree.specs.Grammar.RightSide.{RightSide, Call}
-use Rattle.go_tree.specs.Grammar.Reading.{State, OpenNode, before}
-use Rattle.go_tree.specs.Grammar.Brackets.{through_all, standing}
-use Rattle.go_tree.specs.Grammar.Completion.{Firm}
-use Rattle.go_tree.specs.Grammar.Rank.{top_rank}
-use Rattle.go_tree.specs.Grammar.Sentence.{production, texts, ReadsGo, Begins}
+use Rattle.go_tree.specs.Grammar.Trees.Reading.{State, OpenNode, before}
+use Rattle.go_tree.specs.Grammar.Tables.Brackets.{through_all, standing}
+use Rattle.go_tree.specs.Grammar.Tables.Completion.{Firm}
+use Rattle.go_tree.specs.Grammar.Tables.Rank.{top_rank}
+use Rattle.go_tree.specs.Grammar.Trees.Sentence.{production, texts, ReadsGo, Begins}
 use Rattle.go_parse_x.specs.declared.heights.Heights.{Heights}
 use Rattle.go_parse_x.specs.Targets.{hands, piece}
 use Rattle.go_parse_x.specs.declared.pending.Pending.{Pending}
-use Rattle.go_parse_x.specs.Braces.{all_braced}
-use Rattle.go_parse_x.specs.Lines.{sides}
-use Rattle.go_parse_x.specs.Opened.{frames, numbers, Rises}
-use Rattle.go_parse_x.specs.Heights.{Counts}
-use Rattle.go_parse_x.specs.Turns.{at, is_asked, IsAsSeen, IsSound, IsSolid, IsFull}
+use Rattle.go_parse_x.specs.Machine.Braces.{all_braced}
+use Rattle.go_parse_x.specs.Tables.Lines.{sides}
+use Rattle.go_parse_x.specs.Tables.Opened.{frames, numbers, Rises}
+use Rattle.go_parse_x.specs.Machine.Heights.{Counts}
+use Rattle.go_parse_x.specs.Machine.Turns.{at, is_asked, IsAsSeen, IsSound, IsSolid, IsFull}
 use Rattle.go_parse_x.specs.Texts.{IsBehind}
 
 -- behind the tokens, gs reads what makes an n of them, where what follows is as it was assumed

@@ -4,8 +4,8 @@ use Rattle.std.specs.Prelude.{ℕ, zero, suc, ◌≡◌, ◌≢◌, List, [], �
 use Rattle.go_tree.specs.declared.token.Token.{Token}
 use Rattle.go_tree.specs.declared.token.TokenKind.{TokenKind}
 use Rattle.go_tree.specs.declared.token.TokenKind.TheVariants.{End}
-use Rattle.go_tree.specs.Faults.{IsLex}
-use Rattle.go_tree.specs.Scan.{IsNext}
+use Rattle.go_tree.specs.Lexical.Faults.{IsLex}
+use Rattle.go_tree.specs.Lexical.Scan.{IsNext}
 use Rattle.go_tree.specs.declared.lex.Lex.{Lex}
 
 -- the token so many places behind the next one, or the end where there are not as many

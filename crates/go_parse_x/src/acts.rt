@@ -1,10 +1,10 @@
 // What acts make of the open nodes.
 ghost use Rattle.std.specs.Prelude.{◌≡◌, ℕ, ◌∷◌, [], List, Some, None, IfOk, OnOk, MatchBool};
 ghost use Rattle.go_tree.specs.declared.token.Token.{Token as TokenOf};
-ghost use Rattle.go_tree.specs.Grammar.Reading.{acted, next_start, reopen as reopened_so, adopt as adopted_so, close_last, ends_in_type as ends_so};
-ghost use Rattle.go_parse_x.specs.Opened.{frames, numbers, Rises};
-ghost use Rattle.go_parse_x.specs.Shapes.{act_of};
-ghost use Rattle.go_parse_x.specs.Turns.{at};
+ghost use Rattle.go_tree.specs.Grammar.Trees.Reading.{acted, next_start, reopen as reopened_so, adopt as adopted_so, close_last, ends_in_type as ends_so};
+ghost use Rattle.go_parse_x.specs.Tables.Opened.{frames, numbers, Rises};
+ghost use Rattle.go_parse_x.specs.Tables.Shapes.{act_of};
+ghost use Rattle.go_parse_x.specs.Machine.Turns.{at};
 
 use crate::closing::close;
 use crate::line::Act;

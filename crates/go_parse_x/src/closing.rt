@@ -1,8 +1,8 @@
 // The end of an open node: its number, its text, its place among the parts of the next one.
 ghost use Rattle.std.specs.Prelude.{◌≡◌, ◌^◌, ℕ, ◌+◌, [], ◌∷◌, ◌++◌, map, OnOk, IfOk, OnErr};
 ghost use Rattle.go_tree.specs.Tree.{tree_of, trees_of};
-ghost use Rattle.go_tree.specs.Grammar.Reading.{has_text, text_between, node_read, close_last};
-ghost use Rattle.go_parse_x.specs.Opened.{frame, frames, numbers, numbers_in, numbers_among, tree_without, Rises};
+ghost use Rattle.go_tree.specs.Grammar.Trees.Reading.{has_text, text_between, node_read, close_last};
+ghost use Rattle.go_parse_x.specs.Tables.Opened.{frame, frames, numbers, numbers_in, numbers_among, tree_without, Rises};
 
 use crate::opened::{OpenNode, push_part};
 use go_base::{Bytes, NoMemory};

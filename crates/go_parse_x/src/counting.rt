@@ -2,12 +2,12 @@
 ghost use Rattle.std.specs.Prelude.{◌≡◌, true, List, [], ◌∷◌, ◌++◌, IfOk, IfErr, OnOk};
 ghost use Rattle.go_tree.specs.declared.token.Token.{Token as TokenOf};
 ghost use Rattle.go_tree.specs.declared.token.TokenKind.TheVariants.{LeftBrace};
-ghost use Rattle.go_tree.specs.Scan.{IsNext};
+ghost use Rattle.go_tree.specs.Lexical.Scan.{IsNext};
 ghost use Rattle.go_parse_x.specs.declared.progress.Progress.TheVariants.{AtBlock, Passed};
 ghost use Rattle.go_parse_x.specs.Answers.{spot_of};
-ghost use Rattle.go_parse_x.specs.Heights.{Counts};
+ghost use Rattle.go_parse_x.specs.Machine.Heights.{Counts};
 ghost use Rattle.go_parse_x.specs.Pieces.{open_view};
-ghost use Rattle.go_parse_x.specs.Steps.{Fits, IsTooHigh, IsStray, behind};
+ghost use Rattle.go_parse_x.specs.Machine.Steps.{Fits, IsTooHigh, IsStray, behind};
 
 use crate::cursor::Cursor;
 use crate::heights::Heights;

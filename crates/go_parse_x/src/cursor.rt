@@ -2,10 +2,10 @@
 ghost use Rattle.std.specs.Prelude.{◌≡◌, ◌^◌, ◌≢◌, ◌+◌, ◌≤◌, ◌<◌, length, None, Some, IfOk, IfErr, IfSome, IfNone, OnErr};
 ghost use Rattle.go_tree.specs.declared.token.Token.{Token as TokenOf};
 ghost use Rattle.go_tree.specs.declared.token.TokenKind.TheVariants.{End};
-ghost use Rattle.go_tree.specs.Scan.{IsNext};
+ghost use Rattle.go_tree.specs.Lexical.Scan.{IsNext};
 ghost use Rattle.go_scan.specs.Weight.{scan_weight};
 ghost use Rattle.go_parse_x.specs.Texts.{IsAhead, IsLexAhead};
-ghost use Rattle.go_tree.specs.Faults.{IsLex};
+ghost use Rattle.go_tree.specs.Lexical.Faults.{IsLex};
 
 use crate::closing::next_number;
 use go_base::NoMemory;

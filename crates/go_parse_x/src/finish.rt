@@ -2,13 +2,13 @@
 ghost use Rattle.std.specs.Prelude.{◌≡◌, ℕ, ◌∷◌, ◌<◌, List, OnOk, IfOk, IsTrue, cond};
 ghost use Rattle.go_tree.specs.declared.production.Production.{Production as ProductionOf};
 ghost use Rattle.go_tree.specs.Grammar.RightSide.{RightSide, Do};
-ghost use Rattle.go_tree.specs.Grammar.Prediction.{AllDecided, is_empty as is_empty_so};
-ghost use Rattle.go_tree.specs.Grammar.Sentence.{tables};
-ghost use Rattle.go_parse_x.specs.Ends.{IsEnding, IsFinished};
-ghost use Rattle.go_parse_x.specs.Lines.{side, sides};
-ghost use Rattle.go_parse_x.specs.Opened.{frames, numbers, Rises};
-ghost use Rattle.go_parse_x.specs.Shapes.{act_of};
-ghost use Rattle.go_parse_x.specs.Weights.{cost};
+ghost use Rattle.go_tree.specs.Grammar.Tables.Prediction.{AllDecided, is_empty as is_empty_so};
+ghost use Rattle.go_tree.specs.Grammar.Trees.Sentence.{tables};
+ghost use Rattle.go_parse_x.specs.Machine.Ends.{IsEnding, IsFinished};
+ghost use Rattle.go_parse_x.specs.Tables.Lines.{side, sides};
+ghost use Rattle.go_parse_x.specs.Tables.Opened.{frames, numbers, Rises};
+ghost use Rattle.go_parse_x.specs.Tables.Shapes.{act_of};
+ghost use Rattle.go_parse_x.specs.Machine.Weights.{cost};
 
 use crate::acts::{Here, act};
 use crate::line::Act;

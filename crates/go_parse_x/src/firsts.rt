@@ -1,9 +1,9 @@
 // The tokens that each production begins with, and which productions can be empty.
 ghost use Rattle.std.specs.Prelude.{◌≡◌};
 ghost use Rattle.go_tree.specs.declared.production.Production.TheVariants.{More};
-ghost use Rattle.go_tree.specs.Grammar.First.{firsts};
-ghost use Rattle.go_tree.specs.Grammar.Sentence.{can_be_empty as empty_productions, tables};
-ghost use Rattle.go_parse_x.specs.KindSets.{set_of};
+ghost use Rattle.go_tree.specs.Grammar.Tables.First.{firsts};
+ghost use Rattle.go_tree.specs.Grammar.Trees.Sentence.{can_be_empty as empty_productions, tables};
+ghost use Rattle.go_parse_x.specs.Tables.KindSets.{set_of};
 
 use crate::kind_sets::{has, kinds};
 use crate::start_sets::{

@@ -4,8 +4,8 @@ ghost use Rattle.go_tree.specs.declared.token.Token.{Token};
 ghost use Rattle.go_tree.specs.declared.production.Production.TheVariants.{Block};
 ghost use Rattle.go_tree.specs.declared.token_height.Role.TheVariants.{Opens, Closes, Separates, CountsOn, Counts as CountsSo};
 ghost use Rattle.go_tree.specs.Height.{Mark, Passing, height_of, marks_behind};
-ghost use Rattle.go_tree.specs.Grammar.Sentence.{IsA};
-ghost use Rattle.go_parse_x.specs.Heights.{AreLevels, Counts, HasRoom, enclosing, level_in};
+ghost use Rattle.go_tree.specs.Grammar.Trees.Sentence.{IsA};
+ghost use Rattle.go_parse_x.specs.Machine.Heights.{AreLevels, Counts, HasRoom, enclosing, level_in};
 
 use go_base::NoMemory;
 use go_tree::{Role, TokenKind, role_behind};

@@ -1,7 +1,7 @@
 // Sets of kinds of tokens, with one bit for each kind.
 ghost use Rattle.std.specs.Prelude.{◌≡◌};
-ghost use Rattle.go_tree.specs.Grammar.TokenKinds.{code, same_kind};
-ghost use Rattle.go_parse_x.specs.KindSets.{has_kind};
+ghost use Rattle.go_tree.specs.Grammar.Tables.TokenKinds.{code, same_kind};
+ghost use Rattle.go_parse_x.specs.Tables.KindSets.{has_kind};
 
 use go_tree::TokenKind;
 

@@ -56,26 +56,8 @@ pub use reading::Reading;
 pub use texts::parse_text;
 
 #[cfg(test)]
-mod behind_tests;
-#[cfg(test)]
-mod composite_tests;
-#[cfg(test)]
 mod cursor_tests;
-#[cfg(test)]
-mod cut_tests;
-#[cfg(test)]
-mod expression_tests;
-#[cfg(test)]
-mod height_tests;
 #[cfg(test)]
 mod literal_tests;
 #[cfg(test)]
 mod piece_tests;
-#[cfg(test)]
-mod refusal_tests;
-#[cfg(test)]
-mod signature_tests;
-#[cfg(test)]
-mod span_tests;
-#[cfg(test)]
-mod type_tests;

@@ -1,8 +1,8 @@
 // The line of each production. Written by bench/lines.py.
 ghost use Rattle.std.specs.Prelude.{◌≡◌, true};
-ghost use Rattle.go_tree.specs.Grammar.Sentence.{production};
-ghost use Rattle.go_parse_x.specs.Leads.{all_led};
-ghost use Rattle.go_parse_x.specs.Lines.{side_at};
+ghost use Rattle.go_tree.specs.Grammar.Trees.Sentence.{production};
+ghost use Rattle.go_parse_x.specs.Tables.Leads.{all_led};
+ghost use Rattle.go_parse_x.specs.Tables.Lines.{side_at};
 
 use crate::line::Step;
 use crate::{declaration_lines, expression_lines, file_lines, statement_lines, type_lines};

@@ -1,18 +1,19 @@
-// Function literals with an empty block, which is read here and handed in.
-ghost use Rattle.std.specs.Prelude.{◌≡◌, ◌≢◌, ℕ, List, [], ◌∷◌, true, None, IfOk, IfSome};
+// Function literals whose block is read here and handed in: `{}` or `{ return }`.
+ghost use Rattle.std.specs.Prelude.{◌≡◌, ◌≢◌, ◌+◌, ℕ, List, [], ◌∷◌, true, None, IfOk, IfSome, map};
 ghost use Rattle.go_tree.specs.declared.token.Token.{Token as TokenOf};
 ghost use Rattle.go_tree.specs.declared.token.TokenKind.TheVariants.{End};
 ghost use Rattle.go_parse_x.specs.Answers.{IsBlockRead};
-ghost use Rattle.go_parse_x.specs.EmptyBlocks.{IsEmptyBlock};
+ghost use Rattle.go_parse_x.specs.HandedBlocks.{IsEmptyBlock, IsReturnBlock};
+ghost use Rattle.go_tree.specs.Tree.{tree_of, trees_of, branch};
 ghost use Rattle.go_parse_x.specs.Pieces.{IsAwaiting, open_view};
 ghost use Rattle.go_parse_x.specs.Targets.{hands};
-ghost use Rattle.go_tree.specs.Scan.{Stand};
+ghost use Rattle.go_tree.specs.Lexical.Scan.{Stand};
 
 use crate::cursor::Cursor;
 use crate::kind_sets::same;
 use crate::parsed::Parsed;
 use crate::pending::Pending;
-use crate::piece_tests::{AMPLE, Row, shape};
+use crate::piece_tests::{AMPLE, shape};
 use crate::reader::parse_expr;
 use crate::reading::Reading;
 use go_base::Bytes;
@@ -40,38 +41,76 @@ fn taken(cursor: &mut Cursor, kind: TokenKind) -> Result<Option<Token>, ParseFau
     }
 }
 
+// The node that gets the next number, from the one token to the other, with these parts.
+fn node_of(
+    alloc: Global,
+    cursor: &mut Cursor,
+    kind: NodeKind,
+    first: Token,
+    last: Token,
+    parts: Vec<Node>,
+) -> Result<Node, ParseFault>
+    requires { cursor.old.fault ≡ None }
+    ensures tree { IfOk result (λ node. tree_of node ≡ branch cursor.old.number first.start last.end kind [] (trees_of (map tree_of parts.items))) }
+    ensures number { IfOk result (λ _. cursor.new.number ≡ cursor.old.number + 1) }
+    ensures others { (cursor.new.bytes.now ≡ cursor.old.bytes.now) × (cursor.new.at ≡ cursor.old.at) × (cursor.new.last ≡ cursor.old.last) × (cursor.new.fault ≡ cursor.old.fault) }
+{
+    match cursor.fresh() {
+        Err(_) => Err(ParseFault::NoMemory),
+        Ok(id) => Ok(Node {
+            id,
+            start: first.start,
+            end: last.end,
+            kind,
+            text: Bytes::new(Vec::new(alloc)),
+            parts,
+        }),
+    }
+}
+
 // The block `{}` from the cursor on; none where something else stands there.
 fn empty_block(alloc: Global, cursor: &mut Cursor) -> Result<Option<Node>, ParseFault>
     requires { cursor.old.fault ≡ None }
     ensures block { IfOk result (λ o. IfSome o (λ node. IsEmptyBlock cursor.old cursor.new node)) }
     ensures others { (cursor.new.bytes.now ≡ cursor.old.bytes.now) × (cursor.new.fault ≡ cursor.old.fault) }
 {
-    match taken(cursor, TokenKind::LeftBrace) {
-        Err(fault) => Err(fault),
-        Ok(None) => Ok(None),
-        Ok(Some(opening)) => match taken(cursor, TokenKind::RightBrace) {
-            Err(fault) => Err(fault),
-            Ok(None) => Ok(None),
-            Ok(Some(closing)) => match cursor.fresh() {
-                Err(_) => Err(ParseFault::NoMemory),
-                Ok(id) => Ok(Some(Node {
-                    id,
-                    start: opening.start,
-                    end: closing.end,
-                    kind: NodeKind::Block,
-                    text: Bytes::new(Vec::new(alloc)),
-                    parts: Vec::new(alloc),
-                })),
-            },
-        },
-    }
+    let Some(opening) = taken(cursor, TokenKind::LeftBrace)? else {
+        return Ok(None);
+    };
+    let Some(closing) = taken(cursor, TokenKind::RightBrace)? else {
+        return Ok(None);
+    };
+    let parts = Vec::new(alloc);
+    Ok(Some(node_of(alloc, cursor, NodeKind::Block, opening, closing, parts)?))
 }
 
-// Reads on behind the answer Block, where `{}` is awaited.
+// The block `{ return }` from the cursor on; none where something else stands there.
+fn return_block(alloc: Global, cursor: &mut Cursor) -> Result<Option<Node>, ParseFault>
+    requires { cursor.old.fault ≡ None }
+    ensures block { IfOk result (λ o. IfSome o (λ node. IsReturnBlock cursor.old cursor.new node)) }
+    ensures others { (cursor.new.bytes.now ≡ cursor.old.bytes.now) × (cursor.new.fault ≡ cursor.old.fault) }
+{
+    let Some(opening) = taken(cursor, TokenKind::LeftBrace)? else {
+        return Ok(None);
+    };
+    let Some(word) = taken(cursor, TokenKind::KwReturn)? else {
+        return Ok(None);
+    };
+    let Some(closing) = taken(cursor, TokenKind::RightBrace)? else {
+        return Ok(None);
+    };
+    let none = Vec::new(alloc);
+    let statement = node_of(alloc, cursor, NodeKind::ReturnStmt, word, word, none)?;
+    let parts = vec![in alloc; statement].map_err(|_| ParseFault::NoMemory)?;
+    Ok(Some(node_of(alloc, cursor, NodeKind::Block, opening, closing, parts)?))
+}
+
+// Reads on behind the answer Block, where `{ return }` is awaited if `returns`, and else `{}`.
 fn rest_of_literal(
     alloc: Global,
     cursor: &mut Cursor,
     pending: &mut Pending,
+    returns: bool,
 ) -> Result<Option<Parsed>, ParseFault>
     requires unspent { cursor.old.fault ≡ None }
     requires begun { pending.old.begun ≡ true }
@@ -82,10 +121,16 @@ fn rest_of_literal(
     if pending.free() < 2 {
         return Ok(None);
     }
-    match empty_block(alloc, cursor) {
-        Err(fault) => Err(fault),
-        Ok(None) => Ok(None),
-        Ok(Some(block)) => hand_in(alloc, cursor, pending, block),
+    if returns {
+        match return_block(alloc, cursor)? {
+            None => Ok(None),
+            Some(block) => hand_in(alloc, cursor, pending, block),
+        }
+    } else {
+        match empty_block(alloc, cursor)? {
+            None => Ok(None),
+            Some(block) => hand_in(alloc, cursor, pending, block),
+        }
     }
 }
 
@@ -109,45 +154,71 @@ fn hand_in(
     }
 }
 
-// Reads a piece with one function literal, whose block is empty.
-fn read_literal(alloc: Global, text: &[u8]) -> Result<Option<Parsed>, ParseFault> {
+// Reads a piece with one function literal, whose block is `{ return }` if `returns`, and else `{}`.
+fn read_literal(alloc: Global, text: &[u8], returns: bool) -> Result<Option<Parsed>, ParseFault> {
     let mut cursor = Cursor::new(text, NodeId(7));
     let mut pending = Pending::new(alloc, Reading::Plain, AMPLE);
     match parse_expr(alloc, &mut cursor, &mut pending) {
         Err(fault) => Err(fault),
         Ok(Parsed::Whole(_)) => Ok(None),
-        Ok(Parsed::Block) => rest_of_literal(alloc, &mut cursor, &mut pending),
+        Ok(Parsed::Block) => rest_of_literal(alloc, &mut cursor, &mut pending, returns),
     }
 }
 
-const LITERALS: [Row; 6] = [
-    ("func(){}", "(FuncLit (Signature (Params)) (Block))"),
+// A text, whether its block returns, and the shape of its tree.
+const LITERALS: [(&str, bool, &str); 10] = [
+    ("func(){}", false, "(FuncLit (Signature (Params)) (Block))"),
     (
         "func(){}()",
+        false,
         "(CallExpr (FuncLit (Signature (Params)) (Block)))",
     ),
     (
         "f(func(a int) bool {}, b...)",
+        false,
         "(SpreadCallExpr f (FuncLit (Signature (Params (Param a int)) bool) (Block)) b)",
     ),
     (
         "a + func() T {} (x)",
+        false,
         "(AddExpr a (CallExpr (FuncLit (Signature (Params) T) (Block)) x))",
     ),
     (
         "[]func(){func(){}}",
+        false,
         "(CompositeLit (SliceType (FuncType (Signature (Params)))) (LiteralValue (FuncLit (Signature (Params)) (Block))))",
     ),
     (
         "func() (func() T) {}",
+        false,
         "(FuncLit (Signature (Params) (Params (UnnamedParam (FuncType (Signature (Params) T))))) (Block))",
+    ),
+    (
+        "func() { return }",
+        true,
+        "(FuncLit (Signature (Params)) (Block (ReturnStmt)))",
+    ),
+    (
+        "func() { return }()",
+        true,
+        "(CallExpr (FuncLit (Signature (Params)) (Block (ReturnStmt))))",
+    ),
+    (
+        "f(a, func(b T) { return }) + c",
+        true,
+        "(AddExpr (CallExpr f a (FuncLit (Signature (Params (Param b T))) (Block (ReturnStmt)))) c)",
+    ),
+    (
+        "T{func() { return }, a}",
+        true,
+        "(CompositeLit T (LiteralValue (FuncLit (Signature (Params)) (Block (ReturnStmt))) a))",
     ),
 ];
 
 #[test]
 fn function_literals(rt: HostRuntime) -> Result<(), Fail> {
-    for (text, want) in LITERALS {
-        match read_literal(rt.alloc(), text.as_bytes())? {
+    for (text, returns, want) in LITERALS {
+        match read_literal(rt.alloc(), text.as_bytes(), returns)? {
             Some(Parsed::Whole(node)) => {
                 let shape = shape(rt.alloc(), &node)?;
                 assert_eq!(rt; shape.as_str(), want, "{text}");

@@ -1,18 +1,18 @@
 // One step of the machine: what the next token makes of what is to be read.
 ghost use Rattle.std.specs.Prelude.{◌≡◌, ℕ, ◌∷◌, true, false, List, Some, OnOk, IfOk, IsTrue, IsFalse};
 ghost use Rattle.go_tree.specs.Grammar.RightSide.{RightSide, Do, Call, Seq, Or, Many, When, Pass};
-ghost use Rattle.go_tree.specs.Grammar.Reading.{OpenNode as Opened};
-ghost use Rattle.go_tree.specs.Grammar.Prediction.{is_empty as is_empty_so};
-ghost use Rattle.go_tree.specs.Grammar.Sentence.{tables};
+ghost use Rattle.go_tree.specs.Grammar.Trees.Reading.{OpenNode as Opened};
+ghost use Rattle.go_tree.specs.Grammar.Tables.Prediction.{is_empty as is_empty_so};
+ghost use Rattle.go_tree.specs.Grammar.Trees.Sentence.{tables};
 ghost use Rattle.go_tree.specs.declared.production.Production.{Production as ProductionOf};
 ghost use Rattle.go_tree.specs.declared.production.Production.TheVariants.{Block};
 ghost use Rattle.go_parse_x.specs.declared.seen.Turn.TheVariants.{Turned as TheTurned};
-ghost use Rattle.go_parse_x.specs.Braces.{is_block};
-ghost use Rattle.go_parse_x.specs.Leads.{IsSetOf};
-ghost use Rattle.go_parse_x.specs.Lines.{ahead_of, on_top, side, sides};
-ghost use Rattle.go_parse_x.specs.Opened.{frames, numbers, Rises};
-ghost use Rattle.go_parse_x.specs.Shapes.{act_of};
-ghost use Rattle.go_parse_x.specs.Turns.{IsSound, IsTurn, IsCheaper, AsksFor};
+ghost use Rattle.go_parse_x.specs.Machine.Braces.{is_block};
+ghost use Rattle.go_parse_x.specs.Tables.Leads.{IsSetOf};
+ghost use Rattle.go_parse_x.specs.Tables.Lines.{ahead_of, on_top, side, sides};
+ghost use Rattle.go_parse_x.specs.Tables.Opened.{frames, numbers, Rises};
+ghost use Rattle.go_parse_x.specs.Tables.Shapes.{act_of};
+ghost use Rattle.go_parse_x.specs.Machine.Turns.{IsSound, IsTurn, IsCheaper, AsksFor};
 
 use crate::acts::{Here, act};
 use crate::kind_sets::{has, same};

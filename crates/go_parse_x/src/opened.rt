@@ -1,8 +1,8 @@
 // Open nodes: what is done with the nodes that are read.
 ghost use Rattle.std.specs.Prelude.{◌≡◌, ℕ, ◌++◌, ◌∷◌, [], OnOk, OnErr, IfSome, option_map};
 ghost use Rattle.go_tree.specs.Tree.{tree_of};
-ghost use Rattle.go_tree.specs.Grammar.Reading.{reopen, adopt, tree_read};
-ghost use Rattle.go_parse_x.specs.Opened.{frames, numbers, numbers_in, added, tree_without, Rises};
+ghost use Rattle.go_tree.specs.Grammar.Trees.Reading.{reopen, adopt, tree_read};
+ghost use Rattle.go_parse_x.specs.Tables.Opened.{frames, numbers, numbers_in, added, tree_without, Rises};
 
 use go_base::NoMemory;
 use go_tree::Node;

@@ -2,7 +2,7 @@
 ghost use Rattle.std.specs.Prelude.{◌≡◌, ◌-◌, true, List, OnOk};
 ghost use Rattle.go_tree.specs.declared.token.Token.{Token};
 ghost use Rattle.go_tree.specs.Height.{height_of};
-ghost use Rattle.go_parse_x.specs.Heights.{Counts};
+ghost use Rattle.go_parse_x.specs.Machine.Heights.{Counts};
 ghost use Rattle.go_parse_x.specs.Pieces.{IsNew, open_view, view_of};
 ghost use Rattle.go_parse_x.specs.declared.reading.Target.TheVariants.{File as TheFile};
 ghost use Rattle.go_parse_x.specs.Targets.{hands, piece, reads};

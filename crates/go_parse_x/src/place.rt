@@ -1,8 +1,8 @@
 // Places of the grammar: each stands for a right side.
 ghost use Rattle.std.specs.Prelude.{◌≡◌, ◌<◌, ◌+◌, length, slice_get, true};
-ghost use Rattle.go_tree.specs.Grammar.Sentence.{production};
-ghost use Rattle.go_parse_x.specs.Leads.{all_led};
-ghost use Rattle.go_parse_x.specs.Lines.{side};
+ghost use Rattle.go_tree.specs.Grammar.Trees.Sentence.{production};
+ghost use Rattle.go_parse_x.specs.Tables.Leads.{all_led};
+ghost use Rattle.go_parse_x.specs.Tables.Lines.{side};
 
 use crate::line::Step;
 use crate::lines::line_of;
@@ -19,7 +19,7 @@ pub struct Place {
 impl Model for Place {
     ghost use Rattle.std.specs.Prelude.{ℕ, List, ◌≡◌, true};
     ghost use Rattle.go_parse_x.specs.declared.line.Step.{Step};
-    ghost use Rattle.go_parse_x.specs.Leads.{all_led};
+    ghost use Rattle.go_parse_x.specs.Tables.Leads.{all_led};
 
     // a line and where in it; which right side that is: `side`
     ghost Value = { List Step × ℕ };

@@ -1,11 +1,11 @@
 // What the next token decides.
 ghost use Rattle.std.specs.Prelude.{◌≡◌, List, ◌∷◌, IfSome, IfNone};
 ghost use Rattle.go_tree.specs.declared.token.Token.{Token as TokenOf};
-ghost use Rattle.go_tree.specs.Grammar.Prediction.{begins as begins_so, is_empty as is_empty_so, starts as starts_so, may_look as may_look_so, may_miss as may_miss_so};
-ghost use Rattle.go_tree.specs.Grammar.Reading.{looks};
-ghost use Rattle.go_tree.specs.Grammar.Sentence.{tables};
-ghost use Rattle.go_parse_x.specs.Lines.{ahead_of, side, sides};
-ghost use Rattle.go_parse_x.specs.Turns.{BeginsWith, is_asked as is_asked_so, AsksFor};
+ghost use Rattle.go_tree.specs.Grammar.Tables.Prediction.{begins as begins_so, is_empty as is_empty_so, starts as starts_so, may_look as may_look_so, may_miss as may_miss_so};
+ghost use Rattle.go_tree.specs.Grammar.Trees.Reading.{looks};
+ghost use Rattle.go_tree.specs.Grammar.Trees.Sentence.{tables};
+ghost use Rattle.go_parse_x.specs.Tables.Lines.{ahead_of, side, sides};
+ghost use Rattle.go_parse_x.specs.Machine.Turns.{BeginsWith, is_asked as is_asked_so, AsksFor};
 
 use crate::firsts::{begins_with, can_be_empty};
 use crate::kind_sets::{has, kinds, same};

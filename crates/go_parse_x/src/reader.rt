@@ -3,18 +3,18 @@ ghost use Rattle.std.specs.Prelude.{◌≡◌, ◌≢◌, ◌⊎◌, ℕ, true, 
 ghost use Rattle.go_tree.specs.declared.token.Token.{Token as TokenOf};
 ghost use Rattle.go_tree.specs.declared.token.TokenKind.{TokenKind as TokenKindOf};
 ghost use Rattle.go_tree.specs.declared.token.TokenKind.TheVariants.{End};
-ghost use Rattle.go_tree.specs.Scan.{IsNext};
-ghost use Rattle.go_tree.specs.Grammar.Prediction.{starts as starts_so};
-ghost use Rattle.go_tree.specs.Grammar.Sentence.{tables, IsA};
+ghost use Rattle.go_tree.specs.Lexical.Scan.{IsNext};
+ghost use Rattle.go_tree.specs.Grammar.Tables.Prediction.{starts as starts_so};
+ghost use Rattle.go_tree.specs.Grammar.Trees.Sentence.{tables, IsA};
 ghost use Rattle.go_text.specs.declared.fault.ParseFault.{ParseFault as ParseFaultOf};
 ghost use Rattle.go_parse_x.specs.declared.progress.Progress.TheVariants.{Passed as ThePassed};
 ghost use Rattle.go_parse_x.specs.Answers.{spot_of, IsAnswer, IsReady};
-ghost use Rattle.go_parse_x.specs.Lines.{sides};
-ghost use Rattle.go_parse_x.specs.Opened.{frames, numbers};
+ghost use Rattle.go_parse_x.specs.Tables.Lines.{sides};
+ghost use Rattle.go_parse_x.specs.Tables.Opened.{frames, numbers};
 ghost use Rattle.go_parse_x.specs.Targets.{hands, piece};
 ghost use Rattle.go_parse_x.specs.Pieces.{view_of, open_view, IsNew, IsOpen};
-ghost use Rattle.go_parse_x.specs.Steps.{behind, HasNumbers, IsProgress, IsRead};
-ghost use Rattle.go_parse_x.specs.Turns.{is_asked as is_asked_so, IsSolid};
+ghost use Rattle.go_parse_x.specs.Machine.Steps.{behind, HasNumbers, IsProgress, IsRead};
+ghost use Rattle.go_parse_x.specs.Machine.Turns.{is_asked as is_asked_so, IsSolid};
 
 use crate::counting::{hand_over, pass, stray};
 use crate::cursor::Cursor;

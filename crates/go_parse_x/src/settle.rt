@@ -1,9 +1,9 @@
 // What the next token makes of all that is to be read.
 ghost use Rattle.std.specs.Prelude.{◌≡◌, ℕ, [], ◌∷◌, OnOk, IfOk, IfSome, IfNone, if◌then◌else◌};
 ghost use Rattle.go_parse_x.specs.declared.seen.Turn.TheVariants.{Astray as TheAstray, Stuck as TheStuck};
-ghost use Rattle.go_parse_x.specs.Lines.{on_top, side, sides};
-ghost use Rattle.go_parse_x.specs.Opened.{frames, numbers, Rises};
-ghost use Rattle.go_parse_x.specs.Turns.{IsSound, IsSettled};
+ghost use Rattle.go_parse_x.specs.Tables.Lines.{on_top, side, sides};
+ghost use Rattle.go_parse_x.specs.Tables.Opened.{frames, numbers, Rises};
+ghost use Rattle.go_parse_x.specs.Machine.Turns.{IsSound, IsSettled};
 
 use crate::machine::step;
 use crate::opened::OpenNode;

@@ -1,8 +1,8 @@
 // What stands at a place.
 ghost use Rattle.std.specs.Prelude.{◌≡◌, ◌<◌, ◌+◌, length, true};
-ghost use Rattle.go_parse_x.specs.Leads.{is_led};
-ghost use Rattle.go_parse_x.specs.Lines.{side, side_at, from_step};
-ghost use Rattle.go_parse_x.specs.Shapes.{side_of, IsLed};
+ghost use Rattle.go_parse_x.specs.Tables.Leads.{is_led};
+ghost use Rattle.go_parse_x.specs.Tables.Lines.{side, side_at, from_step};
+ghost use Rattle.go_parse_x.specs.Tables.Shapes.{side_of, IsLed};
 
 use crate::line::{Act, Asked, Step};
 use crate::place::Place;

@@ -3,18 +3,18 @@ ghost use Rattle.std.specs.Prelude.{◌≡◌, ◌≢◌, ℕ, true, List, [], �
 ghost use Rattle.go_tree.specs.declared.token.Token.{Token as TokenOf};
 ghost use Rattle.go_tree.specs.declared.token.TokenKind.TheVariants.{End};
 ghost use Rattle.go_tree.specs.declared.production.Production.TheVariants.{File};
-ghost use Rattle.go_tree.specs.Scan.{IsNext};
-ghost use Rattle.go_tree.specs.Grammar.Prediction.{AllDecided};
-ghost use Rattle.go_tree.specs.Grammar.Sentence.{tables};
+ghost use Rattle.go_tree.specs.Lexical.Scan.{IsNext};
+ghost use Rattle.go_tree.specs.Grammar.Tables.Prediction.{AllDecided};
+ghost use Rattle.go_tree.specs.Grammar.Trees.Sentence.{tables};
 ghost use Rattle.go_parse_x.specs.declared.reading.Target.TheVariants.{File as TheFile};
 ghost use Rattle.go_parse_x.specs.Answers.{spot_of};
 ghost use Rattle.go_parse_x.specs.Files.{EndsText, IsFinishedBy, IsTextAnswer, IsUnfinished};
-ghost use Rattle.go_parse_x.specs.Lines.{sides};
+ghost use Rattle.go_parse_x.specs.Tables.Lines.{sides};
 ghost use Rattle.go_tree.specs.Tree.{tree_of};
-ghost use Rattle.go_parse_x.specs.Opened.{frames, numbers, numbers_in, tree_without, Rises};
-ghost use Rattle.go_parse_x.specs.Steps.{Fits, IsTooHigh};
+ghost use Rattle.go_parse_x.specs.Tables.Opened.{frames, numbers, numbers_in, tree_without, Rises};
+ghost use Rattle.go_parse_x.specs.Machine.Steps.{Fits, IsTooHigh};
 ghost use Rattle.go_parse_x.specs.Pieces.{IsNew, IsOpen, open_view};
-ghost use Rattle.go_parse_x.specs.Turns.{IsSolid};
+ghost use Rattle.go_parse_x.specs.Machine.Turns.{IsSolid};
 
 use crate::counting::count;
 use crate::cursor::Cursor;

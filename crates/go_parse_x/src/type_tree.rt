@@ -1,10 +1,10 @@
 // Which nodes are written as types are.
 ghost use Rattle.std.specs.Prelude.{◌≡◌, map, reverse};
 ghost use Rattle.go_tree.specs.Tree.{tree_of, trees_of};
-ghost use Rattle.go_tree.specs.Grammar.TypeTrees.{is_name, is_type_name, is_type, all_types};
-ghost use Rattle.go_tree.specs.Grammar.Reading.{ends_in_type, newest_is_type};
-ghost use Rattle.go_parse_x.specs.Opened.{frames, tree_without, all_unnumbered};
-ghost use Rattle.go_parse_x.specs.TypeParts.{shape_of, has_shape, first_is_name, is_instance, is_channel, first_is_channel};
+ghost use Rattle.go_tree.specs.Grammar.Trees.TypeTrees.{is_name, is_type_name, is_type, all_types};
+ghost use Rattle.go_tree.specs.Grammar.Trees.Reading.{ends_in_type, newest_is_type};
+ghost use Rattle.go_parse_x.specs.Tables.Opened.{frames, tree_without, all_unnumbered};
+ghost use Rattle.go_parse_x.specs.Tables.TypeParts.{shape_of, has_shape, first_is_name, is_instance, is_channel, first_is_channel};
 
 use crate::opened::OpenNode;
 use go_tree::{Node, NodeKind};

@@ -6,8 +6,8 @@ use Rattle.ucd_table.proofs.Facts.{Stepped-below, same_from_beq}
 use Rattle.ucd_category.specs.GeneralCategory.{general_category}
 use Rattle.ucd_category.specs.declared.GeneralCategory.{GeneralCategory}
 use Rattle.ucd_category.proofs.GeneralCategoryLemmas.{general_category_stepped}
-use Rattle.go_tree.specs.Characters.{is_letter_category, is_digit_category, is_letter}
-use Rattle.go_tree.specs.Numbers.{is_decimal}
+use Rattle.go_tree.specs.Lexical.Characters.{is_letter_category, is_digit_category, is_letter}
+use Rattle.go_tree.specs.Lexical.Numbers.{is_decimal}
 use Rattle.go_scan.specs.Ascii.{is_ascii_letter}
 
 letter_agrees : ℕ → GeneralCategory → Bool

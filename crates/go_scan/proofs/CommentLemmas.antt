@@ -1,9 +1,9 @@
 -- Lemmas on comments: where they lie, where reading one is stuck, and that one has one end.
 use Rattle.std.proofs.Common.{◌≡◌, ◌≢◌, ℕ, ◌+◌, ◌<◌, ◌≤◌, ◌==◌, ◌&&◌, Bool, true, false, List, length, slice_index, Some, ◌⊎◌, refl, arith, sym, ◌∙◌, ⊎_elim}
 use Rattle.std.proofs.lemmas.Bool.{cases_lt, cases_order, eqb-true, false≢true, and_parts}
-use Rattle.go_tree.specs.Characters.{decoded_at, Run, is_allowed, IsForbidden, Ends}
-use Rattle.go_tree.specs.Comments.{OpensLine, OpensGeneral, Closes, IsOpen, IsLineComment, IsGeneralComment, in_line_comment, in_general_comment}
-use Rattle.go_tree.specs.Faults.{CanGoOn, line, general, raw, string, string_escape, rune, rune_escape, rune_closes}
+use Rattle.go_tree.specs.Lexical.Characters.{decoded_at, Run, is_allowed, IsForbidden, Ends}
+use Rattle.go_tree.specs.Lexical.Comments.{OpensLine, OpensGeneral, Closes, IsOpen, IsLineComment, IsGeneralComment, in_line_comment, in_general_comment}
+use Rattle.go_tree.specs.Lexical.Faults.{CanGoOn, line, general, raw, string, string_escape, rune, rune_escape, rune_closes}
 use Rattle.go_scan.specs.Runs.{IsAllowedChar}
 use Rattle.go_scan.specs.Reading.{IsStuck}
 use Rattle.go_tree.proofs.ByteLemmas.{allowed_char}

@@ -6,8 +6,8 @@ use Rattle.std.proofs.lemmas.Bool.{cond-false, ne_eqb, cases_lt, and_parts, and_
 use Rattle.std.proofs.lemmas.Bool.Decides.{nat_tests}
 use Rattle.std.proofs.lemmas.Nat.{mul-add-lt}
 use Rattle.std.proofs.Math.Nat.{pow-suc, pow-zero, pow-le-pow_right, mul-one, add-mul, mul_assoc, mul_comm, mul-le-mul_right}
-use Rattle.go_tree.specs.Numbers.{is_hex, is_octal}
-use Rattle.go_tree.specs.Literals.{number_in, digit_value, is_valid_code_point}
+use Rattle.go_tree.specs.Lexical.Numbers.{is_hex, is_octal}
+use Rattle.go_tree.specs.Lexical.Literals.{number_in, digit_value, is_valid_code_point}
 use Rattle.go_scan.specs.declared.escapes.Digits.{Digits}
 use Rattle.go_scan.specs.declared.escapes.Digits.TheVariants.{Octal, Byte, Little, Big}
 use Rattle.go_scan.specs.Escapes.{base_of, is_escape_digit, is_value_of}

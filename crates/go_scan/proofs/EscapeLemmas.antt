@@ -3,8 +3,8 @@ use Rattle.std.proofs.Common.{◌≡◌, ◌≢◌, ℕ, ◌+◌, ◌<◌, ◌�
 use Rattle.std.specs.Prelude.{slice_range, ◌&&◌, ◌||◌, ◌==◌}
 use Rattle.std.proofs.lemmas.Bool.{cases_lt, and_parts, and_from, or_cases, or_left, or_right, both_ways, eqb-true, eq-eqb}
 use Rattle.std.proofs.lemmas.Bool.Decides.{nat_tests}
-use Rattle.go_tree.specs.Numbers.{is_octal, is_empty}
-use Rattle.go_tree.specs.Literals.{is_escape, is_simple_escape, is_octal_byte, are_hex, are_code_point}
+use Rattle.go_tree.specs.Lexical.Numbers.{is_octal, is_empty}
+use Rattle.go_tree.specs.Lexical.Literals.{is_escape, is_simple_escape, is_octal_byte, are_hex, are_code_point}
 use Rattle.go_scan.specs.declared.escapes.Digits.{Digits}
 use Rattle.go_scan.specs.declared.escapes.Digits.TheVariants.{Octal, Byte, Little, Big}
 use Rattle.go_scan.specs.Escapes.{AreDigits, Stops, IsEscape, IsQuote}

@@ -4,12 +4,12 @@ use Rattle.std.proofs.lemmas.Bool.{cases_lt}
 use Rattle.go_tree.specs.declared.token.Token.{Token}
 use Rattle.go_tree.specs.declared.token.TokenKind.{TokenKind}
 use Rattle.go_tree.specs.declared.token.TokenKind.TheVariants.{InsertedSemicolon}
-use Rattle.go_tree.specs.Characters.{IsForbidden}
-use Rattle.go_tree.specs.Comments.{OpensLine, OpensGeneral}
-use Rattle.go_tree.specs.Faults.{CanGoOn, IsForbiddenByte, IsMissingToken}
-use Rattle.go_tree.specs.Semicolons.{inserts_after}
-use Rattle.go_tree.specs.Scan.{Space, Passed, Gap, IsPlace, IsFirst, ends, newline, written, IsFirstNewline, IsNext}
-use Rattle.go_tree.specs.Tokens.{IsLongest}
+use Rattle.go_tree.specs.Lexical.Characters.{IsForbidden}
+use Rattle.go_tree.specs.Lexical.Comments.{OpensLine, OpensGeneral}
+use Rattle.go_tree.specs.Lexical.Faults.{CanGoOn, IsForbiddenByte, IsMissingToken}
+use Rattle.go_tree.specs.Lexical.Semicolons.{inserts_after}
+use Rattle.go_tree.specs.Lexical.Scan.{Space, Passed, Gap, IsPlace, IsFirst, ends, newline, written, IsFirstNewline, IsNext}
+use Rattle.go_tree.specs.Lexical.Tokens.{IsLongest}
 use Rattle.go_scan.specs.Blame.{IsBlamed}
 use Rattle.go_scan.specs.Gaps.{HasNoSpace}
 use Rattle.go_scan.specs.Reading.{IsStuck}

@@ -2,8 +2,8 @@
 use Rattle.std.proofs.Common.{◌≡◌, ℕ, zero, suc, ◌+◌, ◌-◌, ◌≤◌, List, [], ◌∷◌, length, take, drop, slice_index, refl, sym, ap, subst, ◌∙◌, arith}
 use Rattle.std.specs.Prelude.{slice_range}
 use Rattle.std.proofs.lemmas.List.{drop-take, drop-drop}
-use Rattle.go_tree.specs.Literals.{IsCharacter, itself, escaped}
-use Rattle.go_tree.specs.LiteralValues.{inside_of}
+use Rattle.go_tree.specs.Lexical.Literals.{IsCharacter, itself, escaped}
+use Rattle.go_tree.specs.Lexical.LiteralValues.{inside_of}
 use Rattle.go_scan.specs.Escapes.{IsEscape}
 use Rattle.go_scan.specs.Quoted.{IsRuneText, IsRuneInside}
 use Rattle.go_tree.proofs.ByteLemmas.{range_cons, range_length}

@@ -4,8 +4,8 @@ use Rattle.std.specs.Prelude.{bytes_eq}
 use Rattle.std.proofs.lemmas.Bool.{cases_order}
 use Rattle.go_tree.specs.declared.token.TokenKind.{TokenKind}
 use Rattle.go_tree.specs.declared.token.TokenKind.TheVariants.{Ident, Int, Float, Rune, Text, KwBreak, KwCase, KwChan, KwConst, KwContinue, KwDefault, KwDefer, KwElse, KwFallthrough, KwFor, KwFunc, KwGo, KwGoto, KwIf, KwImport, KwInterface, KwMap, KwPackage, KwRange, KwReturn, KwSelect, KwStruct, KwSwitch, KwType, KwVar, Add, Sub, Mul, Quo, Rem, And, Or, Xor, Shl, Shr, AndNot, AddAssign, SubAssign, MulAssign, QuoAssign, RemAssign, AndAssign, OrAssign, XorAssign, ShlAssign, ShrAssign, AndNotAssign, LogicalAnd, LogicalOr, Arrow, Inc, Dec, Equal, Less, Greater, Assign, Not, Tilde, NotEqual, LessEqual, GreaterEqual, Define, Ellipsis, LeftParen, LeftBracket, LeftBrace, Comma, Dot, RightParen, RightBracket, RightBrace, Semicolon, Colon, InsertedSemicolon, End}
-use Rattle.go_tree.specs.Numbers.{number_kind, IsNumberRun}
-use Rattle.go_tree.specs.Tokens.{spelling, IsSpelled, IsWord, IsToken, IsLongest}
+use Rattle.go_tree.specs.Lexical.Numbers.{number_kind, IsNumberRun}
+use Rattle.go_tree.specs.Lexical.Tokens.{spelling, IsSpelled, IsWord, IsToken, IsLongest}
 use Rattle.go_scan.specs.Blame.{OpensLiteral}
 use Rattle.go_scan.proofs.LexemeLemmas.{Form, form_of, slice_one}
 use Rattle.go_scan.proofs.TokenLemmas.{number_no_word, number_spelled, not_number, no_word, no_spelled_quote}

@@ -5,10 +5,10 @@ use Rattle.std.proofs.lemmas.Bool.{cases_Bool, false≢true, and_parts, eqb-true
 use Rattle.std.proofs.lemmas.Bool.Decides.{nat_tests}
 use Rattle.go_tree.specs.declared.token.TokenKind.{TokenKind}
 use Rattle.go_tree.specs.declared.token.TokenKind.TheVariants.{Ident, Int, Float, Rune, Text}
-use Rattle.go_tree.specs.Characters.{decoded_at, is_letter, is_letter_or_digit, Run, none, more}
-use Rattle.go_tree.specs.Numbers.{is_decimal, IsNumberRun, number_kind}
-use Rattle.go_tree.specs.Literals.{IsRuneLit, IsInterpretedLit, IsRawLit}
-use Rattle.go_tree.specs.Tokens.{spelling, IsSpelled, IsWord, IsToken}
+use Rattle.go_tree.specs.Lexical.Characters.{decoded_at, is_letter, is_letter_or_digit, Run, none, more}
+use Rattle.go_tree.specs.Lexical.Numbers.{is_decimal, IsNumberRun, number_kind}
+use Rattle.go_tree.specs.Lexical.Literals.{IsRuneLit, IsInterpretedLit, IsRawLit}
+use Rattle.go_tree.specs.Lexical.Tokens.{spelling, IsSpelled, IsWord, IsToken}
 use Rattle.go_scan.specs.Ascii.{is_small_letter}
 use Rattle.go_scan.specs.Ascii.{is_ascii_letter}
 use Rattle.go_scan.proofs.CharacterLemmas.{ascii_letters}

@@ -5,9 +5,9 @@ use Rattle.std.specs.List.{list_all}
 use Rattle.std.proofs.lemmas.Bool.{cases_lt, and_parts, and_from, both_ways, not_from_false, ne_eqb, false≢true, true_from_ne_false}
 use Rattle.std.proofs.lemmas.Bool.Decides.{nat_tests}
 use Rattle.std.proofs.lemmas.List.Folds.{list_all_at}
-use Rattle.go_tree.specs.Characters.{decoded_at, is_allowed, IsForbidden}
-use Rattle.go_tree.specs.Literals.{is_escape, is_itself, is_simple_escape, IsCharacter, itself, escaped}
-use Rattle.go_tree.specs.Faults.{IsEscapeFront}
+use Rattle.go_tree.specs.Lexical.Characters.{decoded_at, is_allowed, IsForbidden}
+use Rattle.go_tree.specs.Lexical.Literals.{is_escape, is_itself, is_simple_escape, IsCharacter, itself, escaped}
+use Rattle.go_tree.specs.Lexical.Faults.{IsEscapeFront}
 use Rattle.go_scan.specs.declared.escapes.Digits.{Digits}
 use Rattle.go_scan.specs.declared.escapes.Digits.TheVariants.{Octal}
 use Rattle.go_scan.specs.Escapes.{is_escape_digit, AreDigits, Stops, IsEscape, IsQuote, NoCharacter}

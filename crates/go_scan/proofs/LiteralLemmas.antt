@@ -3,7 +3,7 @@ use Rattle.std.proofs.Common.{◌≡◌, ℕ, ◌+◌, ◌<◌, ◌≤◌, ◌==
 use Rattle.std.specs.Prelude.{fold, if◌then◌else◌}
 use Rattle.std.proofs.lemmas.List.{take-append-drop}
 use Rattle.std.proofs.lemmas.List.Sums.{fold-append, fold_more}
-use Rattle.go_tree.specs.Literals.{number_in}
+use Rattle.go_tree.specs.Lexical.Literals.{number_in}
 use Rattle.go_scan.specs.Digits.{size_of_base, next_number}
 use Rattle.go_scan.specs.declared.digits.Base.{Base}
 use Rattle.go_scan.specs.declared.digits.Base.TheVariants.{Binary, Octal, Decimal, Hex}

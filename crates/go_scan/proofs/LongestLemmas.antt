@@ -5,12 +5,12 @@ use Rattle.std.proofs.lemmas.Bool.{cases_lt, cases_Bool}
 use Rattle.std.proofs.lemmas.Bool.Decides.{nat_tests}
 use Rattle.go_tree.specs.declared.token.TokenKind.{TokenKind}
 use Rattle.go_tree.specs.declared.token.TokenKind.TheVariants.{Ident, Int, Float, Rune, Text}
-use Rattle.go_tree.specs.Characters.{is_allowed, IsForbidden}
-use Rattle.go_tree.specs.Comments.{OpensLine, OpensGeneral}
-use Rattle.go_tree.specs.Numbers.{begins_number, IsNumberRun, number_kind}
-use Rattle.go_tree.specs.Literals.{IsRuneLit, IsInterpretedLit, IsRawLit}
-use Rattle.go_tree.specs.Tokens.{IsSpelled, IsWord, IsToken, IsLexeme, IsLongest}
-use Rattle.go_tree.specs.Faults.{CanGoOn, line, general, raw, string, string_escape, rune, rune_escape, rune_closes}
+use Rattle.go_tree.specs.Lexical.Characters.{is_allowed, IsForbidden}
+use Rattle.go_tree.specs.Lexical.Comments.{OpensLine, OpensGeneral}
+use Rattle.go_tree.specs.Lexical.Numbers.{begins_number, IsNumberRun, number_kind}
+use Rattle.go_tree.specs.Lexical.Literals.{IsRuneLit, IsInterpretedLit, IsRawLit}
+use Rattle.go_tree.specs.Lexical.Tokens.{IsSpelled, IsWord, IsToken, IsLexeme, IsLongest}
+use Rattle.go_tree.specs.Lexical.Faults.{CanGoOn, line, general, raw, string, string_escape, rune, rune_escape, rune_closes}
 use Rattle.go_scan.specs.Blame.{IsBlamed, OpensLiteral}
 use Rattle.go_scan.specs.Reading.{IsStuck}
 use Rattle.go_tree.proofs.ByteLemmas.{byte_char, allowed_char}

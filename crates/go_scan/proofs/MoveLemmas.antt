@@ -1,7 +1,7 @@
 -- Lemmas on tokens: each has a byte.
 use Rattle.std.proofs.Common.{ℕ, ◌<◌, ◌≤◌, List, length, arith}
 use Rattle.go_tree.specs.declared.token.TokenKind.{TokenKind}
-use Rattle.go_tree.specs.Tokens.{IsToken}
+use Rattle.go_tree.specs.Lexical.Tokens.{IsToken}
 use Rattle.go_tree.proofs.CharacterRunLemmas.{run_from}
 use Rattle.go_scan.proofs.WordLemmas.{word_within}
 use Rattle.go_scan.proofs.QuotedLemmas.{rune_lit_within, interpreted_lit_within}

@@ -4,9 +4,9 @@ use Rattle.std.proofs.Common.{◌≡◌, ◌≢◌, ℕ, ◌<◌, ◌≤◌, Boo
 use Rattle.go_tree.specs.declared.token.Token.{Token}
 use Rattle.go_tree.specs.declared.token.TokenKind.{TokenKind}
 use Rattle.go_tree.specs.declared.token.TokenKind.TheVariants.{InsertedSemicolon, End}
-use Rattle.go_tree.specs.Semicolons.{inserts_after}
-use Rattle.go_tree.specs.Tokens.{IsToken, IsLongest}
-use Rattle.go_tree.specs.Scan.{Passed, Gap, none, more, IsPlace, IsFirst, ends, newline, written, IsFirstNewline, IsNext}
+use Rattle.go_tree.specs.Lexical.Semicolons.{inserts_after}
+use Rattle.go_tree.specs.Lexical.Tokens.{IsToken, IsLongest}
+use Rattle.go_tree.specs.Lexical.Scan.{Passed, Gap, none, more, IsPlace, IsFirst, ends, newline, written, IsFirstNewline, IsNext}
 use Rattle.go_scan.specs.Weight.{scan_weight}
 use Rattle.go_tree.proofs.SpaceLemmas.{space_lies, one_space, one_newline}
 use Rattle.go_scan.proofs.KindLemmas.{one_longest}

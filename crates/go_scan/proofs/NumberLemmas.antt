@@ -4,8 +4,8 @@ use Rattle.std.proofs.lemmas.Bool.{or_left, or_right}
 use Rattle.std.proofs.lemmas.Bool.Decides.{nat_tests}
 use Rattle.go_tree.specs.declared.token.TokenKind.{TokenKind}
 use Rattle.go_tree.specs.declared.token.TokenKind.TheVariants.{Int, Float}
-use Rattle.go_tree.specs.Characters.{decoded_at, Run, none, more, Ends}
-use Rattle.go_tree.specs.Numbers.{begins_number, goes_on, is_decimal, is_hexadecimal, is_int_lit, is_float_lit, is_imaginary_lit, IsNumberRun, number_kind}
+use Rattle.go_tree.specs.Lexical.Characters.{decoded_at, Run, none, more, Ends}
+use Rattle.go_tree.specs.Lexical.Numbers.{begins_number, goes_on, is_decimal, is_hexadecimal, is_int_lit, is_float_lit, is_imaginary_lit, IsNumberRun, number_kind}
 use Rattle.go_scan.proofs.CharacterLemmas.{ascii_digits}
 use Rattle.go_tree.proofs.ByteLemmas.{byte_char}
 use Rattle.go_tree.proofs.CharacterRunLemmas.{run_longest, char_lies}

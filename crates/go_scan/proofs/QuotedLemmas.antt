@@ -1,9 +1,9 @@
 -- Lemmas on rune literals and interpreted string literals.
 use Rattle.std.proofs.Common.{◌≡◌, ◌≢◌, ℕ, ◌+◌, ◌<◌, ◌≤◌, ◌⊎◌, List, length, slice_index, refl, sym, ap, subst, ◌∙◌, arith, ⊎_elim, inl, inr}
 use Rattle.std.proofs.lemmas.Bool.{cases_lt, cases_order}
-use Rattle.go_tree.specs.Characters.{IsForbidden}
-use Rattle.go_tree.specs.Literals.{IsCharacter, AreCharacters, none, more, IsRuneLit, IsInterpretedLit}
-use Rattle.go_tree.specs.Faults.{CanGoOn, IsEscapeFront}
+use Rattle.go_tree.specs.Lexical.Characters.{IsForbidden}
+use Rattle.go_tree.specs.Lexical.Literals.{IsCharacter, AreCharacters, none, more, IsRuneLit, IsInterpretedLit}
+use Rattle.go_tree.specs.Lexical.Faults.{CanGoOn, IsEscapeFront}
 use Rattle.go_scan.specs.Escapes.{IsQuote, NoCharacter}
 use Rattle.go_scan.specs.Reading.{IsStuck}
 use Rattle.go_tree.proofs.ByteLemmas.{there}

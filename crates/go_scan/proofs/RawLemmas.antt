@@ -2,9 +2,9 @@
 use Rattle.std.proofs.Common.{◌≡◌, ◌≢◌, ℕ, ◌+◌, ◌-◌, ◌<◌, ◌≤◌, true, List, length, slice_index, Some, refl, sym, ap, ◌∙◌, arith, ⊎_elim}
 use Rattle.std.proofs.lemmas.Bool.{cases_lt, cases_order, and_parts}
 use Rattle.std.proofs.lemmas.Bool.Decides.{nat_tests}
-use Rattle.go_tree.specs.Characters.{decoded_at, IsForbidden, Run, Ends}
-use Rattle.go_tree.specs.Literals.{in_raw, IsRawLit}
-use Rattle.go_tree.specs.Faults.{CanGoOn, raw}
+use Rattle.go_tree.specs.Lexical.Characters.{decoded_at, IsForbidden, Run, Ends}
+use Rattle.go_tree.specs.Lexical.Literals.{in_raw, IsRawLit}
+use Rattle.go_tree.specs.Lexical.Faults.{CanGoOn, raw}
 use Rattle.go_scan.specs.Reading.{IsStuck}
 use Rattle.go_tree.proofs.CharacterRunLemmas.{run_from, run_longest, run_inner}
 use Rattle.go_tree.proofs.ByteLemmas.{there, ascii_char, allowed_char}

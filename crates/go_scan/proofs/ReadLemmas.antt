@@ -7,7 +7,7 @@ use Rattle.std.proofs.lemmas.List.{length-replicate}
 use Rattle.std.proofs.lemmas.List.Sums.{fold-append}
 use Rattle.std.proofs.lemmas.List.Folds.{list_all-append}
 use Rattle.std.proofs.Math.Nat.{pow-suc, pow-zero, one-le-pow, add-mul, mul-div_cancel, mul_assoc, mul_comm, mul-one, mul-le-mul_right}
-use Rattle.go_tree.specs.Literals.{number_in, digit_value}
+use Rattle.go_tree.specs.Lexical.Literals.{number_in, digit_value}
 use Rattle.go_scan.specs.declared.escapes.Digits.{Digits}
 use Rattle.go_scan.specs.declared.escapes.Digits.TheVariants.{Octal, Byte, Little, Big}
 use Rattle.go_scan.specs.Escapes.{base_of, count_of, is_escape_digit, is_value_of, AreDigits, Stops}

@@ -3,8 +3,8 @@ use Rattle.std.proofs.Common.{◌≡◌, ◌≢◌, ℕ, List, [], ◌∷◌, �
 use Rattle.go_tree.specs.declared.token.Token.{Token}
 use Rattle.go_tree.specs.declared.token.TokenKind.{TokenKind}
 use Rattle.go_tree.specs.declared.token.TokenKind.TheVariants.{End}
-use Rattle.go_tree.specs.Faults.{IsLex}
-use Rattle.go_tree.specs.Scan.{IsNext, ScanFrom, Scan, Stand}
+use Rattle.go_tree.specs.Lexical.Faults.{IsLex}
+use Rattle.go_tree.specs.Lexical.Scan.{IsNext, ScanFrom, Scan, Stand}
 use Rattle.go_tree.proofs.StandLemmas.{stand_append}
 use Rattle.go_tree.specs.declared.lex.Lex.{Lex}
 use Rattle.go_scan.specs.Lists.{EndsEarly}

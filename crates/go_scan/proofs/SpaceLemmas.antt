@@ -1,9 +1,9 @@
 -- Lemmas on `Space`: which bytes it begins with, where it ends, and that it has one end.
 use Rattle.std.proofs.Common.{◌≡◌, ◌≢◌, ℕ, ◌+◌, ◌<◌, Bool, true, false, List, slice_index, Some, None, arith, sym, ◌∙◌}
 use Rattle.std.proofs.lemmas.Bool.{false≢true}
-use Rattle.go_tree.specs.Characters.{decoded_at, is_blank, byte_order_mark}
-use Rattle.go_tree.specs.Comments.{OpensLine, OpensGeneral, IsLineComment, IsGeneralComment}
-use Rattle.go_tree.specs.Scan.{Space, blank, line, general, mark, IsFirstNewline, Gap, none, more}
+use Rattle.go_tree.specs.Lexical.Characters.{decoded_at, is_white_space, byte_order_mark}
+use Rattle.go_tree.specs.Lexical.Comments.{OpensLine, OpensGeneral, IsLineComment, IsGeneralComment}
+use Rattle.go_tree.specs.Lexical.Scan.{Space, blank, line, general, mark, IsFirstNewline, Gap, none, more}
 use Rattle.go_scan.specs.Gaps.{HasNoSpace}
 use Rattle.go_tree.proofs.SpaceLemmas.{some_same, slash_no_blank, no_mark}
 
@@ -26,7 +26,7 @@ slash_alone bytes at o a b to (line c) = a c.opens.1
 slash_alone bytes at o a b to (general c) = b c.opens.1
 slash_alone bytes at o a b to (mark start char) = no_mark bytes at 46 o (omega arith) char
 
-pub no_space : (bytes : List ℕ) (at : ℕ) → is_blank (slice_index bytes at) ≡ false → (slice_index bytes at ≡ 47 → ⊥) → (at ≡ 0 → (decoded_at bytes at).char ≡ Some byte_order_mark → ⊥) → HasNoSpace bytes at
+pub no_space : (bytes : List ℕ) (at : ℕ) → is_white_space (slice_index bytes at) ≡ false → (slice_index bytes at ≡ 47 → ⊥) → (at ≡ 0 → (decoded_at bytes at).char ≡ Some byte_order_mark → ⊥) → HasNoSpace bytes at
 no_space bytes at b slash no_mark to (blank h) = false≢true (sym b ∙ h)
 no_space bytes at b slash no_mark to (line c) = slash c.opens.0
 no_space bytes at b slash no_mark to (general c) = slash c.opens.0
@@ -38,19 +38,19 @@ no_comment bytes at slash = (λ o. slash o.0, λ o. slash o.0)
 other_char : (bytes : List ℕ) (at c : ℕ) → (decoded_at bytes at).char ≡ Some c → c ≢ byte_order_mark → (decoded_at bytes at).char ≡ Some byte_order_mark → ⊥
 other_char bytes at c char apart h = apart (some_same c byte_order_mark (sym char ∙ h))
 
-pub no_space_here : (bytes : List ℕ) (at : ℕ) → is_blank (slice_index bytes at) ≡ false → slice_index bytes at ≢ 47 → (at ≡ 0 → (decoded_at bytes at).char ≡ Some byte_order_mark → ⊥) → HasNoSpace bytes at × (OpensLine bytes at → ⊥) × (OpensGeneral bytes at → ⊥)
+pub no_space_here : (bytes : List ℕ) (at : ℕ) → is_white_space (slice_index bytes at) ≡ false → slice_index bytes at ≢ 47 → (at ≡ 0 → (decoded_at bytes at).char ≡ Some byte_order_mark → ⊥) → HasNoSpace bytes at × (OpensLine bytes at → ⊥) × (OpensGeneral bytes at → ⊥)
 no_space_here bytes at b slash no_mark = let n = no_comment bytes at slash in (no_space bytes at b slash no_mark, n.0, n.1)
 
-pub no_space_by_char : (bytes : List ℕ) (at c : ℕ) → is_blank (slice_index bytes at) ≡ false → slice_index bytes at ≢ 47 → (decoded_at bytes at).char ≡ Some c → c ≢ byte_order_mark → HasNoSpace bytes at × (OpensLine bytes at → ⊥) × (OpensGeneral bytes at → ⊥)
+pub no_space_by_char : (bytes : List ℕ) (at c : ℕ) → is_white_space (slice_index bytes at) ≡ false → slice_index bytes at ≢ 47 → (decoded_at bytes at).char ≡ Some c → c ≢ byte_order_mark → HasNoSpace bytes at × (OpensLine bytes at → ⊥) × (OpensGeneral bytes at → ⊥)
 no_space_by_char bytes at c b slash char apart = no_space_here bytes at b slash (λ start h. other_char bytes at c char apart h)
 
-pub no_space_by_none : (bytes : List ℕ) (at : ℕ) → is_blank (slice_index bytes at) ≡ false → slice_index bytes at ≢ 47 → (decoded_at bytes at).char ≡ None → HasNoSpace bytes at × (OpensLine bytes at → ⊥) × (OpensGeneral bytes at → ⊥)
+pub no_space_by_none : (bytes : List ℕ) (at : ℕ) → is_white_space (slice_index bytes at) ≡ false → slice_index bytes at ≢ 47 → (decoded_at bytes at).char ≡ None → HasNoSpace bytes at × (OpensLine bytes at → ⊥) × (OpensGeneral bytes at → ⊥)
 no_space_by_none bytes at b slash char = no_space_here bytes at b slash (λ start h. none_some (sym char ∙ h))
   where
     none_some : None ≡ Some byte_order_mark → ⊥
     none_some e = cc
 
-pub no_space_later : (bytes : List ℕ) (at : ℕ) → is_blank (slice_index bytes at) ≡ false → slice_index bytes at ≢ 47 → 0 < at → HasNoSpace bytes at × (OpensLine bytes at → ⊥) × (OpensGeneral bytes at → ⊥)
+pub no_space_later : (bytes : List ℕ) (at : ℕ) → is_white_space (slice_index bytes at) ≡ false → slice_index bytes at ≢ 47 → 0 < at → HasNoSpace bytes at × (OpensLine bytes at → ⊥) × (OpensGeneral bytes at → ⊥)
 no_space_later bytes at b slash gt = no_space_here bytes at b slash (λ start h. omega (arith, gt, start))
 
 pub gap_on : (stops : Bool) (bytes : List ℕ) (from at to : ℕ) → Gap stops bytes from at → Space bytes at to → (stops ≡ true → (n : ℕ) → IsFirstNewline bytes at to n → ⊥) → Gap stops bytes from to

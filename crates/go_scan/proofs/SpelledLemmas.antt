@@ -5,7 +5,7 @@ use Rattle.std.proofs.lemmas.Bool.{cases_lt}
 use Rattle.std.proofs.lemmas.Bool.Decides.{nat_tests}
 use Rattle.go_tree.specs.declared.token.TokenKind.{TokenKind}
 use Rattle.go_tree.specs.declared.token.TokenKind.TheVariants.{Ident}
-use Rattle.go_tree.specs.Tokens.{spelling}
+use Rattle.go_tree.specs.Lexical.Tokens.{spelling}
 
 front_two : (ys : List ℕ) → 2 ≤ length ys → take 2 ys ≡ get_or ys 0 0 ∷ (get_or ys 1 0 ∷ [])
 front_two [] le = absurd (omega arith)

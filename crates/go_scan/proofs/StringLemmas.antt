@@ -5,9 +5,9 @@ use Rattle.std.proofs.lemmas.Bool.Decides.{nat_tests}
 use Rattle.std.proofs.lemmas.List.{get_or-drop}
 use Rattle.bstr.specs.Utf8.{Decoded, decoded, good, second, continues}
 use Rattle.bstr.proofs.lemmas.PieceLemmas.{Shape, decoded_by-shape}
-use Rattle.go_tree.specs.Characters.{decoded_at}
-use Rattle.go_tree.specs.Literals.{is_itself, IsCharacter, itself, escaped, IsInterpretedLit}
-use Rattle.go_tree.specs.LiteralValues.{inside_of, string_lit_value, unescaped, without_returns}
+use Rattle.go_tree.specs.Lexical.Characters.{decoded_at}
+use Rattle.go_tree.specs.Lexical.Literals.{is_itself, IsCharacter, itself, escaped, IsInterpretedLit}
+use Rattle.go_tree.specs.Lexical.LiteralValues.{inside_of, string_lit_value, unescaped, without_returns}
 use Rattle.go_scan.proofs.InsideLemmas.{inside_range}
 use Rattle.go_scan.proofs.RawLemmas.{raw_lit_within}
 use Rattle.go_scan.specs.Quoted.{IsStringLit, Escapes, done, byte, escape}

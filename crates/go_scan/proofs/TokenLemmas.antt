@@ -3,10 +3,10 @@ use Rattle.std.proofs.Common.{◌≡◌, ◌≢◌, ℕ, zero, suc, ◌+◌, ◌
 use Rattle.std.proofs.lemmas.Bool.{cases_Bool, false≢true, and_parts, eqb-true}
 use Rattle.std.proofs.lemmas.Bool.Decides.{nat_tests}
 use Rattle.go_tree.specs.declared.token.TokenKind.{TokenKind}
-use Rattle.go_tree.specs.Comments.{OpensLine, OpensGeneral}
-use Rattle.go_tree.specs.Numbers.{is_decimal, begins_number, IsNumberRun}
-use Rattle.go_tree.specs.Literals.{IsRuneLit, IsInterpretedLit, IsRawLit}
-use Rattle.go_tree.specs.Tokens.{IsSpelled, IsWord, IsLexeme}
+use Rattle.go_tree.specs.Lexical.Comments.{OpensLine, OpensGeneral}
+use Rattle.go_tree.specs.Lexical.Numbers.{is_decimal, begins_number, IsNumberRun}
+use Rattle.go_tree.specs.Lexical.Literals.{IsRuneLit, IsInterpretedLit, IsRawLit}
+use Rattle.go_tree.specs.Lexical.Tokens.{IsSpelled, IsWord, IsLexeme}
 use Rattle.go_scan.specs.Blame.{OpensLiteral}
 use Rattle.go_scan.specs.Ascii.{is_ascii_letter}
 use Rattle.go_scan.proofs.CharacterLemmas.{ascii_letters}

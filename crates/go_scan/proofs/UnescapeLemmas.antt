@@ -6,9 +6,9 @@ use Rattle.std.specs.Char.{OutOfScalarRange}
 use Rattle.std.proofs.lemmas.Str.{length-encode, len_utf8_bounds}
 use Rattle.std.proofs.lemmas.Bool.Decides.{nat_tests}
 use Rattle.std.proofs.Math.Seq.{take-append_seam, drop-append_seam}
-use Rattle.go_tree.specs.Numbers.{is_either, is_octal}
-use Rattle.go_tree.specs.Literals.{is_escape, is_simple_escape, is_valid_code_point, number_in}
-use Rattle.go_tree.specs.LiteralValues.{escape_len, escape_text, escape_value, is_hex_escape, simple_value, unescaped}
+use Rattle.go_tree.specs.Lexical.Numbers.{is_either, is_octal}
+use Rattle.go_tree.specs.Lexical.Literals.{is_escape, is_simple_escape, is_valid_code_point, number_in}
+use Rattle.go_tree.specs.Lexical.LiteralValues.{escape_len, escape_text, escape_value, is_hex_escape, simple_value, unescaped}
 use Rattle.go_scan.specs.declared.escapes.Digits.{Digits}
 use Rattle.go_scan.specs.declared.escapes.Digits.TheVariants.{Octal, Byte, Little, Big}
 use Rattle.go_scan.specs.Escapes.{AreDigits, IsEscape, IsQuote}

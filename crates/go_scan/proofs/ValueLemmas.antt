@@ -5,8 +5,8 @@ use Rattle.std.proofs.lemmas.Bool.{and_parts}
 use Rattle.std.proofs.lemmas.List.{take-append-drop, length-take-le, take_more}
 use Rattle.std.proofs.lemmas.List.Folds.{list_all-append}
 use Rattle.std.proofs.Math.Nat.{pow-le-pow_right}
-use Rattle.go_tree.specs.Numbers.{is_hex}
-use Rattle.go_tree.specs.Literals.{number_in, digit_value}
+use Rattle.go_tree.specs.Lexical.Numbers.{is_hex}
+use Rattle.go_tree.specs.Lexical.Literals.{number_in, digit_value}
 use Rattle.go_scan.specs.declared.escapes.Digits.{Digits}
 use Rattle.go_scan.specs.Escapes.{base_of, count_of, is_escape_digit}
 use Rattle.go_scan.proofs.DigitLemmas.{is_digit, block}

@@ -1,7 +1,7 @@
 -- Lemmas on identifiers: where one ends.
 use Rattle.std.proofs.Common.{◌≡◌, ℕ, ◌+◌, ◌<◌, ◌≤◌, Bool, true, List, length, Some, arith}
-use Rattle.go_tree.specs.Characters.{decoded_at, is_letter, is_letter_or_digit, Run, Ends}
-use Rattle.go_tree.specs.Tokens.{IsWord}
+use Rattle.go_tree.specs.Lexical.Characters.{decoded_at, is_letter, is_letter_or_digit, Run, Ends}
+use Rattle.go_tree.specs.Lexical.Tokens.{IsWord}
 use Rattle.go_tree.proofs.CharacterRunLemmas.{char_lies, run_from, run_within, run_longest}
 
 abbrev pub in_word : ℕ → ℕ → Bool

@@ -1,8 +1,8 @@
 -- Which byte is to blame where no token starts.
 -- Says at which offset a byte stands that may not stand there, if one does.
 use Rattle.std.specs.Prelude.{◌≡◌, ℕ, List, ◌⊎◌}
-use Rattle.go_tree.specs.Characters.{IsForbidden}
-use Rattle.go_tree.specs.Faults.{CanGoOn}
+use Rattle.go_tree.specs.Lexical.Characters.{IsForbidden}
+use Rattle.go_tree.specs.Lexical.Faults.{CanGoOn}
 
 pub record IsBlamed (bytes : List ℕ) (from at : ℕ) : Type 0 where
   pub reached : (at ≡ from) ⊎ CanGoOn bytes from at

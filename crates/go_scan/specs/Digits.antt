@@ -1,8 +1,8 @@
 -- Digits of the bases that number literals are written in.
 -- Says for each base which bytes are its digits, how many it has, and what a floating-point literal in it is made of.
 use Rattle.std.specs.Prelude.{ℕ, ◌+◌, ◌*◌, ◌==◌, Bool, true, false, if◌then◌else◌, List}
-use Rattle.go_tree.specs.Numbers.{is_binary, is_octal, is_decimal, is_hex, is_digits, is_digits_behind_prefix}
-use Rattle.go_tree.specs.Literals.{digit_value}
+use Rattle.go_tree.specs.Lexical.Numbers.{is_binary, is_octal, is_decimal, is_hex, is_digits, is_digits_behind_prefix}
+use Rattle.go_tree.specs.Lexical.Literals.{digit_value}
 use Rattle.go_scan.specs.declared.digits.Base.{Base}
 use Rattle.go_scan.specs.declared.digits.Base.TheVariants.{Binary, Octal, Decimal, Hex}
 

@@ -2,9 +2,9 @@
 -- Says which digits an escape of a kind has, and where the reading of a text stops.
 use Rattle.std.specs.Prelude.{◌≡◌, ◌≢◌, ℕ, ◌<◌, ◌≤◌, nat_le, Bool, true, List, [], ◌∷◌, ◌++◌, length, slice_index, slice_range, ◌⊎◌}
 use Rattle.std.specs.List.{list_all}
-use Rattle.go_tree.specs.Characters.{IsForbidden}
-use Rattle.go_tree.specs.Faults.{IsEscapeFront}
-use Rattle.go_tree.specs.Literals.{number_in, is_valid_code_point, is_escape, IsCharacter}
+use Rattle.go_tree.specs.Lexical.Characters.{IsForbidden}
+use Rattle.go_tree.specs.Lexical.Faults.{IsEscapeFront}
+use Rattle.go_tree.specs.Lexical.Literals.{number_in, is_valid_code_point, is_escape, IsCharacter}
 use Rattle.go_scan.specs.Digits.{is_digit_of, size_of_base}
 use Rattle.go_scan.specs.declared.digits.Base.{Base}
 use Rattle.go_scan.specs.declared.digits.Base.TheVariants as base

@@ -1,8 +1,8 @@
 -- What stands between two tokens.
 -- Says for one step over it what it found, and for the whole what stands behind it.
 use Rattle.std.specs.Prelude.{◌≡◌, ℕ, ◌≤◌, Bool, true, List, length, ◌⊎◌}
-use Rattle.go_tree.specs.Comments.{OpensLine, OpensGeneral}
-use Rattle.go_tree.specs.Scan.{Space, IsFirstNewline}
+use Rattle.go_tree.specs.Lexical.Comments.{OpensLine, OpensGeneral}
+use Rattle.go_tree.specs.Lexical.Scan.{Space, IsFirstNewline}
 use Rattle.go_scan.specs.Reading.{IsStuck}
 use Rattle.go_scan.specs.declared.gap.Here.{Here}
 use Rattle.go_scan.specs.declared.gap.Here.TheVariants.{Newline, Stuck, Other}

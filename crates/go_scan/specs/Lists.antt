@@ -4,8 +4,8 @@ use Rattle.std.specs.Prelude.{ℕ, List, Option, None, ⊤}
 use Rattle.go_tree.specs.declared.lex.Lex.{Lex}
 use Rattle.go_tree.specs.declared.token.Token.{Token}
 use Rattle.go_tree.specs.declared.token.TokenKind.{TokenKind}
-use Rattle.go_tree.specs.Faults.{IsLex}
-use Rattle.go_tree.specs.Scan.{Scan, Stand}
+use Rattle.go_tree.specs.Lexical.Faults.{IsLex}
+use Rattle.go_tree.specs.Lexical.Scan.{Scan, Stand}
 use Rattle.go_scan.specs.declared.token_list.ScanFault.{ScanFault}
 use Rattle.go_scan.specs.declared.token_list.ScanFault.TheVariants.{Lexical, NoMemory}
 

@@ -1,7 +1,7 @@
 -- The texts of rune and string literals, and of escapes.
 -- Says which bytes are the text of a literal that stands somewhere.
 use Rattle.std.specs.Prelude.{◌≡◌, ◌≢◌, ◌⊎◌, ℕ, ◌+◌, ◌<◌, ◌≤◌, List, [], ◌∷◌, drop, encode_utf8, length, slice_index, slice_range}
-use Rattle.go_tree.specs.Literals.{IsInterpretedLit, IsRawLit, IsRuneLit}
+use Rattle.go_tree.specs.Lexical.Literals.{IsInterpretedLit, IsRawLit, IsRuneLit}
 use Rattle.go_scan.specs.declared.values.Piece.{Piece}
 use Rattle.go_scan.specs.declared.values.Piece.TheVariants.{Byte, Char}
 use Rattle.go_scan.specs.Escapes.{IsQuote, IsEscape}

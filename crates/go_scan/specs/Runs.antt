@@ -1,10 +1,10 @@
 -- Runs of characters.
 -- Says for each kind of run which test its characters pass, each with the byte before it.
 use Rattle.std.specs.Prelude.{◌≡◌, ℕ, Bool, true, List, Some}
-use Rattle.go_tree.specs.Characters.{decoded_at, is_allowed, is_letter_or_digit}
-use Rattle.go_tree.specs.Comments.{in_line_comment}
-use Rattle.go_tree.specs.Literals.{in_raw}
-use Rattle.go_tree.specs.Numbers.{goes_on}
+use Rattle.go_tree.specs.Lexical.Characters.{decoded_at, is_allowed, is_letter_or_digit}
+use Rattle.go_tree.specs.Lexical.Comments.{in_line_comment}
+use Rattle.go_tree.specs.Lexical.Literals.{in_raw}
+use Rattle.go_tree.specs.Lexical.Numbers.{goes_on}
 use Rattle.go_scan.specs.declared.runs.Test.{Test}
 use Rattle.go_scan.specs.declared.runs.Test.TheVariants.{Word, Number, LineComment, RawLit}
 

@@ -3,7 +3,7 @@
 -- that is inserted at the end of the file and has no byte.
 use Rattle.std.specs.Prelude.{ℕ, ◌+◌, ◌-◌, ◌*◌, Option, if◌then◌else◌}
 use Rattle.go_tree.specs.declared.token.TokenKind.{TokenKind}
-use Rattle.go_tree.specs.Semicolons.{inserts_after}
+use Rattle.go_tree.specs.Lexical.Semicolons.{inserts_after}
 
 -- `len` is the length of the text in bytes
 abbrev pub scan_weight : ℕ → ℕ → Option TokenKind → ℕ

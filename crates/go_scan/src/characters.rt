@@ -1,8 +1,8 @@
-// Characters, letters and blanks (Go specification, "Characters", "Letters and digits", "Tokens").
+// Characters, letters and white space (Go specification, "Characters", "Letters and digits", "Tokens").
 ghost use Rattle.std.specs.Prelude.{◌≡◌, ◌≤◌, length, slice_index, IfSome, IfNone, Some, None};
 ghost use Rattle.ucd_category.specs.GeneralCategory.{general_category};
 ghost use Rattle.go_scan.specs.Ascii.{is_ascii_letter};
-ghost use Rattle.go_tree.specs.Characters.{decoded_at, is_letter, is_letter_or_digit, is_letter_category, is_digit_category, is_blank, is_allowed, is_forbidden};
+ghost use Rattle.go_tree.specs.Lexical.Characters.{decoded_at, is_letter, is_letter_or_digit, is_letter_category, is_digit_category, is_white_space, is_allowed, is_forbidden};
 
 use bstr::decode_utf8;
 use unicode::properties::GeneralCategory;
@@ -79,8 +79,8 @@ fn is_digit_category(category: GeneralCategory) -> bool
     matches!(category, GeneralCategory::DecimalNumber)
 }
 
-pub(crate) fn is_blank(byte: u8) -> bool
-    ensures { result ≡ is_blank byte }
+pub(crate) fn is_white_space(byte: u8) -> bool
+    ensures { result ≡ is_white_space byte }
 {
     matches!(byte, b' ' | b'\t' | b'\r' | b'\n')
 }

@@ -1,8 +1,8 @@
 // Comments (Go specification).
 ghost use Rattle.std.specs.Prelude.{◌≡◌, ℕ, ◌+◌, ◌≤◌, length, slice_index, IfOk, IfErr, IfSome, IfNone, ◌==◌, ◌&&◌};
-ghost use Rattle.go_tree.specs.Comments.{OpensLine, OpensGeneral, IsLineComment, IsGeneralComment, in_general_comment};
+ghost use Rattle.go_tree.specs.Lexical.Comments.{OpensLine, OpensGeneral, IsLineComment, IsGeneralComment, in_general_comment};
 ghost use Rattle.go_scan.specs.Reading.{IsStuck};
-ghost use Rattle.go_tree.specs.Characters.{Ends};
+ghost use Rattle.go_tree.specs.Lexical.Characters.{Ends};
 ghost use Rattle.go_scan.specs.Runs.{IsAllowedChar};
 
 use crate::characters::{byte_at, char_at, is_allowed};

@@ -1,7 +1,7 @@
 // Digits (Go specification, "Integer literals").
 ghost use Rattle.std.specs.Prelude.{◌≡◌, length};
-ghost use Rattle.go_tree.specs.Numbers.{is_digits, is_digits_behind_prefix, digit_front};
-ghost use Rattle.go_tree.specs.Literals.{digit_value};
+ghost use Rattle.go_tree.specs.Lexical.Numbers.{is_digits, is_digits_behind_prefix, digit_front};
+ghost use Rattle.go_tree.specs.Lexical.Literals.{digit_value};
 ghost use Rattle.go_scan.specs.Digits.{is_digit_of, size_of_base};
 
 /// A base that numbers are written in.

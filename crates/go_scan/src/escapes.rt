@@ -1,7 +1,7 @@
 // Escapes in rune and string literals (Go specification, "Rune literals").
 ghost use Rattle.std.specs.Prelude.{◌≡◌, ◌≤◌, ◌<◌, ◌+◌, ◌-◌, ◌^◌, ℕ, true, length, slice_index, slice_range, IfOk, IfErr};
-ghost use Rattle.go_tree.specs.Numbers.{is_hex};
-ghost use Rattle.go_tree.specs.Literals.{digit_value, is_simple_escape, IsCharacter};
+ghost use Rattle.go_tree.specs.Lexical.Numbers.{is_hex};
+ghost use Rattle.go_tree.specs.Lexical.Literals.{digit_value, is_simple_escape, IsCharacter};
 ghost use Rattle.go_scan.specs.Escapes.{base_in, base_of, count_of, is_escape_digit, is_value_of, AreDigits, IsEscape, IsQuote, NoCharacter, Stops};
 
 use crate::characters::{byte_at, char_at, is_allowed};

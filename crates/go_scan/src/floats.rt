@@ -1,6 +1,6 @@
 // Floating-point literals (Go specification).
 ghost use Rattle.std.specs.Prelude.{◌≡◌, ◌&&◌, ◌||◌};
-ghost use Rattle.go_tree.specs.Numbers.{is_float_lit, is_hex_float_lit, is_behind_whole, is_mantissa, is_exponent, is_signed_digits, digit_front, behind_digits, is_empty};
+ghost use Rattle.go_tree.specs.Lexical.Numbers.{is_float_lit, is_hex_float_lit, is_behind_whole, is_mantissa, is_exponent, is_signed_digits, digit_front, behind_digits, is_empty};
 ghost use Rattle.go_scan.specs.Digits.{is_digit_of, is_whole_of, exponent_letter, may_lack_exponent};
 
 use crate::digits::{Base, digit_front_len, is_digits, is_digits_behind_prefix};

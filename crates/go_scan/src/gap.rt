@@ -1,12 +1,12 @@
 // What stands between two tokens (Go specification, "Comments", "Tokens", "Semicolons").
 ghost use Rattle.std.specs.Prelude.{◌≡◌, ◌≢◌, ◌<◌, ◌≤◌, ◌⊎◌, ℕ, true, false, length, slice_index, IfOk, IfErr, IfSome, IfNone};
-ghost use Rattle.go_tree.specs.Characters.{is_blank};
-ghost use Rattle.go_tree.specs.Comments.{OpensLine, OpensGeneral};
-ghost use Rattle.go_tree.specs.Scan.{Space, Gap, IsFirstNewline};
+ghost use Rattle.go_tree.specs.Lexical.Characters.{is_white_space};
+ghost use Rattle.go_tree.specs.Lexical.Comments.{OpensLine, OpensGeneral};
+ghost use Rattle.go_tree.specs.Lexical.Scan.{Space, Gap, IsFirstNewline};
 ghost use Rattle.go_scan.specs.Gaps.{HasNoSpace, IsHere};
 ghost use Rattle.go_scan.specs.Reading.{IsStuck};
 
-use crate::characters::{byte_at, char_at, is_blank};
+use crate::characters::{byte_at, char_at, is_white_space};
 use crate::comments::{general_comment, line_comment};
 use crate::reading;
 
@@ -50,7 +50,7 @@ fn space(bytes: &[u8], at: usize) -> Result<Option<usize>, reading::Stuck>
     ensures stuck { IfErr result (λ e. HasNoSpace bytes.now at × (OpensLine bytes.now at ⊎ OpensGeneral bytes.now at) × IsStuck bytes.now at e.at) }
 {
     let byte = byte_at(bytes, at);
-    if is_blank(byte) {
+    if is_white_space(byte) {
         Ok(Some(at + 1))
     } else if byte == b'/' {
         comment(bytes, at)
@@ -85,7 +85,7 @@ fn comment(bytes: &[u8], at: usize) -> Result<Option<usize>, reading::Stuck>
 // The end of the byte order mark that stands at an offset, where it is the first character.
 fn mark_end(bytes: &[u8], at: usize) -> Option<usize>
     requires within { at ≤ length bytes.now }
-    requires blank { is_blank (slice_index bytes.now at) ≡ false }
+    requires blank { is_white_space (slice_index bytes.now at) ≡ false }
     requires slash { slice_index bytes.now at ≢ 47 }
     ensures space { IfSome result (λ to. Space bytes.now at to × (at < to) × (to ≤ length bytes.now)) }
     ensures other { IfNone result (HasNoSpace bytes.now at × (OpensLine bytes.now at → ⊥) × (OpensGeneral bytes.now at → ⊥)) }

@@ -1,6 +1,6 @@
 // Keywords (Go specification).
 ghost use Rattle.std.specs.Prelude.{◌≡◌, true, length, slice_index, IfSome, IfNone};
-ghost use Rattle.go_tree.specs.Tokens.{spelling, IsSpelled};
+ghost use Rattle.go_tree.specs.Lexical.Tokens.{spelling, IsSpelled};
 ghost use Rattle.go_tree.specs.declared.token.TokenKind.{TokenKind as Kind};
 ghost use Rattle.go_scan.specs.Ascii.{is_small_letter};
 

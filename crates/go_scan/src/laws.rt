@@ -2,7 +2,7 @@
 ghost use Rattle.std.specs.Prelude.{◌≡◌, ℕ, List, Option};
 ghost use Rattle.go_tree.specs.declared.token.Token.{Token};
 ghost use Rattle.go_tree.specs.declared.token.TokenKind.{TokenKind};
-ghost use Rattle.go_tree.specs.Scan.{IsNext, Scan};
+ghost use Rattle.go_tree.specs.Lexical.Scan.{IsNext, Scan};
 
 /// A text has at most one next token.
 pub fn one_next()

@@ -1,6 +1,6 @@
 //! The scanner: the next token of a text, or why there is none, and what literals stand for.
 //!
-//! `next_token` inserts semicolons and names what is wrong, `gap` passes over blanks and comments,
+//! `next_token` inserts semicolons and names what is wrong, `gap` passes over white space and comments,
 //! `token` finds the longest token by what begins it: `words` and `keywords`, `numbers`, `quoted`
 //! and `marks`. `literals` says what a literal stands for. What the tokens of a text are is defined
 //! in go_tree.
@@ -35,18 +35,4 @@ pub use rules::{FORBIDDEN_BYTE, MISSING_TOKEN};
 pub use token_list::{ScanFault, tokens};
 
 #[cfg(test)]
-mod fault_tests;
-#[cfg(test)]
-mod literal_tests;
-#[cfg(test)]
-mod number_tests;
-#[cfg(test)]
-mod quoted_tests;
-#[cfg(test)]
 mod scan_tests;
-#[cfg(test)]
-mod semicolon_tests;
-#[cfg(test)]
-mod text_tests;
-#[cfg(test)]
-mod token_tests;

@@ -2,12 +2,12 @@
 ghost use Rattle.std.specs.Prelude.{◌≡◌, ◌≤◌, ◌<◌, ◌^◌, ◌⊎◌, ◌↔◌, pos, IfOk, IsErrOf, IfSome, IfNone, length, slice_range};
 ghost use Rattle.go_num.specs.Arithmetic.{limited};
 ghost use Rattle.go_num.specs.Text.{most_text};
-ghost use Rattle.go_tree.specs.Literals.{number_in};
-ghost use Rattle.go_tree.specs.LiteralValues.{int_lit_value, value_behind_zero, string_lit_value};
-ghost use Rattle.go_tree.specs.Tokens.{IsToken};
+ghost use Rattle.go_tree.specs.Lexical.Literals.{number_in};
+ghost use Rattle.go_tree.specs.Lexical.LiteralValues.{int_lit_value, value_behind_zero, string_lit_value};
+ghost use Rattle.go_tree.specs.Lexical.Tokens.{IsToken};
 ghost use Rattle.go_tree.specs.declared.token.TokenKind.TheVariants.{Int, Rune, Text};
 ghost use Rattle.go_scan.specs.Digits.{size_of_base, next_number};
-ghost use Rattle.go_tree.specs.LiteralValues.{literal_number};
+ghost use Rattle.go_tree.specs.Lexical.LiteralValues.{literal_number};
 
 use crate::digits::{Base, digit_value, size_of_base};
 use crate::values::{rune_value, string_len, string_value};

@@ -1,6 +1,6 @@
 // Operators and punctuation (Go specification).
 ghost use Rattle.std.specs.Prelude.{◌≡◌, ◌<◌, ◌≤◌, ℕ, false, ◌∷◌, [], length, slice_index, slice_range, IfSome, IfNone};
-ghost use Rattle.go_tree.specs.Tokens.{spelling, IsSpelled};
+ghost use Rattle.go_tree.specs.Lexical.Tokens.{spelling, IsSpelled};
 ghost use Rattle.go_scan.specs.Ascii.{is_small_letter};
 ghost use Rattle.go_tree.specs.declared.token.TokenKind.{TokenKind as Kind};
 

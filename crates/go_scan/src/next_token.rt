@@ -2,11 +2,11 @@
 ghost use Rattle.std.specs.Prelude.{◌≡◌, ◌≢◌, ◌⊎◌, ℕ, ◌<◌, ◌≤◌, ◌&&◌, nat_lt, IfOk, IfErr, if◌then◌else◌, length, Some};
 ghost use Rattle.go_tree.specs.declared.token.Token.{Token as TokenOf};
 ghost use Rattle.go_tree.specs.declared.token.TokenKind.TheVariants.{InsertedSemicolon, End};
-ghost use Rattle.go_tree.specs.Characters.{decoded_at, is_forbidden, IsForbidden};
-ghost use Rattle.go_tree.specs.Comments.{OpensLine, OpensGeneral};
-ghost use Rattle.go_tree.specs.Faults.{forbidden_byte, missing_token, IsForbiddenByte, IsMissingToken};
-ghost use Rattle.go_tree.specs.Scan.{IsFirst, IsNext};
-ghost use Rattle.go_tree.specs.Semicolons.{inserts_after};
+ghost use Rattle.go_tree.specs.Lexical.Characters.{decoded_at, is_forbidden, IsForbidden};
+ghost use Rattle.go_tree.specs.Lexical.Comments.{OpensLine, OpensGeneral};
+ghost use Rattle.go_tree.specs.Lexical.Faults.{forbidden_byte, missing_token, IsForbiddenByte, IsMissingToken};
+ghost use Rattle.go_tree.specs.Lexical.Scan.{IsFirst, IsNext};
+ghost use Rattle.go_tree.specs.Lexical.Semicolons.{inserts_after};
 ghost use Rattle.go_scan.specs.Blame.{IsBlamed};
 ghost use Rattle.go_scan.specs.Gaps.{HasNoSpace};
 ghost use Rattle.go_scan.specs.Weight.{scan_weight};

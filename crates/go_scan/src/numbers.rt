@@ -1,6 +1,6 @@
 // Number literals (Go specification, "Integer literals", "Floating-point literals", "Imaginary literals").
 ghost use Rattle.std.specs.Prelude.{◌≡◌, ℕ, ◌+◌, ◌<◌, ◌≤◌, ◌||◌, true, length, slice_index, slice_range};
-ghost use Rattle.go_tree.specs.Numbers.{begins_number, is_hexadecimal, IsNumberRun, number_kind, is_int_lit, is_behind_zero, is_float_lit, is_imaginary_lit, is_digits, is_decimal};
+ghost use Rattle.go_tree.specs.Lexical.Numbers.{begins_number, is_hexadecimal, IsNumberRun, number_kind, is_int_lit, is_behind_zero, is_float_lit, is_imaginary_lit, is_digits, is_decimal};
 
 use crate::characters::byte_at;
 use crate::digits::{Base, is_digits, is_digits_behind_prefix};

@@ -1,6 +1,6 @@
 // Rune and string literals (Go specification, "Rune literals", "String literals").
 ghost use Rattle.std.specs.Prelude.{◌≡◌, ◌≤◌, ◌<◌, ◌+◌, ℕ, length, slice_index, IfOk, IfErr};
-ghost use Rattle.go_tree.specs.Literals.{IsRuneLit, IsInterpretedLit, IsRawLit};
+ghost use Rattle.go_tree.specs.Lexical.Literals.{IsRuneLit, IsInterpretedLit, IsRawLit};
 ghost use Rattle.go_scan.specs.Reading.{IsStuck};
 
 use crate::characters::byte_at;

@@ -1,7 +1,7 @@
 // Runs of characters.
 ghost use Rattle.std.specs.Prelude.{◌≡◌, ◌≤◌, length, slice_index};
-ghost use Rattle.go_tree.specs.Characters.{Run, Ends};
-ghost use Rattle.go_tree.specs.Numbers.{goes_on, is_either};
+ghost use Rattle.go_tree.specs.Lexical.Characters.{Run, Ends};
+ghost use Rattle.go_tree.specs.Lexical.Numbers.{goes_on, is_either};
 ghost use Rattle.go_scan.specs.Runs.{passes_of};
 
 use crate::characters::{byte_at, char_at, is_allowed, is_letter_or_digit};

@@ -1,8 +1,8 @@
 // The longest token that stands at an offset (Go specification, "Tokens").
 ghost use Rattle.std.specs.Prelude.{◌≡◌, ◌<◌, ◌≤◌, ℕ, true, false, length, slice_index, IfOk, IfErr};
-ghost use Rattle.go_tree.specs.Comments.{OpensLine, OpensGeneral};
-ghost use Rattle.go_tree.specs.Numbers.{begins_number};
-ghost use Rattle.go_tree.specs.Tokens.{IsWord, IsLongest};
+ghost use Rattle.go_tree.specs.Lexical.Comments.{OpensLine, OpensGeneral};
+ghost use Rattle.go_tree.specs.Lexical.Numbers.{begins_number};
+ghost use Rattle.go_tree.specs.Lexical.Tokens.{IsWord, IsLongest};
 ghost use Rattle.go_tree.specs.declared.token.TokenKind.{TokenKind as Kind};
 ghost use Rattle.go_scan.specs.Blame.{IsBlamed, OpensLiteral};
 

@@ -1,6 +1,6 @@
 // All tokens of a text (Go specification, "Lexical elements").
 ghost use Rattle.std.specs.Prelude.{◌≡◌, IfOk, IfErr};
-ghost use Rattle.go_tree.specs.Scan.{Scan};
+ghost use Rattle.go_tree.specs.Lexical.Scan.{Scan};
 ghost use Rattle.go_scan.specs.Lists.{HasNoTokens};
 ghost use Rattle.go_scan.specs.declared.token_list.ScanFault.TheVariants.{NoMemory as OutOfMemory};
 

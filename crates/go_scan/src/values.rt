@@ -1,8 +1,8 @@
 // What rune and string literals stand for (Go specification, "Rune literals", "String literals").
 ghost use Rattle.std.specs.Prelude.{◌≡◌, ◌≤◌, ◌<◌, ◌+◌, ◌++◌, ◌*◌, ◌^◌, ℕ, List, ◌∷◌, true, drop, length, slice_index, slice_range, IfOk};
 ghost use Rattle.std.specs.List.{list_all};
-ghost use Rattle.go_tree.specs.Literals.{number_in};
-ghost use Rattle.go_tree.specs.LiteralValues.{code_point_of, escape_len, escape_text, escape_value, inside_of, rune_lit_value, simple_value, string_lit_value, unescaped, without_returns};
+ghost use Rattle.go_tree.specs.Lexical.Literals.{number_in};
+ghost use Rattle.go_tree.specs.Lexical.LiteralValues.{code_point_of, escape_len, escape_text, escape_value, inside_of, rune_lit_value, simple_value, string_lit_value, unescaped, without_returns};
 ghost use Rattle.go_scan.specs.Escapes.{base_of, count_of, is_escape_digit};
 ghost use Rattle.go_scan.specs.Quoted.{Escapes, IsEscapeText, IsRuneInside, IsRuneText, IsStringLit, piece_text};
 

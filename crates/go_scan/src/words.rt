@@ -1,6 +1,6 @@
 // Identifiers (Go specification).
 ghost use Rattle.std.specs.Prelude.{◌≡◌, ◌<◌, ◌≤◌, ℕ, length, IfSome, IfNone};
-ghost use Rattle.go_tree.specs.Tokens.{IsWord};
+ghost use Rattle.go_tree.specs.Lexical.Tokens.{IsWord};
 
 use crate::characters::{char_at, is_letter};
 use crate::runs::{Test, run_end};

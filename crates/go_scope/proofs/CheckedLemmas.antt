@@ -12,17 +12,17 @@ use Rattle.go_module.specs.declared.block.Import.{Import}
 use Rattle.go_module.specs.declared.block.Occurrence.{Occurrence}
 use Rattle.go_module.specs.declared.block.Region.{Region}
 use Rattle.go_module.specs.declared.object.ObjId.{ObjId}
-use Rattle.go_tree.specs.Grammar.TypeTrees.{is_name}
+use Rattle.go_tree.specs.Grammar.Trees.TypeTrees.{is_name}
 use Rattle.go_module.specs.NodeParts.{all_but_first}
 use Rattle.go_module.specs.Modules.Heads.{import_specs}
 use Rattle.go_module.specs.Modules.Module.{FileData, PackageData}
 use Rattle.go_module.specs.Scopes.{same_node}
-use Rattle.go_module.specs.Names.BlockRules.{missing_main_at, reserved, repeated}
-use Rattle.go_module.specs.Names.BrokenNames.{broken_file, broken_files}
+use Rattle.go_module.specs.Names.Rules.BlockRules.{missing_main_at, reserved, repeated}
+use Rattle.go_module.specs.Names.Rules.BrokenNames.{broken_file, broken_files}
 use Rattle.go_module.specs.Names.Constants.{const_specs, object_id, package_block}
-use Rattle.go_module.specs.Names.ImportRules.{conflicting, declares, is_repeated_by, uses_import, unused, unused_import}
+use Rattle.go_module.specs.Names.Rules.ImportRules.{conflicting, declares, is_repeated_by, uses_import, unused, unused_import}
 use Rattle.go_module.specs.Names.Imports.{PackageNames, Importing, file_block, import_of, imports_from, imports_of}
-use Rattle.go_module.specs.Names.OccurrenceRules.{broken_occurrence, broken_occurrences, blank_at, missing_in, misplaced_package, undeclared_at, complex_name, is_complex}
+use Rattle.go_module.specs.Names.Rules.OccurrenceRules.{broken_occurrence, broken_occurrences, blank_at, missing_in, misplaced_package, undeclared_at, complex_name, is_complex}
 use Rattle.go_module.specs.Names.Occurrences.{selecting, occurrences_in, occurrences_among, occurrences_in_spec, occurrences_in_file}
 use Rattle.go_module.specs.Names.Regions.{regions_of, resolution, is_held}
 use Rattle.go_module.specs.Names.Tables.{member_of, members_at, uses_at, occurrences_from}

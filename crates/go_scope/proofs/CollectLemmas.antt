@@ -10,8 +10,8 @@ use Rattle.go_module.specs.declared.module.Package.{Package}
 use Rattle.go_module.specs.declared.module.SourceFile.{SourceFile}
 use Rattle.go_module.specs.Order.{IsListOf}
 use Rattle.go_module.specs.Modules.Module.{FileData, PackageData, ModuleData, file_view, package_view}
-use Rattle.go_module.specs.Names.BlockRules.{is_main_name}
-use Rattle.go_module.specs.Names.BrokenNames.{broken_block, broken_in_files}
+use Rattle.go_module.specs.Names.Rules.BlockRules.{is_main_name}
+use Rattle.go_module.specs.Names.Rules.BrokenNames.{broken_block, broken_in_files}
 use Rattle.go_module.specs.Names.Constants.{package_block}
 use Rattle.go_module.specs.Names.Imports.{PackageNames, Importing, known_in, file_block, imports_from, imports_of}
 use Rattle.go_module.specs.Names.Regions.{regions_of}

@@ -9,9 +9,9 @@ use Rattle.std.proofs.lemmas.Option.{slice_get-map}
 use Rattle.indexmap.specs.IndexMap.{insert_all}
 use Rattle.go_tree.specs.declared.node.NodeId.{NodeId}
 use Rattle.go_tree.specs.Tree.{Tree, branch, id_of, node_count}
-use Rattle.go_text.specs.Copies.{with_copies}
-use Rattle.go_text.specs.Files.{IsFileOf}
-use Rattle.go_text.specs.Numbers.{numbered}
+use Rattle.go_module.specs.Copies.{with_copies}
+use Rattle.go_module.specs.Files.{IsFileOf}
+use Rattle.go_module.specs.Numbers.{numbered}
 use Rattle.go_module.specs.declared.block.Occurrence.{Occurrence}
 use Rattle.go_module.specs.declared.block.Region.{Region}
 use Rattle.go_module.specs.declared.block.Selected.{Selected}
@@ -25,7 +25,7 @@ use Rattle.go_module.specs.Modules.Packages.{files_of, is_home}
 use Rattle.go_module.specs.Scopes.{same_node}
 use Rattle.go_module.specs.Names.Constants.{object_id}
 use Rattle.go_module.specs.Names.Imports.{PackageNames, exported, known_in}
-use Rattle.go_module.specs.Names.OccurrenceRules.{denoted_package}
+use Rattle.go_module.specs.Names.Rules.OccurrenceRules.{denoted_package}
 use Rattle.go_module.specs.Names.Occurrences.{occurrences_in_file}
 use Rattle.go_module.specs.Names.Regions.{resolution, regions_of}
 use Rattle.go_module.specs.Names.Tables.{Member, member_of, members_at, HasTables, uses_at, uses_of, occurrences_from}

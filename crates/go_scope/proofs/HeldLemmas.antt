@@ -12,7 +12,7 @@ use Rattle.std.proofs.lemmas.List.Sums.{length-filter, prefix_len-le-length, sum
 use Rattle.std.proofs.lemmas.Option.{slice_get_past, slice_get_read}
 use Rattle.go_module.specs.declared.block.Region.{Region}
 use Rattle.go_module.specs.Modules.Paths.{same_text}
-use Rattle.go_module.specs.Names.BlockRules.{is_repeated}
+use Rattle.go_module.specs.Names.Rules.BlockRules.{is_repeated}
 use Rattle.go_module.specs.Names.Regions.{has_name}
 use Rattle.go_scope.specs.declared.held.Held.{Held}
 use Rattle.go_scope.specs.Held.{held_of, ArePlaces, only_of, declared_at, with_place}

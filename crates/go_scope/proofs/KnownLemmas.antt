@@ -14,13 +14,13 @@ use Rattle.go_module.specs.Broken.{broken_at, told_if}
 use Rattle.go_module.specs.Names.Universe.{Predeclared, predeclared, universe, universe_from}
 use Rattle.go_module.specs.Modules.Heads.{import_specs}
 use Rattle.go_module.specs.Modules.Module.{FileData, PackageData}
-use Rattle.go_module.specs.Names.BlockRules.{missing_main_at, reserved, repeated, is_main_name}
-use Rattle.go_module.specs.Names.BrokenNames.{broken_block, broken_file, broken_files, broken_in_files}
+use Rattle.go_module.specs.Names.Rules.BlockRules.{missing_main_at, reserved, repeated, is_main_name}
+use Rattle.go_module.specs.Names.Rules.BrokenNames.{broken_block, broken_file, broken_files, broken_in_files}
 use Rattle.go_module.specs.Names.Constants.{constant_object, name_text, object_id, package_block, constants_in_file, constants_in_spec, const_specs, constant_region, names_in_spec}
-use Rattle.go_module.specs.Names.Exported.{is_blank}
-use Rattle.go_module.specs.Names.ImportRules.{conflicting, unused}
+use Rattle.go_module.specs.Names.Exported.{is_blank_identifier}
+use Rattle.go_module.specs.Names.Rules.ImportRules.{conflicting, unused}
 use Rattle.go_module.specs.Names.Imports.{PackageNames, Importing, import_region, dot_region, is_dot, import_parts, import_regions, file_block, import_of, imports_in, imports_from, imports_of, exports_of, exported}
-use Rattle.go_module.specs.Names.OccurrenceRules.{missing_member, denoted_package, missing_in, broken_occurrence, broken_occurrences, undeclared_at, blank_at, misplaced_at, complex_at}
+use Rattle.go_module.specs.Names.Rules.OccurrenceRules.{missing_member, denoted_package, missing_in, broken_occurrence, broken_occurrences, undeclared_at, blank_at, misplaced_at, complex_at}
 use Rattle.go_module.specs.Names.Occurrences.{occurrences_in_file}
 use Rattle.go_module.specs.Names.Regions.{regions_of, resolution, holds, lies_inside_others}
 use Rattle.go_module.specs.Names.Tables.{region_entries, members_at, member_of, uses_at, uses_of, objects_of, occurrences_from}
@@ -91,7 +91,7 @@ module _ (f g : ℕ → PackageNames) where
 
   specs_denote : (k file : ℕ) (specs : List Tree) → AllDenoted (flat_map (constants_in_spec k file) specs)
   specs_denote k file [] = tt
-  specs_denote k file (spec ∷ specs) = denoted_append (constants_in_spec k file spec) (flat_map (constants_in_spec k file) specs) (constants_denote k file (filter (λ name. not (is_blank (name_text name))) (names_in_spec spec))) (specs_denote k file specs)
+  specs_denote k file (spec ∷ specs) = denoted_append (constants_in_spec k file spec) (flat_map (constants_in_spec k file) specs) (constants_denote k file (filter (λ name. not (is_blank_identifier (name_text name))) (names_in_spec spec))) (specs_denote k file specs)
 
   package_denotes : (k file : ℕ) (files : List FileData) → AllDenoted (package_block k file files)
   package_denotes k file [] = tt
@@ -115,7 +115,7 @@ module _ (f g : ℕ → PackageNames) where
   parts_denote : (i : Importing) (parts : Trees) → f i.imported ≡ g i.imported → AllDenoted (import_parts (g i.imported) i parts)
   parts_denote i no_trees same = tt
   parts_denote i (more_trees string no_trees) same = (import_denotes i (g i.imported).clause string same, tt)
-  parts_denote i (more_trees name (more_trees string no_trees)) same = named_denote i name string (is_dot name) (is_blank (name_text name)) same
+  parts_denote i (more_trees name (more_trees string no_trees)) same = named_denote i name string (is_dot name) (is_blank_identifier (name_text name)) same
   parts_denote i (more_trees name (more_trees string (more_trees other others))) same = tt
 
   block_denotes : (imports : List Importing) → Alike imports → AllDenoted (file_block g imports)

@@ -18,7 +18,7 @@ use Rattle.go_module.specs.Modules.Heads.{import_specs}
 use Rattle.go_module.specs.Modules.Module.{FileData, PackageData}
 use Rattle.go_module.specs.Names.Blocks.{holds_file, lies_inside}
 use Rattle.go_module.specs.Names.Constants.{name_text, package_block, constants_in_file, constants_in_spec, const_specs}
-use Rattle.go_module.specs.Names.Exported.{is_blank}
+use Rattle.go_module.specs.Names.Exported.{is_blank_identifier}
 use Rattle.go_module.specs.Names.Imports.{PackageNames, Importing, file_block, imports_in, imports_from, imports_of, import_parts, import_regions, import_region, named_regions, dot_region, exports_of, is_dot}
 use Rattle.go_module.specs.Names.Regions.{regions_of, has_name, holds, lies_inside_others, resolution, is_held}
 use Rattle.go_scope.specs.Held.{innermost, is_declared, only_of}
@@ -73,7 +73,7 @@ named_own : (known : PackageNames) (i : Importing) (name string : Tree) → OfBl
 named_own known i name string =
     of_if (File i.file) (is_dot name) (map (dot_region i string) (exports_of known)) _
     (of_map (File i.file) (dot_region i string) (λ entry. refl) (exports_of known))
-    (of_if (File i.file) (is_blank (name_text name)) [] (import_region i (name_text name) name ∷ []) tt (refl, tt))
+    (of_if (File i.file) (is_blank_identifier (name_text name)) [] (import_region i (name_text name) name ∷ []) tt (refl, tt))
 
 import_own : (known : PackageNames) (i : Importing) (parts : Trees) → OfBlock (File i.file) (import_parts known i parts)
 import_own known i no_trees = tt

@@ -4,7 +4,7 @@ use Rattle.std.specs.List.{flat_map}
 use Rattle.std.proofs.lemmas.Grind.{flat_map-append}
 use Rattle.go_tree.specs.declared.node_kind.NodeKind.TheVariants.{Name, SelectorExpr, ConstDecl, ConstGroup}
 use Rattle.go_tree.specs.Tree.{Tree, branch, Trees, no_trees, more_trees, list_of, node_count, node_count_of_all}
-use Rattle.go_text.specs.Numbers.{numbered, all_numbered}
+use Rattle.go_module.specs.Numbers.{numbered, all_numbered}
 use Rattle.go_module.specs.declared.block.Occurrence.{Occurrence}
 use Rattle.go_module.specs.declared.block.Selected.{Selected}
 use Rattle.go_module.specs.Names.Constants.{const_specs_in}

@@ -15,7 +15,7 @@ use Rattle.go_graph.specs.Graph.{further, is_marked, row_at}
 use Rattle.go_graph.proofs.OrderLemmas.{closed}
 use Rattle.go_tree.specs.Tree.{Tree}
 use Rattle.go_module.specs.Broken.{broken_at, told_if}
-use Rattle.go_module.specs.Modules.BrokenImports.{is_unnamed, is_unbuilt, unnamed_import, unbuilt_import, broken_import, broken_imports_at, broken_names, broken_package, broken_if_reached, broken_imports_in}
+use Rattle.go_module.specs.Modules.BrokenImports.{is_unnamed, is_special, missing_package, special_import, broken_import, broken_imports_at, broken_clauses, broken_package, broken_if_reached, broken_imports_in}
 use Rattle.go_module.specs.Modules.Texts.{SourceText, as_text}
 use Rattle.go_module.specs.Modules.Heads.{FileHead, ImportSpec, AreImports, IsImportOf, import_specs}
 use Rattle.go_module.specs.Modules.Module.{FileData, PackageData, ModuleData, IsLoaded, AreHeads, files_from, in_order, package_at, places_in}
@@ -143,8 +143,8 @@ is_named (Some x) e = refl
 
 import_named : (paths : List (List ℕ)) (stubs : List Bool) (from_stub : Bool) (file : ℕ) (spec : ImportSpec) → broken_import paths stubs from_stub file spec ≡ [] → is_some (named paths stubs from_stub spec.path) ≡ true
 import_named paths stubs from_stub file spec none =
-    let first = nil_parts (told_if (is_unnamed paths stubs from_stub spec.path) (broken_at file spec.at unnamed_import)) (told_if (is_unbuilt spec.path) (broken_at file spec.at unbuilt_import)) none in
-    let kept = told_nothing (is_unnamed paths stubs from_stub spec.path) (broken_at file spec.at unnamed_import) first.0 in
+    let first = nil_parts (told_if (is_unnamed paths stubs from_stub spec.path) (broken_at file spec.at missing_package)) (told_if (is_special spec.path) (broken_at file spec.at special_import)) none in
+    let kept = told_nothing (is_unnamed paths stubs from_stub spec.path) (broken_at file spec.at missing_package) first.0 in
     is_named (named paths stubs from_stub spec.path) (or_parts (length spec.path == 0) (is_none (named paths stubs from_stub spec.path)) kept).1
 
 -- which package is seen
@@ -203,7 +203,7 @@ module _ (m : ModuleData) (is : IsLoaded m) where
       let within : place < length t.paths = slice_get_within t.paths place path at in
       let here = each_nil (broken_if_reached heads t) (range_with_len 0 (length t.paths)) place nothing_broken (in_range (length t.paths) place within) in
       let of_package : broken_package heads t.paths t.stubs (is_marked t.stubs place) (unwrap_or (slice_get t.files place) []) ≡ [] = sym (ap (λ b. if b then broken_package heads t.paths t.stubs (is_marked t.stubs place) (unwrap_or (slice_get t.files place) []) else []) reached) ∙ here in
-      let imports = (nil_parts (broken_names heads (row_at t.files place)) (flat_map (broken_imports_at t.paths t.stubs heads (is_marked t.stubs place)) (row_at t.files place)) of_package).1 in
+      let imports = (nil_parts (broken_clauses heads (row_at t.files place)) (flat_map (broken_imports_at t.paths t.stubs heads (is_marked t.stubs place)) (row_at t.files place)) of_package).1 in
       let none : flat_map (broken_imports_at t.paths t.stubs heads (not (own_path path))) (files_of hs path) ≡ [] = (λ i. flat_map (broken_imports_at t.paths t.stubs heads (sym stub i)) (sym files i)) ∙ imports in
       let all = all_named_whole t.paths t.stubs heads (not (own_path path)) (files_of hs path) none in
       let told : SideBySide Names (imports_in heads (files_of hs path)) (imports_of t.paths t.stubs heads (not (own_path path)) (files_of hs path)) = side_weaker (λ (i : ImportSpec) (q : ℕ). named t.paths t.stubs (not (own_path path)) i.path ≡ Some q) Names (λ i q e. (not (own_path path), e)) (imports_in heads (files_of hs path)) (imports_of t.paths t.stubs heads (not (own_path path)) (files_of hs path)) all in

@@ -4,7 +4,7 @@ use Rattle.go_base.specs.declared.rule.Broken.{Broken as BrokenRule}
 use Rattle.go_module.specs.declared.module.Package.{Package}
 use Rattle.go_module.specs.Order.{IsListOf}
 use Rattle.go_module.specs.Modules.Module.{PackageData, ModuleData, package_view}
-use Rattle.go_module.specs.Names.BrokenNames.{broken_names}
+use Rattle.go_module.specs.Names.Rules.BrokenNames.{broken_names}
 use Rattle.go_module.specs.Names.Imports.{known_in}
 use Rattle.go_scope.specs.declared.known.KnownPackage.{KnownPackage}
 use Rattle.go_scope.specs.declared.scope_fault.ScopeFault.{ScopeFault}

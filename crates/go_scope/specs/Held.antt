@@ -5,7 +5,7 @@ use Rattle.std.specs.Map.{lookup}
 use Rattle.std.specs.Option.{option_map}
 use Rattle.go_module.specs.declared.block.Region.{Region}
 use Rattle.go_module.specs.Modules.Paths.{same_text}
-use Rattle.go_module.specs.Names.BlockRules.{is_repeated}
+use Rattle.go_module.specs.Names.Rules.BlockRules.{is_repeated}
 use Rattle.go_module.specs.Names.Regions.{has_name}
 use Rattle.go_scope.specs.declared.held.Held.{Held}
 

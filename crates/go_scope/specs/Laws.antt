@@ -1,7 +1,7 @@
 -- Declarations and scope (Go specification).
 -- Says once more, as a relation, which region an occurrence denotes, and that it is the one of `resolution`;
--- and what stands in modules that are loaded: each identifier in a constant spec has a number of its own, so
--- that the scopes of its package answer exactly so for it; each import spec has a package that it names.
+-- and what stands in modules that are loaded: the scopes of a package answer exactly so for each identifier in a
+-- constant spec; each import spec has a package that it names.
 use Rattle.std.specs.Prelude.{◌≡◌, ◌↔◌, ℕ, true, Some, List, [], ◌∷◌, ◌++◌, filter, slice_get, Contains}
 use Rattle.std.specs.List.{flat_map}
 use Rattle.indexmap.specs.IndexMap.{get}

@@ -5,7 +5,7 @@ use Rattle.std.specs.Option.{option_map_or}
 use Rattle.go_tree.specs.declared.node.NodeId.{NodeId}
 use Rattle.go_module.specs.declared.block.Region.{Region}
 use Rattle.go_module.specs.Scopes.{same_node}
-use Rattle.go_module.specs.Names.BlockRules.{is_repeated}
+use Rattle.go_module.specs.Names.Rules.BlockRules.{is_repeated}
 use Rattle.go_module.specs.Names.Regions.{has_name}
 
 abbrev pub is_import : NodeId → Option NodeId → Bool

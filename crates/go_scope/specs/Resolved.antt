@@ -12,12 +12,12 @@ use Rattle.go_module.specs.declared.object.Object.{Object}
 use Rattle.go_module.specs.Broken.{broken_at, told_if}
 use Rattle.go_module.specs.Modules.Module.{FileData}
 use Rattle.go_module.specs.Scopes.{same_node}
-use Rattle.go_module.specs.Names.BlockRules.{repeated, reserved, missing_main_at}
+use Rattle.go_module.specs.Names.Rules.BlockRules.{repeated, reserved, missing_main_at}
 use Rattle.go_module.specs.Names.Constants.{object_id, constant_object}
-use Rattle.go_module.specs.Names.Exported.{is_blank}
+use Rattle.go_module.specs.Names.Exported.{is_blank_identifier}
 use Rattle.go_module.specs.Names.Imports.{PackageNames}
-use Rattle.go_module.specs.Names.ImportRules.{unused_import, is_repeated_by, conflicting}
-use Rattle.go_module.specs.Names.OccurrenceRules.{undeclared_name, blank_at, missing_in, misplaced_package, complex_name, is_complex}
+use Rattle.go_module.specs.Names.Rules.ImportRules.{unused_import, is_repeated_by, conflicting}
+use Rattle.go_module.specs.Names.Rules.OccurrenceRules.{undeclared_name, blank_at, missing_in, misplaced_package, complex_name, is_complex}
 use Rattle.go_module.specs.Names.Tables.{Member, member_of}
 use Rattle.go_scope.specs.declared.resolved.Denoted.{Denoted}
 use Rattle.go_scope.specs.declared.resolved.Resolved.{Resolved}
@@ -33,7 +33,7 @@ resolved_in universe block file o = record { occurrence = o; held = is_declared 
 
 -- the rules on occurrences
 abbrev pub undeclared_by : Resolved → List Broken
-undeclared_by r = told_if (not (is_blank r.occurrence.name) && not r.held) (broken_at r.occurrence.file r.occurrence.at undeclared_name)
+undeclared_by r = told_if (not (is_blank_identifier r.occurrence.name) && not r.held) (broken_at r.occurrence.file r.occurrence.at undeclared_name)
 
 abbrev pub package_by : Resolved → Option ℕ
 package_by r = option_and_then (λ (d : Denoted). d.denotes) r.denoted

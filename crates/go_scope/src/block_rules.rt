@@ -3,7 +3,7 @@
 ghost use Rattle.std.specs.Prelude.{◌≡◌, ◌++◌, OnOk};
 ghost use Rattle.go_tree.specs.Tree.{tree_of};
 ghost use Rattle.go_module.specs.Modules.Module.{file_view};
-ghost use Rattle.go_module.specs.Names.BlockRules as rule;
+ghost use Rattle.go_module.specs.Names.Rules.BlockRules as rule;
 
 use crate::held::Declared;
 use crate::rules::{MISSING_MAIN, REPEATED_NAME, RESERVED_NAME};

@@ -3,7 +3,7 @@
 ghost use Rattle.std.specs.Prelude.{◌≡◌, ◌++◌, IfOk, length, map};
 ghost use Rattle.go_tree.specs.Tree.{tree_of};
 ghost use Rattle.go_module.specs.Modules.Module.{file_view};
-ghost use Rattle.go_module.specs.Names.BrokenNames.{broken_block};
+ghost use Rattle.go_module.specs.Names.Rules.BrokenNames.{broken_block};
 ghost use Rattle.go_module.specs.Names.Occurrences as occurrences;
 ghost use Rattle.go_scope.specs.Blocks.{block_of};
 ghost use Rattle.go_scope.specs.Checked.{broken_from, resolved_from};

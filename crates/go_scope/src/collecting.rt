@@ -3,8 +3,8 @@ ghost use Rattle.std.specs.Prelude.{◌≡◌, ◌++◌, [], IfOk, IfErr, OnOk, 
 ghost use Rattle.std.specs.List.{flat_map};
 ghost use Rattle.indexmap.specs.IndexMap.{insert_all};
 ghost use Rattle.go_module.specs.Modules.Module.{ModuleData, file_view};
-ghost use Rattle.go_module.specs.Names.BlockRules as rule;
-ghost use Rattle.go_module.specs.Names.BrokenNames.{broken_block};
+ghost use Rattle.go_module.specs.Names.Rules.BlockRules as rule;
+ghost use Rattle.go_module.specs.Names.Rules.BrokenNames.{broken_block};
 ghost use Rattle.go_module.specs.Names.Constants as constants;
 ghost use Rattle.go_module.specs.Names.Tables.{IsScopesOf, region_entries};
 ghost use Rattle.go_module.specs.Scopes.{same_node, same_object};

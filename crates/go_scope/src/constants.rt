@@ -6,7 +6,7 @@ ghost use Rattle.go_module.specs.Modules.Module.{file_view};
 ghost use Rattle.go_module.specs.Names.Constants as spec;
 ghost use Rattle.go_module.specs.Names.Exported as exported;
 
-use crate::words::{is_blank, name_of};
+use crate::words::{is_blank_identifier, name_of};
 use go_base::{Name, NoMemory};
 use go_module::{Block, ObjKind, Object, Region, SourceFile, first_part, part_list};
 use go_tree::{Node, NodeId, NodeKind};
@@ -89,7 +89,7 @@ fn add_names(
     block: &mut Vec<Region>,
 ) -> Result<(), NoMemory>
     ensures { OnOk result (block.new.items ≡ block.old.items ++ map (spec.constant_region place file)
-        (filter (λ name. not (exported.is_blank (spec.name_text name))) (map tree_of names.now))) }
+        (filter (λ name. not (exported.is_blank_identifier (spec.name_text name))) (map tree_of names.now))) }
 {
     for name in names {
         add_name(alloc, place, file, name, block)?;
@@ -106,10 +106,10 @@ fn add_name(
     block: &mut Vec<Region>,
 ) -> Result<(), NoMemory>
     ensures { OnOk result (block.new.items ≡ block.old.items ++ map (spec.constant_region place file)
-        (filter (λ name. not (exported.is_blank (spec.name_text name))) (tree_of name.now ∷ []))) }
+        (filter (λ name. not (exported.is_blank_identifier (spec.name_text name))) (tree_of name.now ∷ []))) }
 {
     let text = name_of(alloc, name)?;
-    if !is_blank(&text) {
+    if !is_blank_identifier(&text) {
         block.push(constant_region(place, file, text, name))?;
     }
     Ok(())

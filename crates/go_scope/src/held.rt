@@ -2,7 +2,7 @@
 ghost use Rattle.std.specs.Prelude.{◌≡◌, ℕ, List, IfOk, OnOk};
 ghost use Rattle.std.specs.List.{list_any};
 ghost use Rattle.std.specs.Option.{option_copied};
-ghost use Rattle.go_module.specs.Names.BlockRules as rules;
+ghost use Rattle.go_module.specs.Names.Rules.BlockRules as rules;
 ghost use Rattle.go_module.specs.Names.Regions.{has_name};
 ghost use Rattle.go_module.specs.Modules.Paths.{same_text};
 ghost use Rattle.std.specs.Map.{lookup};

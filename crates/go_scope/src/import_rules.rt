@@ -5,7 +5,7 @@ ghost use Rattle.std.specs.Option.{option_map_or};
 ghost use Rattle.indexmap.specs.IndexSet.{contains};
 ghost use Rattle.go_tree.specs.declared.node.NodeId.{NodeId};
 ghost use Rattle.go_module.specs.Broken as broken;
-ghost use Rattle.go_module.specs.Names.ImportRules as rule;
+ghost use Rattle.go_module.specs.Names.Rules.ImportRules as rule;
 ghost use Rattle.go_module.specs.Names.Regions.{has_name};
 ghost use Rattle.go_module.specs.Scopes.{same_node};
 ghost use Rattle.go_scope.specs.Marks.{is_import, marks_conflict, marks_repeat};

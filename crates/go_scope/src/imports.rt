@@ -8,7 +8,7 @@ ghost use Rattle.go_scope.specs.Known.{known_by, importing};
 
 use crate::constants::constant_object;
 use crate::known::{KnownPackage, clause_name};
-use crate::words::{is_blank, is_exported, name_of};
+use crate::words::{is_blank_identifier, is_exported, name_of};
 use go_base::{Name, NoMemory};
 use go_module::{Block, Import, ObjId, ObjKind, Object, Region};
 use go_tree::{Node, NodeId, NodeKind};
@@ -60,7 +60,7 @@ fn add_named(
         return add_exports(known, import, string, regions);
     }
     let text = name_of(alloc, name)?;
-    if !is_blank(&text) {
+    if !is_blank_identifier(&text) {
         regions.push(import_region(import, text, name))?;
     }
     Ok(())
@@ -169,7 +169,7 @@ fn is_blank_import(alloc: Global, spec: &Node) -> Result<bool, NoMemory>
             if is_dot(name) {
                 Ok(false)
             } else {
-                Ok(is_blank(&name_of(alloc, name)?))
+                Ok(is_blank_identifier(&name_of(alloc, name)?))
             }
         }
         None => Ok(false),

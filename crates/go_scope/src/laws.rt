@@ -9,7 +9,7 @@ pub fn denotes_innermost()
 {}
 
 /// In the scopes of a package of a module that is loaded, `Scopes::resolve` answers for each identifier in a
-/// constant spec exactly the object that it denotes: no two nodes of such a module have one number.
+/// constant spec exactly the object that it denotes (Go specification, "Declarations and scope").
 pub fn resolves_exactly()
     ensures { ResolvesExactly }
 {}

@@ -40,3 +40,6 @@ pub use laws::{denotes_innermost, each_spec_is_named, resolves_exactly};
 pub use occurrences::occurrences_in_file;
 pub use scope_fault::ScopeFault;
 pub use spec_lists::{const_specs, import_specs};
+
+#[cfg(test)]
+mod tests;

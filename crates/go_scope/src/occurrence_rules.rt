@@ -2,14 +2,14 @@
 // scope", "Blank identifier", "Qualified identifiers").
 ghost use Rattle.std.specs.Prelude.{◌≡◌, ◌++◌, OnOk};
 ghost use Rattle.std.specs.List.{flat_map};
-ghost use Rattle.go_module.specs.Names.OccurrenceRules as rule;
+ghost use Rattle.go_module.specs.Names.Rules.OccurrenceRules as rule;
 ghost use Rattle.go_scope.specs.Known.{known_by};
 ghost use Rattle.go_scope.specs.Resolved as spec;
 
 use crate::known::{KnownPackage, exported};
 use crate::resolved::Resolved;
 use crate::rules::{BLANK_VALUE, COMPLEX_NAME, MISPLACED_PACKAGE, MISSING_MEMBER, UNDECLARED_NAME};
-use crate::words::is_blank;
+use crate::words::is_blank_identifier;
 use go_base::{Broken, NoMemory};
 use go_module::{add_if, broken_at};
 
@@ -47,7 +47,7 @@ fn add_broken_occurrence(
 fn add_undeclared(r: &Resolved, found: &mut Vec<Broken>) -> Result<(), NoMemory>
     ensures { OnOk result (found.new.items ≡ found.old.items ++ spec.undeclared_by r.now) }
 {
-    let undeclared = !is_blank(&r.occurrence.name) && !r.held;
+    let undeclared = !is_blank_identifier(&r.occurrence.name) && !r.held;
     let at = broken_at(r.occurrence.file, r.occurrence.at, UNDECLARED_NAME);
     add_if(found, undeclared, at)
 }
@@ -57,7 +57,7 @@ fn add_blank(r: &Resolved, found: &mut Vec<Broken>) -> Result<(), NoMemory>
     ensures { OnOk result (found.new.items ≡ found.old.items ++ rule.blank_at r.now.occurrence) }
 {
     let at = broken_at(r.occurrence.file, r.occurrence.at, BLANK_VALUE);
-    add_if(found, is_blank(&r.occurrence.name), at)
+    add_if(found, is_blank_identifier(&r.occurrence.name), at)
 }
 
 /// The package that an occurrence denotes, by its place in the module.

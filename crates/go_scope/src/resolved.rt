@@ -2,7 +2,7 @@
 ghost use Rattle.std.specs.Prelude.{◌≡◌, IfOk, map};
 ghost use Rattle.std.specs.Option.{option_map};
 ghost use Rattle.std.specs.Option.{option_copied};
-ghost use Rattle.go_module.specs.Names.OccurrenceRules as rule;
+ghost use Rattle.go_module.specs.Names.Rules.OccurrenceRules as rule;
 ghost use Rattle.go_scope.specs.Held.{innermost, is_declared};
 ghost use Rattle.go_scope.specs.Resolved.{denoted_of, resolved_in};
 

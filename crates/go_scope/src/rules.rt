@@ -15,7 +15,7 @@ pub const CONFLICTING_IMPORT: Rule = Rule {
     number: 6,
 };
 
-/// An identifier that denotes nothing (Go specification, "Declarations and scope").
+/// An identifier that no declaration holds (Go specification, "Declarations and scope").
 pub const UNDECLARED_NAME: Rule = Rule {
     family: Family::P,
     number: 7,

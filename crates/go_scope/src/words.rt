@@ -29,8 +29,8 @@ fn is_uppercase_category(category: GeneralCategory) -> bool
 }
 
 /// Whether it is the blank identifier.
-pub fn is_blank(name: &Name) -> bool
-    ensures { result ≡ exported.is_blank name.now }
+pub fn is_blank_identifier(name: &Name) -> bool
+    ensures { result ≡ exported.is_blank_identifier name.now }
 {
     is_word(name, b"_")
 }

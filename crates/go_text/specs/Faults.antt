@@ -5,10 +5,10 @@ use Rattle.std.specs.Prelude.{ℕ, ◌≡◌, ◌<◌, List, [], ◌∷◌, ◌+
 use Rattle.go_tree.specs.declared.token.Token.{Token}
 use Rattle.go_tree.specs.declared.token.TokenKind.{TokenKind}
 use Rattle.go_tree.specs.declared.production.Production.TheVariants.{File}
-use Rattle.go_tree.specs.Faults.{IsLex}
+use Rattle.go_tree.specs.Lexical.Faults.{IsLex}
 use Rattle.go_tree.specs.Height.{AllFit, height_of}
-use Rattle.go_tree.specs.Scan.{IsNext, Stand}
-use Rattle.go_tree.specs.Grammar.Sentence.{Begins}
+use Rattle.go_tree.specs.Lexical.Scan.{IsNext, Stand}
+use Rattle.go_tree.specs.Grammar.Trees.Sentence.{Begins}
 use Rattle.go_text.specs.declared.fault.ParseFault.{ParseFault}
 use Rattle.go_text.specs.declared.fault.ParseFault.TheVariants.{Lexical, Syntax, High, NoMemory}
 use Rattle.go_text.specs.Files.{most_height}

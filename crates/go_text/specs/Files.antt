@@ -4,9 +4,9 @@ use Rattle.std.specs.Prelude.{ℕ, ◌≡◌, List}
 use Rattle.go_tree.specs.declared.token.Token.{Token}
 use Rattle.go_tree.specs.declared.production.Production.TheVariants.{File}
 use Rattle.go_tree.specs.Height.{AllFit}
-use Rattle.go_tree.specs.Scan.{Scan}
+use Rattle.go_tree.specs.Lexical.Scan.{Scan}
 use Rattle.go_tree.specs.Tree.{Tree}
-use Rattle.go_tree.specs.Grammar.Sentence.{Derives}
+use Rattle.go_tree.specs.Grammar.Trees.Sentence.{Derives}
 use Rattle.go_text.specs.Copies.{with_copies}
 use Rattle.go_text.specs.Numbers.{numbered}
 

@@ -5,8 +5,8 @@ use Rattle.go_tree.specs.declared.token.TokenKind.{TokenKind}
 use Rattle.go_tree.specs.declared.node_kind.NodeKind.{NodeKind}
 use Rattle.go_tree.specs.Tree.{Tree, start_of}
 use Rattle.go_tree.specs.Grammar.RightSide.{RightSide, Do, Call, Nothing, Seq, Or, Many, When, Act, Pass, Open, Reopen, Adopt, CheckType, Close, Ahead}
-use Rattle.go_tree.specs.Grammar.TokenKinds.{same_kind}
-use Rattle.go_tree.specs.Grammar.Reading.{State, OpenNode, Reads, at_end, does, calls, nothing, in_turn, left, right, done, again, chosen, passed_by, looks, acted, passed, next_start, reopened, reopen, adopted, adopt, close_last, node_read, ends_in_type, newest_of, tree_read}
+use Rattle.go_tree.specs.Grammar.Tables.TokenKinds.{same_kind}
+use Rattle.go_tree.specs.Grammar.Trees.Reading.{State, OpenNode, Reads, at_end, does, calls, nothing, in_turn, left, right, done, again, chosen, passed_by, looks, acted, passed, next_start, reopened, reopen, adopted, adopt, close_last, node_read, ends_in_type, newest_of, tree_read}
 use Rattle.go_tree.proofs.ShapeLemmas.{Shape, flow_act, take_needed, meet, meet_both, covers, if_covered, then_flow, flow, leaves_node, HasPart, Fits, fits_covered, single, some_part, fits_left, fits_right, parted}
 
 -- ---- readings in at most so many steps

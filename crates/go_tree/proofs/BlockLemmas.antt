@@ -8,9 +8,9 @@ use Rattle.go_tree.specs.declared.production.Production.TheVariants.{Block, Stmt
 use Rattle.go_tree.specs.Tree.{Tree}
 use Rattle.go_tree.specs.Grammar.RightSide.{RightSide, Call}
 use Rattle.go_tree.specs.Grammar.Words.{◌•◌, opt, many, semi, the}
-use Rattle.go_tree.specs.Grammar.Reading.{State, OpenNode}
-use Rattle.go_tree.specs.Grammar.Prediction.{AllDecided}
-use Rattle.go_tree.specs.Grammar.Sentence.{tables, ReadsGo, Derives}
+use Rattle.go_tree.specs.Grammar.Trees.Reading.{State, OpenNode}
+use Rattle.go_tree.specs.Grammar.Tables.Prediction.{AllDecided}
+use Rattle.go_tree.specs.Grammar.Trees.Sentence.{tables, ReadsGo, Derives}
 use Rattle.go_tree.proofs.SpanActLemmas.{ends}
 use Rattle.go_tree.proofs.ShapeLemmas.{covers}
 use Rattle.go_tree.proofs.StayLemmas.{stays, AllStay, covers_self}

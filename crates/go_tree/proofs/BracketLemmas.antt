@@ -5,9 +5,9 @@ use Rattle.go_tree.specs.declared.token.Token.{Token}
 use Rattle.go_tree.specs.declared.token.TokenKind.{TokenKind}
 use Rattle.go_tree.specs.declared.token.TokenKind.TheVariants.{LeftParen, LeftBracket, LeftBrace, RightParen, RightBracket, RightBrace}
 use Rattle.go_tree.specs.Grammar.RightSide.{RightSide, Do, Call, Nothing, Seq, Or, Many, When, Act, Pass, Open, Reopen, Adopt, CheckType, Close}
-use Rattle.go_tree.specs.Grammar.Reading.{looks}
-use Rattle.go_tree.specs.Grammar.Prediction.{Tables, act_is_empty, is_empty, begins, next_of, starts, expand}
-use Rattle.go_tree.specs.Grammar.Brackets.{Standing, Level, Within, Closing, closed, inside, behind_token, behind_act, behind_production, then_through, agreed, through, through_all}
+use Rattle.go_tree.specs.Grammar.Trees.Reading.{looks}
+use Rattle.go_tree.specs.Grammar.Tables.Prediction.{Tables, act_is_empty, is_empty, begins, next_of, starts, expand}
+use Rattle.go_tree.specs.Grammar.Tables.Brackets.{Standing, Level, Within, Closing, closed, inside, behind_token, behind_act, behind_production, then_through, agreed, through, through_all}
 use Rattle.go_tree.proofs.EmptyLemmas.{series_empty, empty_parts}
 
 -- what g makes of the fewest brackets that a production of that place needs

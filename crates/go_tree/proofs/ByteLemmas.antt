@@ -7,7 +7,7 @@ use Rattle.std.proofs.lemmas.Bool.Decides.{nat_tests}
 use Rattle.std.proofs.Math.Seq.{take-add}
 use Rattle.bstr.specs.Utf8.{decoded, Decoded, bad, good, second, code_of_3, code_of_4}
 use Rattle.bstr.proofs.lemmas.PieceLemmas.{Shape, decoded_by-shape}
-use Rattle.go_tree.specs.Characters.{decoded_at, is_allowed, is_forbidden, IsForbidden}
+use Rattle.go_tree.specs.Lexical.Characters.{decoded_at, is_allowed, is_forbidden, IsForbidden}
 use Rattle.go_tree.proofs.CharacterRunLemmas.{char_lies}
 
 -- a byte that is not 0 stands within the text

@@ -2,7 +2,7 @@
 use Rattle.std.proofs.Common.{◌≡◌, ℕ, ◌+◌, ◌-◌, ◌<◌, ◌≤◌, Bool, true, List, [], ◌∷◌, length, drop, slice_index, Some, arith, length-drop}
 use Rattle.bstr.specs.Utf8.{decoded}
 use Rattle.bstr.proofs.lemmas.PieceLemmas.{piece-bounds}
-use Rattle.go_tree.specs.Characters.{decoded_at, Run, none, more, Ends}
+use Rattle.go_tree.specs.Lexical.Characters.{decoded_at, Run, none, more, Ends}
 
 some_there : (bs : List ℕ) (c : ℕ) → (decoded bs).char ≡ Some c → 0 < length bs
 some_there [] c h = cc

@@ -6,11 +6,11 @@ use Rattle.go_tree.specs.declared.node_kind.NodeKind.{NodeKind}
 use Rattle.go_tree.specs.declared.production.Production.{Production}
 use Rattle.go_tree.specs.Tree.{Tree}
 use Rattle.go_tree.specs.Grammar.RightSide.{RightSide, Do, Call, Seq, Pass, Open, Close}
-use Rattle.go_tree.specs.Grammar.TokenKinds.{same_kind, is_in}
-use Rattle.go_tree.specs.Grammar.Reading.{State, OpenNode, at_end, does, calls, in_turn, close_last, next_start, node_read, tree_read}
-use Rattle.go_tree.specs.Grammar.Prediction.{AllDecided, is_empty, begins, starts, next_of}
-use Rattle.go_tree.specs.Grammar.Spans.{end_of_last}
-use Rattle.go_tree.specs.Grammar.Sentence.{production, tables, ReadsGo, Derives}
+use Rattle.go_tree.specs.Grammar.Tables.TokenKinds.{same_kind, is_in}
+use Rattle.go_tree.specs.Grammar.Trees.Reading.{State, OpenNode, at_end, does, calls, in_turn, close_last, next_start, node_read, tree_read}
+use Rattle.go_tree.specs.Grammar.Tables.Prediction.{AllDecided, is_empty, begins, starts, next_of}
+use Rattle.go_tree.specs.Grammar.Trees.Spans.{end_of_last}
+use Rattle.go_tree.specs.Grammar.Trees.Sentence.{production, tables, ReadsGo, Derives}
 use Rattle.go_tree.proofs.ShapeLemmas.{single}
 use Rattle.go_tree.proofs.SpanActLemmas.{ends}
 use Rattle.go_tree.proofs.ReadingLemmas.{split, join, in_turn_of}

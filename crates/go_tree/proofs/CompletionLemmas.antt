@@ -5,11 +5,11 @@ use Rattle.std.proofs.lemmas.Bool.{eqb-true, and_parts}
 use Rattle.std.proofs.lemmas.Bool.Decides.{nat_tests}
 use Rattle.go_tree.specs.declared.token.Token.{Token}
 use Rattle.go_tree.specs.declared.token.TokenKind.{TokenKind}
-use Rattle.go_tree.specs.Grammar.TokenKinds.{same_kind, is_in, code}
+use Rattle.go_tree.specs.Grammar.Tables.TokenKinds.{same_kind, is_in, code}
 use Rattle.go_tree.specs.Grammar.RightSide.{RightSide, Do, Call, Nothing, Seq, Or, Many, When, Act, Pass, Open, Reopen, Adopt, CheckType, Close, Ahead, OneOf, Both}
-use Rattle.go_tree.specs.Grammar.Reading.{State, OpenNode, Reads, at_end, does, calls, nothing, in_turn, left, right, done, chosen, looks, acted, reopen, close_last, adopt, next_start}
-use Rattle.go_tree.specs.Grammar.Prediction.{Tables, expand, next_of, starts, begins}
-use Rattle.go_tree.specs.Grammar.Completion.{Texts, join, either, begins_so, if_begun, spell, is_there, holds, Firm, Held, HaveTexts, text_or_none, completion, tokens_of}
+use Rattle.go_tree.specs.Grammar.Trees.Reading.{State, OpenNode, Reads, at_end, does, calls, nothing, in_turn, left, right, done, chosen, looks, acted, reopen, close_last, adopt, next_start}
+use Rattle.go_tree.specs.Grammar.Tables.Prediction.{Tables, expand, next_of, starts, begins}
+use Rattle.go_tree.specs.Grammar.Tables.Completion.{Texts, join, either, begins_so, if_begun, spell, is_there, holds, Firm, Held, HaveTexts, text_or_none, completion, tokens_of}
 
 -- the tokens are of these kinds, wherever they stand
 abbrev pub AreOf : List TokenKind → List Token → Type 0

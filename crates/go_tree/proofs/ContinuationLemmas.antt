@@ -3,7 +3,7 @@ use Rattle.std.proofs.Common.{◌≡◌, ◌≢◌, ℕ, ◌+◌, ◌<◌, ◌�
 use Rattle.std.proofs.lemmas.Bool.Decides.{nat_tests}
 use Rattle.bstr.specs.Utf8.{continues}
 use Rattle.bstr.proofs.lemmas.PieceLemmas.{tail-continues}
-use Rattle.go_tree.specs.Characters.{decoded_at}
+use Rattle.go_tree.specs.Lexical.Characters.{decoded_at}
 
 continues_high : (b : ℕ) → continues b ≡ true → 128 ≤ b
 continues_high b c = grind (arith, nat_tests)

@@ -4,8 +4,8 @@ use Rattle.std.proofs.lemmas.Bool.{and_parts}
 use Rattle.go_tree.specs.declared.token.TokenKind.{TokenKind}
 use Rattle.go_tree.specs.declared.token.TokenKind.TheVariants.{Ident}
 use Rattle.go_tree.specs.Grammar.RightSide.{RightSide, Do, Call, Nothing, Seq, Or, Many, When}
-use Rattle.go_tree.specs.Grammar.TokenKinds.{all_kinds, code}
-use Rattle.go_tree.specs.Grammar.Prediction.{Tables, is_empty, begins, next_of, Decided, AreRight}
+use Rattle.go_tree.specs.Grammar.Tables.TokenKinds.{all_kinds, code}
+use Rattle.go_tree.specs.Grammar.Tables.Prediction.{Tables, is_empty, begins, next_of, Decided, AreRight}
 use Rattle.go_tree.proofs.DecidedTests.{implied, not_both, each_of, each_kind, is_false, decided, right_at}
 use Rattle.go_tree.proofs.TruthLemmas.{falsely, implies}
 

@@ -2,8 +2,8 @@
 use Rattle.std.specs.Prelude.{Bool, true, false, List, [], ◌∷◌, ◌||◌, ◌&&◌}
 use Rattle.go_tree.specs.declared.token.TokenKind.{TokenKind}
 use Rattle.go_tree.specs.Grammar.RightSide.{RightSide, Do, Call, Nothing, Seq, Or, Many, When}
-use Rattle.go_tree.specs.Grammar.TokenKinds.{all_kinds}
-use Rattle.go_tree.specs.Grammar.Prediction.{Tables, is_empty, begins, next_of}
+use Rattle.go_tree.specs.Grammar.Tables.TokenKinds.{all_kinds}
+use Rattle.go_tree.specs.Grammar.Tables.Prediction.{Tables, is_empty, begins, next_of}
 
 abbrev pub implied : Bool → Bool → Bool
 implied true b = b

@@ -2,8 +2,8 @@
 use Rattle.std.proofs.Common.{◌≡◌, ℕ, Bool, true, false, List, [], ◌∷◌, refl, ap, ◌∙◌, cond, None, Some, ◌||◌, ◌&&◌}
 use Rattle.std.proofs.lemmas.Bool.{and_parts}
 use Rattle.go_tree.specs.Grammar.RightSide.{RightSide, Act, Pass, Open, Reopen, Adopt, CheckType, Close}
-use Rattle.go_tree.specs.Grammar.Reading.{State, Reads, at_end, does, calls, nothing, in_turn, left, right, done, again, chosen, passed_by, acted, passed, ends_in_type}
-use Rattle.go_tree.specs.Grammar.Prediction.{Tables, act_is_empty, is_empty, AreRight}
+use Rattle.go_tree.specs.Grammar.Trees.Reading.{State, Reads, at_end, does, calls, nothing, in_turn, left, right, done, again, chosen, passed_by, acted, passed, ends_in_type}
+use Rattle.go_tree.specs.Grammar.Tables.Prediction.{Tables, act_is_empty, is_empty, AreRight}
 
 -- all of these can be empty
 abbrev pub series_empty : {N : Type 0} → Tables N → List (RightSide N) → Bool

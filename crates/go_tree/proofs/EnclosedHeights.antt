@@ -8,7 +8,7 @@ use Rattle.go_tree.specs.declared.token.TokenKind.TheVariants.{KwElse, LeftParen
 use Rattle.go_tree.specs.declared.token_height.Role.{Role}
 use Rattle.go_tree.specs.declared.token_height.Role.TheVariants.{Opens, Closes, Separates, CountsOn, Counts}
 use Rattle.go_tree.specs.Height.{Mark, Counted, counted, counted_at, height_of, Bracket, Lasting, Passing, behind_close, behind_separator, marks_behind, behind_label, role_of}
-use Rattle.go_tree.specs.Grammar.Brackets.{closed, behind_token}
+use Rattle.go_tree.specs.Grammar.Tables.Brackets.{closed, behind_token}
 use Rattle.go_tree.proofs.BracketLemmas.{through_parts}
 use Rattle.go_tree.proofs.NestingLemmas.{behind_tokens, tokens_parts}
 

@@ -3,9 +3,9 @@ use Rattle.std.proofs.Common.{◌≡◌, ℕ, Bool, true, false, List, [], ◌�
 use Rattle.go_tree.specs.declared.token.Token.{Token}
 use Rattle.go_tree.specs.declared.token.TokenKind.{TokenKind}
 use Rattle.go_tree.specs.Grammar.RightSide.{RightSide, Do, Call, Nothing, Seq, Or, Many, When, Act, Pass, Open, Reopen, Adopt, CheckType, Close}
-use Rattle.go_tree.specs.Grammar.TokenKinds.{same_kind, code}
-use Rattle.go_tree.specs.Grammar.Reading.{State, OpenNode, Reads, at_end, does, calls, nothing, in_turn, left, right, done, again, chosen, passed_by, acted, passed}
-use Rattle.go_tree.specs.Grammar.Prediction.{Tables, is_empty, AreRight}
+use Rattle.go_tree.specs.Grammar.Tables.TokenKinds.{same_kind, code}
+use Rattle.go_tree.specs.Grammar.Trees.Reading.{State, OpenNode, Reads, at_end, does, calls, nothing, in_turn, left, right, done, again, chosen, passed_by, acted, passed}
+use Rattle.go_tree.specs.Grammar.Tables.Prediction.{Tables, is_empty, AreRight}
 use Rattle.go_tree.proofs.CompletionLemmas.{same_code}
 use Rattle.go_tree.proofs.EmptyLemmas.{series_empty, rest_kept, empty_read}
 

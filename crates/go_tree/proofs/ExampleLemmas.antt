@@ -7,9 +7,9 @@ use Rattle.go_tree.specs.declared.production.Production.{Production}
 use Rattle.go_tree.specs.declared.production.Production.TheVariants.{File}
 use Rattle.go_tree.specs.Tree.{Tree, branch, no_trees, trees_of}
 use Rattle.go_tree.specs.Grammar.RightSide.{Call}
-use Rattle.go_tree.specs.Grammar.Reading.{State, before, tree_read}
-use Rattle.go_tree.specs.Grammar.Prediction.{AllDecided}
-use Rattle.go_tree.specs.Grammar.Sentence.{production, tables, Derives, IsSentence}
+use Rattle.go_tree.specs.Grammar.Trees.Reading.{State, before, tree_read}
+use Rattle.go_tree.specs.Grammar.Tables.Prediction.{AllDecided}
+use Rattle.go_tree.specs.Grammar.Trees.Sentence.{production, tables, Derives, IsSentence}
 use Rattle.go_tree.proofs.RunLemmas.{Outcome, Whole, Stuck, Short, run, run_reads, run_stuck}
 use Rattle.go_tree.proofs.GrammarLemmas.{tables_right}
 

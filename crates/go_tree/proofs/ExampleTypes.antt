@@ -6,7 +6,7 @@ use Rattle.go_tree.specs.declared.token.TokenKind.TheVariants.{Ident, Int, Text,
 use Rattle.go_tree.specs.declared.node_kind.NodeKind.TheVariants as k
 use Rattle.go_tree.specs.declared.production.Production.TheVariants.{File}
 use Rattle.go_tree.specs.Tree.{Tree}
-use Rattle.go_tree.specs.Grammar.Sentence.{Derives, IsSentence}
+use Rattle.go_tree.specs.Grammar.Trees.Sentence.{Derives, IsSentence}
 use Rattle.go_tree.proofs.ExampleLemmas.{at, node, leaf, derives, refused}
 
 -- package p

@@ -9,11 +9,11 @@ use Rattle.go_tree.specs.declared.production.Production.{Production}
 use Rattle.go_tree.specs.declared.production.Production.TheVariants as p
 use Rattle.go_tree.specs.Tree.{Tree, start_of, trees_of}
 use Rattle.go_tree.specs.Grammar.RightSide.{RightSide, Call, Nothing, Seq, Or, Many}
-use Rattle.go_tree.specs.Grammar.Reading.{State, OpenNode, at_end, does, calls, nothing, in_turn, left, right, done, again, node_read}
-use Rattle.go_tree.specs.Grammar.TypeTrees.{is_type_name, is_type, all_types}
+use Rattle.go_tree.specs.Grammar.Trees.Reading.{State, OpenNode, at_end, does, calls, nothing, in_turn, left, right, done, again, node_read}
+use Rattle.go_tree.specs.Grammar.Trees.TypeTrees.{is_type_name, is_type, all_types}
 use Rattle.go_tree.specs.Grammar.Words.{◌•◌, ◌or◌, tok, the, opt, many, close, extend}
 use Rattle.go_tree.specs.Grammar.Expressions.{dot, index, slice_bounds, call}
-use Rattle.go_tree.specs.Grammar.Sentence.{production, ReadsGo}
+use Rattle.go_tree.specs.Grammar.Trees.Sentence.{production, ReadsGo}
 use Rattle.go_tree.proofs.ReadingLemmas.{split, join, in_turn_of}
 use Rattle.go_tree.proofs.NetEffects.{any_sort, no_type, Is, flow, stack}
 use Rattle.go_tree.proofs.NetEffectLemmas.{with_parts, any_tree}

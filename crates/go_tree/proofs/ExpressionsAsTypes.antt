@@ -7,12 +7,12 @@ use Rattle.go_tree.specs.declared.production.Production.{Production}
 use Rattle.go_tree.specs.declared.production.Production.TheVariants as p
 use Rattle.go_tree.specs.Tree.{Tree, kind_of, parts_of}
 use Rattle.go_tree.specs.Grammar.RightSide.{RightSide, Call, Nothing, When, Pass, OneOf}
-use Rattle.go_tree.specs.Grammar.Reading.{State, OpenNode, at_end, does, calls, nothing, in_turn, left, right, done, again, chosen, passed_by, looks, next_start, node_read, ends_in_type, tree_read}
-use Rattle.go_tree.specs.Grammar.TypeTrees.{is_name, is_type_name, is_type, all_types}
+use Rattle.go_tree.specs.Grammar.Trees.Reading.{State, OpenNode, at_end, does, calls, nothing, in_turn, left, right, done, again, chosen, passed_by, looks, next_start, node_read, ends_in_type, tree_read}
+use Rattle.go_tree.specs.Grammar.Trees.TypeTrees.{is_name, is_type_name, is_type, all_types}
 use Rattle.go_tree.specs.Grammar.Words.{◌•◌, ◌or◌, tok, the, opt, many, close, node}
 use Rattle.go_tree.specs.Grammar.Expressions.{index, call, literal}
 use Rattle.go_tree.specs.Grammar.Types.{type_name_rest}
-use Rattle.go_tree.specs.Grammar.Sentence.{production, ReadsGo}
+use Rattle.go_tree.specs.Grammar.Trees.Sentence.{production, ReadsGo}
 use Rattle.go_tree.proofs.ReadingLemmas.{split, join}
 use Rattle.go_tree.proofs.NetEffects.{TypeLiteral, ChanLiteral, ByParts, Sorts, sorts, has, sort_of, any_sort, no_type, nameless, only, flow, stack}
 use Rattle.go_tree.proofs.NetEffectLemmas.{with_parts, any_tree}

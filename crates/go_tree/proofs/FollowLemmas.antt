@@ -3,9 +3,9 @@ use Rattle.std.proofs.Common.{◌≡◌, ℕ, Bool, true, false, List, [], ◌�
 use Rattle.go_tree.specs.declared.token.Token.{Token}
 use Rattle.go_tree.specs.declared.token.TokenKind.{TokenKind}
 use Rattle.go_tree.specs.Grammar.RightSide.{RightSide, Do, Act, Pass, Open, Reopen, Adopt, CheckType, Close}
-use Rattle.go_tree.specs.Grammar.TokenKinds.{same_kind, code}
-use Rattle.go_tree.specs.Grammar.Reading.{State, OpenNode, Reads, at_end, does, calls, nothing, in_turn, left, right, done, again, chosen, passed_by, acted, passed, reopen, adopt, close_last, next_start, ends_in_type}
-use Rattle.go_tree.specs.Grammar.Prediction.{Tables, is_empty, begins, starts, AllDecided, AreRight}
+use Rattle.go_tree.specs.Grammar.Tables.TokenKinds.{same_kind, code}
+use Rattle.go_tree.specs.Grammar.Trees.Reading.{State, OpenNode, Reads, at_end, does, calls, nothing, in_turn, left, right, done, again, chosen, passed_by, acted, passed, reopen, adopt, close_last, next_start, ends_in_type}
+use Rattle.go_tree.specs.Grammar.Tables.Prediction.{Tables, is_empty, begins, starts, AllDecided, AreRight}
 use Rattle.go_tree.proofs.PredictionLemmas.{first_token, call_decided, open_act}
 use Rattle.go_tree.proofs.ReadingLemmas.{join}
 use Rattle.go_tree.proofs.TruthLemmas.{begins_so, later_starts}

@@ -5,12 +5,12 @@ use Rattle.go_tree.specs.declared.production.Production.{Production}
 use Rattle.go_tree.specs.declared.production.Production.TheVariants as p
 use Rattle.go_tree.specs.declared.node_kind.NodeKind.TheVariants as k
 use Rattle.go_tree.specs.Tree.{Tree}
-use Rattle.go_tree.specs.Grammar.Reading.{OpenNode, State, Reads, before, node_read}
+use Rattle.go_tree.specs.Grammar.Trees.Reading.{OpenNode, State, Reads, before, node_read}
 use Rattle.go_tree.specs.Grammar.RightSide.{RightSide, Call, Nothing, Seq}
-use Rattle.go_tree.specs.Grammar.Completion.{completion, tokens_of}
-use Rattle.go_tree.specs.Grammar.Rank.{top_rank}
-use Rattle.go_tree.specs.Grammar.Fronts.{Passes}
-use Rattle.go_tree.specs.Grammar.Sentence.{production, texts, is_whole, IsA, Derives, Begins}
+use Rattle.go_tree.specs.Grammar.Tables.Completion.{completion, tokens_of}
+use Rattle.go_tree.specs.Grammar.Tables.Rank.{top_rank}
+use Rattle.go_tree.specs.Grammar.Trees.Fronts.{Passes}
+use Rattle.go_tree.specs.Grammar.Trees.Sentence.{production, texts, is_whole, IsA, Derives, Begins}
 use Rattle.go_tree.proofs.SentenceLemmas.{front_lem}
 use Rattle.go_tree.proofs.ShapeLemmas.{Shape, flow, leaves_node}
 use Rattle.go_tree.proofs.BalanceLemmas.{has_node, one_node}

@@ -9,10 +9,10 @@ use Rattle.go_tree.specs.declared.production.Production.TheVariants.{Block, Stmt
 use Rattle.go_tree.specs.Height.{counted, height_of, Passing}
 use Rattle.go_tree.specs.Grammar.RightSide.{RightSide, Do, Call, Act, Pass, Open, Close}
 use Rattle.go_tree.specs.Grammar.Words.{◌•◌, tok, opt, the, many, semi, open_node, close}
-use Rattle.go_tree.specs.Grammar.Reading.{State, before, at_end, does, calls, acted}
-use Rattle.go_tree.specs.Grammar.Sentence.{production, ReadsGo, IsA}
+use Rattle.go_tree.specs.Grammar.Trees.Reading.{State, before, at_end, does, calls, acted}
+use Rattle.go_tree.specs.Grammar.Trees.Sentence.{production, ReadsGo, IsA}
 use Rattle.go_tree.proofs.ReadingLemmas.{split, in_turn_of}
-use Rattle.go_tree.specs.Grammar.Brackets.{through_all, standing}
+use Rattle.go_tree.specs.Grammar.Tables.Brackets.{through_all, standing}
 use Rattle.go_tree.proofs.GrammarBrackets.{brackets_expand}
 use Rattle.go_tree.proofs.NestingLemmas.{behind_tokens, tokens_joined, passed_token, nested}
 use Rattle.go_tree.proofs.EnclosedHeights.{InBraces, braces_counted, braces_heights}

@@ -3,10 +3,10 @@ use Rattle.std.proofs.Common.{◌≡◌, ℕ, true, false, List, [], ◌∷◌, 
 use Rattle.go_tree.specs.declared.token.Token.{Token}
 use Rattle.go_tree.specs.declared.production.Production.{Production}
 use Rattle.go_tree.specs.Grammar.RightSide.{RightSide, Call}
-use Rattle.go_tree.specs.Grammar.Prediction.{expand}
-use Rattle.go_tree.specs.Grammar.Sentence.{production, tables, can_be_empty}
+use Rattle.go_tree.specs.Grammar.Tables.Prediction.{expand}
+use Rattle.go_tree.specs.Grammar.Trees.Sentence.{production, tables, can_be_empty}
 use Rattle.go_tree.proofs.EmptyLemmas.{series_empty}
-use Rattle.go_tree.specs.Grammar.Brackets.{Level, through_all, standing}
+use Rattle.go_tree.specs.Grammar.Tables.Brackets.{Level, through_all, standing}
 use Rattle.go_tree.proofs.BracketLemmas.{Keeps, is_closing, through_expand, empty_level, level_start}
 use Rattle.go_tree.proofs.ByProduction.{by_production}
 use Rattle.std.specs.Bool.{MatchBool}

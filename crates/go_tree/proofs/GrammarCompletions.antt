@@ -7,11 +7,11 @@ use Rattle.go_tree.specs.declared.token.TokenKind.TheVariants.{LeftBrace, RightB
 use Rattle.go_tree.specs.declared.production.Production.{Production}
 use Rattle.go_tree.specs.declared.production.Production.TheVariants.{Block}
 use Rattle.go_tree.specs.Grammar.RightSide.{RightSide, Call, When, Both}
-use Rattle.go_tree.specs.Grammar.TokenKinds.{same_kind}
-use Rattle.go_tree.specs.Grammar.Reading.{State, OpenNode}
-use Rattle.go_tree.specs.Grammar.Completion.{Firm, spell, is_there, if_begun, text_or_none, completion, tokens_of}
-use Rattle.go_tree.specs.Grammar.Rank.{top_rank}
-use Rattle.go_tree.specs.Grammar.Sentence.{production, texts, ReadsGo}
+use Rattle.go_tree.specs.Grammar.Tables.TokenKinds.{same_kind}
+use Rattle.go_tree.specs.Grammar.Trees.Reading.{State, OpenNode}
+use Rattle.go_tree.specs.Grammar.Tables.Completion.{Firm, spell, is_there, if_begun, text_or_none, completion, tokens_of}
+use Rattle.go_tree.specs.Grammar.Tables.Rank.{top_rank}
+use Rattle.go_tree.specs.Grammar.Trees.Sentence.{production, texts, ReadsGo}
 use Rattle.go_tree.proofs.CompletionLemmas.{AreOf, tokens_are, same_both, firm_completes_by, text_completes_by}
 use Rattle.go_tree.proofs.GrammarLemmas.{texts_right}
 

@@ -1,11 +1,11 @@
 -- One token decides in the grammar, and whatever is open can be completed: by computation.
 use Rattle.std.proofs.Common.{◌≡◌, true, refl, Some}
 use Rattle.go_tree.specs.declared.production.Production.{Production}
-use Rattle.go_tree.specs.Grammar.Prediction.{AreRight}
-use Rattle.go_tree.specs.Grammar.Completion.{spell, holds, HaveTexts}
-use Rattle.go_tree.specs.Grammar.Sentence.{production, tables, texts}
-use Rattle.go_tree.specs.Grammar.Brief.{brief}
-use Rattle.go_tree.specs.Grammar.Rank.{rank, top_rank}
+use Rattle.go_tree.specs.Grammar.Tables.Prediction.{AreRight}
+use Rattle.go_tree.specs.Grammar.Tables.Completion.{spell, holds, HaveTexts}
+use Rattle.go_tree.specs.Grammar.Trees.Sentence.{production, tables, texts}
+use Rattle.go_tree.specs.Grammar.Tables.Brief.{brief}
+use Rattle.go_tree.specs.Grammar.Tables.Rank.{rank, top_rank}
 use Rattle.go_tree.proofs.DecidedTests.{right_at}
 use Rattle.go_tree.proofs.DecidedLemmas.{are_right}
 use Rattle.go_tree.proofs.ByProduction.{by_production, by_test}

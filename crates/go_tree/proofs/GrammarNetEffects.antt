@@ -4,8 +4,8 @@ use Rattle.go_tree.specs.declared.production.Production.{Production}
 use Rattle.go_tree.specs.declared.production.Production.TheVariants as p
 use Rattle.go_tree.specs.Tree.{Tree}
 use Rattle.go_tree.specs.Grammar.RightSide.{RightSide}
-use Rattle.go_tree.specs.Grammar.Reading.{OpenNode, State}
-use Rattle.go_tree.specs.Grammar.Sentence.{production, ReadsGo}
+use Rattle.go_tree.specs.Grammar.Trees.Reading.{OpenNode, State}
+use Rattle.go_tree.specs.Grammar.Trees.Sentence.{production, ReadsGo}
 use Rattle.go_tree.proofs.ShapeLemmas.{HasPart}
 use Rattle.go_tree.proofs.NetEffects.{Named, ByParts, ChanLiteral, TypeLiteral, Sorts, sorts, any_sort, nameless, no_type, only, Is, Effect, Adds, Turns, Fills, stack, flow, entry, has_effect}
 use Rattle.go_tree.proofs.NetEffectLemmas.{FitsShape, with_parts, standing}

@@ -6,9 +6,9 @@ use Rattle.go_tree.specs.declared.production.Production.TheVariants as p
 use Rattle.go_tree.specs.declared.node_kind.NodeKind.TheVariants as k
 use Rattle.go_tree.specs.Tree.{Tree}
 use Rattle.go_tree.specs.Grammar.RightSide.{Do, Seq, Close}
-use Rattle.go_tree.specs.Grammar.Reading.{node_read, next_start, tree_read}
-use Rattle.go_tree.specs.Grammar.Sentence.{production, tables, Derives}
-use Rattle.go_tree.specs.Grammar.Spans.{HasSpans, HasRun}
+use Rattle.go_tree.specs.Grammar.Trees.Reading.{node_read, next_start, tree_read}
+use Rattle.go_tree.specs.Grammar.Trees.Sentence.{production, tables, Derives}
+use Rattle.go_tree.specs.Grammar.Trees.Spans.{HasSpans, HasRun}
 use Rattle.go_tree.proofs.DecidedTests.{implied}
 use Rattle.go_tree.proofs.GrammarLemmas.{tables_right}
 use Rattle.go_tree.proofs.SpanActLemmas.{ends_early, has_tokens}

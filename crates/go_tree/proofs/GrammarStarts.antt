@@ -5,8 +5,8 @@ use Rattle.go_tree.specs.declared.token.Token.{Token}
 use Rattle.go_tree.specs.declared.token.TokenKind.{TokenKind}
 use Rattle.go_tree.specs.declared.production.Production.{Production}
 use Rattle.go_tree.specs.Grammar.RightSide.{RightSide}
-use Rattle.go_tree.specs.Grammar.Prediction.{begins, is_empty, starts, expand}
-use Rattle.go_tree.specs.Grammar.Sentence.{production, tables}
+use Rattle.go_tree.specs.Grammar.Tables.Prediction.{begins, is_empty, starts, expand}
+use Rattle.go_tree.specs.Grammar.Trees.Sentence.{production, tables}
 use Rattle.go_tree.proofs.DecidedTests.{each_kind}
 use Rattle.go_tree.proofs.DecidedLemmas.{every_kind}
 use Rattle.go_tree.proofs.StartLemmas.{AreExact, whens_begin, all_begin, IsSure, expand_starts_same, expand_begin}

@@ -3,7 +3,7 @@ use Rattle.std.proofs.Common.{◌≡◌, true, List, [], ◌∷◌, refl}
 use Rattle.go_tree.specs.declared.token.TokenKind.{TokenKind}
 use Rattle.go_tree.specs.declared.token.TokenKind.TheVariants.{Arrow, Dot}
 use Rattle.go_tree.specs.declared.production.Production.{Production}
-use Rattle.go_tree.specs.Grammar.Sentence.{production}
+use Rattle.go_tree.specs.Grammar.Trees.Sentence.{production}
 use Rattle.go_tree.proofs.GrammarBalance.{needs}
 use Rattle.go_tree.proofs.StayLemmas.{stays, is_node}
 use Rattle.go_tree.proofs.ByProduction.{by_test}

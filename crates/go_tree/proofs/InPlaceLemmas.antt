@@ -6,8 +6,8 @@ use Rattle.go_tree.specs.declared.token.TokenKind.{TokenKind}
 use Rattle.go_tree.specs.declared.node_kind.NodeKind.{NodeKind}
 use Rattle.go_tree.specs.Tree.{Tree, start_of}
 use Rattle.go_tree.specs.Grammar.RightSide.{RightSide, Act, Pass, Open, Reopen, Adopt, CheckType, Close, Ahead, OneOf, Both}
-use Rattle.go_tree.specs.Grammar.TokenKinds.{same_kind, is_in, code}
-use Rattle.go_tree.specs.Grammar.Reading.{State, OpenNode, Reads, at_end, does, calls, nothing, in_turn, left, right, done, again, chosen, passed_by, acted, passed, looks, next_start, reopened, reopen, adopted, adopt, close_last, node_read, ends_in_type}
+use Rattle.go_tree.specs.Grammar.Tables.TokenKinds.{same_kind, is_in, code}
+use Rattle.go_tree.specs.Grammar.Trees.Reading.{State, OpenNode, Reads, at_end, does, calls, nothing, in_turn, left, right, done, again, chosen, passed_by, acted, passed, looks, next_start, reopened, reopen, adopted, adopt, close_last, node_read, ends_in_type}
 use Rattle.go_tree.proofs.ShapeLemmas.{Shape, Fits, fits_covered}
 use Rattle.go_tree.proofs.StayLemmas.{act_stays, settles, stays, is_node, AllStay, stay_covered, call_stays, left_stays, right_stays, when_stays, done_stays, again_stays, turn_stays}
 use Rattle.go_tree.proofs.FollowLemmas.{act_earlier, earlier}

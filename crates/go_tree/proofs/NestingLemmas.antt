@@ -6,9 +6,9 @@ use Rattle.go_tree.specs.declared.token.Token.{Token}
 use Rattle.go_tree.specs.declared.token.TokenKind.{TokenKind}
 use Rattle.go_tree.specs.declared.token.TokenKind.TheVariants.{Ident}
 use Rattle.go_tree.specs.Grammar.RightSide.{RightSide, Do, Call, Seq, Or, Many, When, Act, Pass, Open, Reopen, Adopt, CheckType, Close}
-use Rattle.go_tree.specs.Grammar.TokenKinds.{code, same_kind, all_kinds}
-use Rattle.go_tree.specs.Grammar.Reading.{State, OpenNode, Reads, at_end, does, calls, nothing, in_turn, left, right, done, again, chosen, passed_by, acted, passed, ends_in_type}
-use Rattle.go_tree.specs.Grammar.Brackets.{Standing, behind_token, then_through, through, through_all}
+use Rattle.go_tree.specs.Grammar.Tables.TokenKinds.{code, same_kind, all_kinds}
+use Rattle.go_tree.specs.Grammar.Trees.Reading.{State, OpenNode, Reads, at_end, does, calls, nothing, in_turn, left, right, done, again, chosen, passed_by, acted, passed, ends_in_type}
+use Rattle.go_tree.specs.Grammar.Tables.Brackets.{Standing, behind_token, then_through, through, through_all}
 use Rattle.go_tree.proofs.BracketLemmas.{through_parts, agreed_parts, same_through, through_act, through_pass}
 
 -- how many brackets are open behind these tokens, where l are before them; none where one closes that is

@@ -4,7 +4,7 @@ use Rattle.std.proofs.lemmas.Bool.{and_parts, or_left, or_right}
 use Rattle.go_tree.specs.declared.node_kind.NodeKind.{NodeKind}
 use Rattle.go_tree.specs.Tree.{Tree, kind_of, start_of}
 use Rattle.go_tree.specs.Grammar.RightSide.{Open, Reopen, Adopt, CheckType, Close}
-use Rattle.go_tree.specs.Grammar.Reading.{OpenNode, reopen, adopt, close_last, node_read, ends_in_type}
+use Rattle.go_tree.specs.Grammar.Trees.Reading.{OpenNode, reopen, adopt, close_last, node_read, ends_in_type}
 use Rattle.go_tree.proofs.ShapeLemmas.{Fits, HasPart, meet, covers, fits_covered, fits_left, fits_right, some_part}
 use Rattle.go_tree.proofs.DecidedTests.{implied}
 use Rattle.go_tree.proofs.NetEffects.{Sort, Named, ByParts, ChanLiteral, TypeLiteral, Other, sort_of, Sorts, sorts, has, any_sort, only, Is, join_sorts, within, Shape, stack, flow_act, join_parts, parts_within, stacked, joined, join_both, settles, if_settled, settled_by, repeated_flow, then_flow}

@@ -5,8 +5,8 @@ use Rattle.go_tree.specs.declared.token.TokenKind.{TokenKind}
 use Rattle.go_tree.specs.declared.node_kind.NodeKind.{NodeKind}
 use Rattle.go_tree.specs.Tree.{Tree, start_of}
 use Rattle.go_tree.specs.Grammar.RightSide.{RightSide, Do, Call, Seq, Act, Pass, Open, Reopen, Adopt, CheckType, Close}
-use Rattle.go_tree.specs.Grammar.TokenKinds.{same_kind}
-use Rattle.go_tree.specs.Grammar.Reading.{State, OpenNode, Reads, at_end, does, calls, nothing, in_turn, left, right, done, again, chosen, passed_by, acted, passed, next_start, reopened, reopen, adopted, adopt, close_last, node_read, ends_in_type, before}
+use Rattle.go_tree.specs.Grammar.Tables.TokenKinds.{same_kind}
+use Rattle.go_tree.specs.Grammar.Trees.Reading.{State, OpenNode, Reads, at_end, does, calls, nothing, in_turn, left, right, done, again, chosen, passed_by, acted, passed, next_start, reopened, reopen, adopted, adopt, close_last, node_read, ends_in_type, before}
 use Rattle.go_tree.proofs.ReadingLemmas.{in_turn_of}
 
 -- the oldest of these parts starts there

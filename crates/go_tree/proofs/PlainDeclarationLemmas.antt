@@ -8,13 +8,13 @@ use Rattle.go_tree.specs.declared.production.Items.TheVariants.{TypeParamGroups}
 use Rattle.go_tree.specs.declared.production.Production.{Production}
 use Rattle.go_tree.specs.declared.production.Production.TheVariants as p
 use Rattle.go_tree.specs.Grammar.RightSide.{RightSide, Do, Seq, Act, Pass, Open, Reopen, Close}
-use Rattle.go_tree.specs.Grammar.TokenKinds.{same_kind}
+use Rattle.go_tree.specs.Grammar.Tables.TokenKinds.{same_kind}
 use Rattle.go_tree.specs.Grammar.Words.{◌•◌, ◌or◌, tok, the, opt, many, open_node, reopen_last, close}
 use Rattle.go_tree.specs.Grammar.Declarations.{array_spec}
-use Rattle.go_tree.specs.Grammar.Reading.{State, OpenNode, calls, in_turn, does, acted, passed, next_start, node_read}
-use Rattle.go_tree.specs.Grammar.Sentence.{production, ReadsGo}
-use Rattle.go_tree.specs.Grammar.PlainDeclarations.{plain_type_spec}
-use Rattle.go_tree.specs.Grammar.PlainLines.{ReadsSame}
+use Rattle.go_tree.specs.Grammar.Trees.Reading.{State, OpenNode, calls, in_turn, does, acted, passed, next_start, node_read}
+use Rattle.go_tree.specs.Grammar.Trees.Sentence.{production, ReadsGo}
+use Rattle.go_tree.specs.Grammar.Plain.Declarations.{plain_type_spec}
+use Rattle.go_tree.specs.Grammar.Plain.Lines.{ReadsSame}
 use Rattle.go_tree.proofs.ReadingLemmas.{split, join, in_turn_of}
 use Rattle.go_tree.proofs.PlainLemmas.{same_alternatives}
 use Rattle.go_tree.proofs.SameReadingLemmas.{same_refl, same_trans, same_call, same_then, same_or, passes_keep}

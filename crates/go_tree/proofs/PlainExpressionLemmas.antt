@@ -9,9 +9,9 @@ use Rattle.go_tree.specs.declared.production.Production.TheVariants as p
 use Rattle.go_tree.specs.Grammar.RightSide.{RightSide, Nothing}
 use Rattle.go_tree.specs.Grammar.Words.{◌•◌, ◌or◌, tok, the, opt, many, reopen_last, close}
 use Rattle.go_tree.specs.Grammar.Expressions.{call, literal, dot, index, prefixed}
-use Rattle.go_tree.specs.Grammar.Sentence.{production}
-use Rattle.go_tree.specs.Grammar.PlainExpressions.{plain_selector, plain_index, plain_call, plain_suffix, plain_after_name, plain_after_selector, plain_after_index, plain_unary, plain_call_or_dot}
-use Rattle.go_tree.specs.Grammar.PlainLines.{ReadsSame}
+use Rattle.go_tree.specs.Grammar.Trees.Sentence.{production}
+use Rattle.go_tree.specs.Grammar.Plain.Expressions.{plain_selector, plain_index, plain_call, plain_suffix, plain_after_name, plain_after_selector, plain_after_index, plain_unary, plain_call_or_dot}
+use Rattle.go_tree.specs.Grammar.Plain.Lines.{ReadsSame}
 use Rattle.go_tree.proofs.PlainLemmas.{same_alternatives}
 use Rattle.go_tree.proofs.SameReadingLemmas.{same_refl, same_sym, same_trans, same_call, same_first, same_then, same_or, opt_many, token_passes, first_passes, repeats}
 

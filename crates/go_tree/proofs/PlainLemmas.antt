@@ -1,7 +1,7 @@
 -- Right sides by their alternatives: two with the same alternatives read the same.
 use Rattle.std.proofs.Common.{◌≡◌, ℕ, zero, suc, Bool, true, false, List, [], ◌∷◌, ◌++◌, refl, sym, subst, Option, None, Some, map, append_assoc, ◌↔◌, ◌⊎◌, inl, inr}
 use Rattle.go_tree.specs.Grammar.RightSide.{RightSide, Do, Call, Nothing, Seq, Or, Many, When}
-use Rattle.go_tree.specs.Grammar.Reading.{State, Reads, calls, nothing, in_turn, left, right}
+use Rattle.go_tree.specs.Grammar.Trees.Reading.{State, Reads, calls, nothing, in_turn, left, right}
 use Rattle.go_tree.proofs.ReadingLemmas.{split, join}
 
 abbrev each_with : {X : Type 0} → List X → List (List X) → List (List X)

@@ -2,12 +2,12 @@
 use Rattle.std.proofs.Common.{ℕ, Bool, true, false, [], ◌∷◌, refl, ◌==◌}
 use Rattle.go_tree.specs.declared.production.Production.{Production}
 use Rattle.go_tree.specs.declared.production.Production.TheVariants as p
-use Rattle.go_tree.specs.Grammar.Sentence.{production}
-use Rattle.go_tree.specs.Grammar.PlainDeclarations.{plain_import, plain_top, plain_decl}
-use Rattle.go_tree.specs.Grammar.PlainTypes.{plain_bracket_type, plain_elem}
-use Rattle.go_tree.specs.Grammar.PlainExpressions.{plain_element}
-use Rattle.go_tree.specs.Grammar.PlainStatements.{plain_stmt, plain_simple, plain_if, plain_for}
-use Rattle.go_tree.specs.Grammar.PlainLines.{ReadPlainLines}
+use Rattle.go_tree.specs.Grammar.Trees.Sentence.{production}
+use Rattle.go_tree.specs.Grammar.Plain.Declarations.{plain_import, plain_top, plain_decl}
+use Rattle.go_tree.specs.Grammar.Plain.Types.{plain_bracket_type, plain_elem}
+use Rattle.go_tree.specs.Grammar.Plain.Expressions.{plain_element}
+use Rattle.go_tree.specs.Grammar.Plain.Statements.{plain_stmt, plain_simple, plain_if, plain_for}
+use Rattle.go_tree.specs.Grammar.Plain.Lines.{ReadPlainLines}
 use Rattle.go_tree.proofs.PlainLemmas.{same_alternatives}
 use Rattle.go_tree.proofs.PlainListLemmas.{plain_rest_lem, plain_items_lem}
 use Rattle.go_tree.proofs.PlainDeclarationLemmas.{plain_type_spec_lem}

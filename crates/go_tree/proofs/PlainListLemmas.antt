@@ -7,10 +7,10 @@ use Rattle.go_tree.specs.declared.production.Production.{Production}
 use Rattle.go_tree.specs.declared.production.Production.TheVariants as p
 use Rattle.go_tree.specs.Grammar.RightSide.{RightSide, Nothing, Seq, Or}
 use Rattle.go_tree.specs.Grammar.Words.{◌•◌, ◌or◌, tok, the, opt, semi, separator, item, items}
-use Rattle.go_tree.specs.Grammar.Reading.{State, nothing, in_turn, left, right}
-use Rattle.go_tree.specs.Grammar.Sentence.{production, ReadsGo}
-use Rattle.go_tree.specs.Grammar.PlainLists.{plain_rest, plain_items}
-use Rattle.go_tree.specs.Grammar.PlainLines.{ReadsSame}
+use Rattle.go_tree.specs.Grammar.Trees.Reading.{State, nothing, in_turn, left, right}
+use Rattle.go_tree.specs.Grammar.Trees.Sentence.{production, ReadsGo}
+use Rattle.go_tree.specs.Grammar.Plain.Lists.{plain_rest, plain_items}
+use Rattle.go_tree.specs.Grammar.Plain.Lines.{ReadsSame}
 use Rattle.go_tree.proofs.ReadingLemmas.{split, join}
 use Rattle.go_tree.proofs.SameReadingLemmas.{PassesToken, same_refl, same_trans, same_call, same_then, same_or, token_passes, first_passes, both_pass, repeats}
 

@@ -10,9 +10,9 @@ use Rattle.go_tree.specs.declared.production.Production.TheVariants as p
 use Rattle.go_tree.specs.Grammar.RightSide.{RightSide, Nothing}
 use Rattle.go_tree.specs.Grammar.Words.{◌•◌, ◌or◌, tok, the, opt, open_node, close, node, semi}
 use Rattle.go_tree.specs.Grammar.Statements.{case_of, clause_kind, init_end}
-use Rattle.go_tree.specs.Grammar.Sentence.{production}
-use Rattle.go_tree.specs.Grammar.PlainStatements.{ended_statements, clause, plain_clauses, plain_switch, plain_select}
-use Rattle.go_tree.specs.Grammar.PlainLines.{ReadsSame}
+use Rattle.go_tree.specs.Grammar.Trees.Sentence.{production}
+use Rattle.go_tree.specs.Grammar.Plain.Statements.{ended_statements, clause, plain_clauses, plain_switch, plain_select}
+use Rattle.go_tree.specs.Grammar.Plain.Lines.{ReadsSame}
 use Rattle.go_tree.proofs.PlainLemmas.{same_alternatives}
 use Rattle.go_tree.proofs.SameReadingLemmas.{PassesToken, same_refl, same_trans, same_call, same_first, same_then, same_or, token_passes, first_passes, second_passes, both_pass, repeats}
 

@@ -7,9 +7,9 @@ use Rattle.go_tree.specs.declared.production.Production.TheVariants as p
 use Rattle.go_tree.specs.Grammar.RightSide.{RightSide}
 use Rattle.go_tree.specs.Grammar.Words.{◌•◌, ◌or◌, tok, the, many, open_node, close, node}
 use Rattle.go_tree.specs.Grammar.Types.{tag, selector_type}
-use Rattle.go_tree.specs.Grammar.Sentence.{production}
-use Rattle.go_tree.specs.Grammar.PlainTypes.{named_type, plain_param, plain_field}
-use Rattle.go_tree.specs.Grammar.PlainLines.{ReadsSame}
+use Rattle.go_tree.specs.Grammar.Trees.Sentence.{production}
+use Rattle.go_tree.specs.Grammar.Plain.Types.{named_type, plain_param, plain_field}
+use Rattle.go_tree.specs.Grammar.Plain.Lines.{ReadsSame}
 use Rattle.go_tree.proofs.PlainLemmas.{same_alternatives}
 use Rattle.go_tree.proofs.SameReadingLemmas.{same_refl, same_sym, same_trans, same_call, same_first, same_then, same_or, many_then}
 use Rattle.go_tree.proofs.TypeArgumentLemmas.{factored_args_of_name, args_in_node_lem}

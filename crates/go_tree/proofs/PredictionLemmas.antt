@@ -4,9 +4,9 @@ use Rattle.std.proofs.lemmas.Bool.{and_parts, or_left, or_right}
 use Rattle.go_tree.specs.declared.token.Token.{Token}
 use Rattle.go_tree.specs.declared.token.TokenKind.{TokenKind}
 use Rattle.go_tree.specs.Grammar.RightSide.{RightSide, Do, Call, Nothing, Seq, Or, Many, When, Act, Pass, Open, Reopen, Adopt, CheckType, Close, Ahead, OneOf, Both}
-use Rattle.go_tree.specs.Grammar.Reading.{State, OpenNode, Reads, at_end, does, calls, nothing, in_turn, left, right, done, again, chosen, passed_by, looks, acted, passed}
-use Rattle.go_tree.specs.Grammar.TokenKinds.{same_kind}
-use Rattle.go_tree.specs.Grammar.Prediction.{Tables, may_look, may_miss, is_empty, begins, next_of, starts, Decided, AllDecided, AreRight, expand}
+use Rattle.go_tree.specs.Grammar.Trees.Reading.{State, OpenNode, Reads, at_end, does, calls, nothing, in_turn, left, right, done, again, chosen, passed_by, looks, acted, passed}
+use Rattle.go_tree.specs.Grammar.Tables.TokenKinds.{same_kind}
+use Rattle.go_tree.specs.Grammar.Tables.Prediction.{Tables, may_look, may_miss, is_empty, begins, next_of, starts, Decided, AllDecided, AreRight, expand}
 use Rattle.go_tree.proofs.EmptyLemmas.{series_empty, rest_kept, empty_read}
 use Rattle.go_tree.proofs.TruthLemmas.{again_starts, begins_so, call_starts, chosen_starts, left_starts, passed_by_starts, right_starts, seq_starts}
 

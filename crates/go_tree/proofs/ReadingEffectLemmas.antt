@@ -5,8 +5,8 @@ use Rattle.go_tree.specs.declared.token.Token.{Token}
 use Rattle.go_tree.specs.declared.token.TokenKind.{TokenKind}
 use Rattle.go_tree.specs.Tree.{Tree}
 use Rattle.go_tree.specs.Grammar.RightSide.{RightSide, Do, Call, Nothing, Seq, Or, Many, When, Act, Pass, Open, Reopen, Adopt, CheckType, Close}
-use Rattle.go_tree.specs.Grammar.TokenKinds.{same_kind}
-use Rattle.go_tree.specs.Grammar.Reading.{State, OpenNode, Reads, at_end, does, calls, nothing, in_turn, left, right, done, again, chosen, passed_by, acted, passed, next_start, reopen, adopt, close_last, ends_in_type}
+use Rattle.go_tree.specs.Grammar.Tables.TokenKinds.{same_kind}
+use Rattle.go_tree.specs.Grammar.Trees.Reading.{State, OpenNode, Reads, at_end, does, calls, nothing, in_turn, left, right, done, again, chosen, passed_by, acted, passed, next_start, reopen, adopt, close_last, ends_in_type}
 use Rattle.go_tree.proofs.ReadingLemmas.{join}
 use Rattle.go_tree.proofs.ShapeLemmas.{Fits, HasPart, take_needed, parted}
 use Rattle.go_tree.proofs.BalanceLemmas.{ReadsIn, at_end_in, does_in, calls_in, nothing_in, in_turn_in, left_in, right_in, done_in, again_in, chosen_in, passed_by_in, counted, Both_parts, parts_of_reading, takes_steps}

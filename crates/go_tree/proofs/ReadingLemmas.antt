@@ -1,7 +1,7 @@
 -- Reading in two parts.
 use Rattle.std.proofs.Common.{ℕ, ◌≡◌, List, [], ◌∷◌, ◌++◌, subst, ap}
 use Rattle.go_tree.specs.Grammar.RightSide.{RightSide, Do, Call, Nothing, Seq, Or, Many, When}
-use Rattle.go_tree.specs.Grammar.Reading.{State, Reads, at_end, does, calls, nothing, in_turn, left, right, done, again, chosen, passed_by}
+use Rattle.go_tree.specs.Grammar.Trees.Reading.{State, Reads, at_end, does, calls, nothing, in_turn, left, right, done, again, chosen, passed_by}
 
 module _ (N : Type 0) (P : N → RightSide N) (bytes : List ℕ) where
   pub split : {all : List (RightSide N)} {s e : State} → Reads N P bytes all s e → (pre A : List (RightSide N)) → all ≡ pre ++ A → (m : State) × Reads N P bytes pre s m × Reads N P bytes A m e

@@ -6,10 +6,10 @@ use Rattle.go_tree.specs.declared.token.TokenKind.TheVariants.{Ident, LeftBracke
 use Rattle.go_tree.specs.declared.node_kind.NodeKind.{NodeKind}
 use Rattle.go_tree.specs.declared.production.Production.{Production}
 use Rattle.go_tree.specs.Grammar.RightSide.{RightSide, Do, Act, Pass, Open, Reopen, Adopt, CheckType, Close, OneOf, Both}
-use Rattle.go_tree.specs.Grammar.TokenKinds.{same_kind, is_in}
-use Rattle.go_tree.specs.Grammar.Reading.{State, OpenNode, at_end, does, calls, nothing, in_turn, left, right, done, again, chosen, passed_by, looks, acted, passed, next_start, reopen, close_last, ends_in_type}
+use Rattle.go_tree.specs.Grammar.Tables.TokenKinds.{same_kind, is_in}
+use Rattle.go_tree.specs.Grammar.Trees.Reading.{State, OpenNode, at_end, does, calls, nothing, in_turn, left, right, done, again, chosen, passed_by, looks, acted, passed, next_start, reopen, close_last, ends_in_type}
 use Rattle.go_tree.specs.Grammar.Words.{node, extend}
-use Rattle.go_tree.specs.Grammar.Sentence.{production, ReadsGo}
+use Rattle.go_tree.specs.Grammar.Trees.Sentence.{production, ReadsGo}
 use Rattle.go_tree.proofs.ReadingLemmas.{split, join}
 use Rattle.go_tree.proofs.DecidedTests.{implied, each_kind}
 use Rattle.go_tree.proofs.DecidedLemmas.{every_kind}

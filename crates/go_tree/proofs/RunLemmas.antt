@@ -2,8 +2,8 @@
 use Rattle.std.proofs.Common.{◌≡◌, ℕ, zero, suc, List, [], ◌∷◌, refl, Option, None, Some, subst, sym, ◌∙◌}
 use Rattle.go_tree.specs.declared.token.Token.{Token}
 use Rattle.go_tree.specs.Grammar.RightSide.{RightSide, Do, Act}
-use Rattle.go_tree.specs.Grammar.Reading.{State, Reads, at_end, does, acted}
-use Rattle.go_tree.specs.Grammar.Prediction.{Tables, AreRight, AllDecided, expand}
+use Rattle.go_tree.specs.Grammar.Trees.Reading.{State, Reads, at_end, does, acted}
+use Rattle.go_tree.specs.Grammar.Tables.Prediction.{Tables, AreRight, AllDecided, expand}
 use Rattle.go_tree.proofs.PredictionLemmas.{expand_back, expand_reads, expand_decided, open_act}
 
 -- what came of it: the state at the end, no way on, or too few steps

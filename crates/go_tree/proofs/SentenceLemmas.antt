@@ -6,13 +6,13 @@ use Rattle.go_tree.specs.declared.token.TokenKind.{TokenKind}
 use Rattle.go_tree.specs.declared.production.Production.{Production}
 use Rattle.go_tree.specs.Tree.{Tree}
 use Rattle.go_tree.specs.Grammar.RightSide.{RightSide, Call, Act, Pass, Open, Reopen, Adopt, CheckType, Close, Ahead, OneOf, Both}
-use Rattle.go_tree.specs.Grammar.TokenKinds.{same_kind}
-use Rattle.go_tree.specs.Grammar.Reading.{does, calls, nothing, in_turn, left, right, done, again, chosen, passed_by, State, OpenNode, acted, looks, passed, tree_read, ends_in_type, next_start}
-use Rattle.go_tree.specs.Grammar.Prediction.{AllDecided}
-use Rattle.go_tree.specs.Grammar.Completion.{Firm, Held, spell, holds, is_there, completion, tokens_of}
-use Rattle.go_tree.specs.Grammar.Rank.{rank, top_rank}
-use Rattle.go_tree.specs.Grammar.Sentence.{production, tables, texts, ReadsGo, IsA, Derives}
-use Rattle.go_tree.specs.Grammar.Fronts.{Leads, here, acts, enters, skips, unfolds, takes_left, takes_right, stops, repeats, looks_so, looks_not_so, Settles, CanAct, Passes}
+use Rattle.go_tree.specs.Grammar.Tables.TokenKinds.{same_kind}
+use Rattle.go_tree.specs.Grammar.Trees.Reading.{does, calls, nothing, in_turn, left, right, done, again, chosen, passed_by, State, OpenNode, acted, looks, passed, tree_read, ends_in_type, next_start}
+use Rattle.go_tree.specs.Grammar.Tables.Prediction.{AllDecided}
+use Rattle.go_tree.specs.Grammar.Tables.Completion.{Firm, Held, spell, holds, is_there, completion, tokens_of}
+use Rattle.go_tree.specs.Grammar.Tables.Rank.{rank, top_rank}
+use Rattle.go_tree.specs.Grammar.Trees.Sentence.{production, tables, texts, ReadsGo, IsA, Derives}
+use Rattle.go_tree.specs.Grammar.Trees.Fronts.{Leads, here, acts, enters, skips, unfolds, takes_left, takes_right, stops, repeats, looks_so, looks_not_so, Settles, CanAct, Passes}
 use Rattle.go_tree.proofs.PredictionLemmas.{unique}
 use Rattle.go_tree.proofs.CompletionLemmas.{firm_completes, firm_held}
 use Rattle.go_tree.proofs.GrammarLemmas.{tables_right, texts_right}

@@ -2,7 +2,7 @@
 use Rattle.std.proofs.Common.{◌≡◌, Bool, true, false, List, [], ◌∷◌, ◌++◌, refl, sym, ap, subst, cond, Option, None, Some, ◌&&◌}
 use Rattle.go_tree.specs.Tree.{Tree}
 use Rattle.go_tree.specs.Grammar.RightSide.{RightSide, Do, Call, Nothing, Seq, Or, Many, When, Act, Pass, Open, Reopen, Adopt, CheckType, Close}
-use Rattle.go_tree.specs.Grammar.Reading.{OpenNode}
+use Rattle.go_tree.specs.Grammar.Trees.Reading.{OpenNode}
 
 -- of the innermost open nodes, whether each surely has a part
 abbrev pub Shape : Type 0

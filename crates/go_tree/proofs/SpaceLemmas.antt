@@ -2,9 +2,9 @@
 use Rattle.std.proofs.Common.{◌≡◌, ℕ, zero, suc, ◌+◌, ◌<◌, ◌≤◌, true, List, length, slice_index, Some, ◌⊎◌, refl, arith, sym, ◌∙◌, ⊎_elim}
 use Rattle.std.proofs.lemmas.Bool.{cases_lt, cases_order, false≢true, and_parts}
 use Rattle.std.proofs.lemmas.Bool.Decides.{nat_tests}
-use Rattle.go_tree.specs.Characters.{decoded_at, is_allowed, is_blank, byte_order_mark, Ends}
-use Rattle.go_tree.specs.Comments.{OpensLine, OpensGeneral, Closes, IsOpen, IsLineComment, IsGeneralComment, in_line_comment}
-use Rattle.go_tree.specs.Scan.{Space, blank, line, general, mark, IsFirstNewline}
+use Rattle.go_tree.specs.Lexical.Characters.{decoded_at, is_allowed, is_white_space, byte_order_mark, Ends}
+use Rattle.go_tree.specs.Lexical.Comments.{OpensLine, OpensGeneral, Closes, IsOpen, IsLineComment, IsGeneralComment, in_line_comment}
+use Rattle.go_tree.specs.Lexical.Scan.{Space, blank, line, general, mark, IsFirstNewline}
 use Rattle.go_tree.proofs.ByteLemmas.{byte_within, byte_char}
 use Rattle.go_tree.proofs.CharacterRunLemmas.{run_from, run_within, run_one_end, char_lies}
 
@@ -24,15 +24,15 @@ some_same a b e = cc
 pub no_mark : (bytes : List ℕ) (at b : ℕ) → slice_index bytes at ≡ suc b → suc b < 128 → (decoded_at bytes at).char ≡ Some byte_order_mark → ⊥
 no_mark bytes at b h lt char = let same = some_same (suc b) byte_order_mark (sym (byte_char bytes at b h lt) ∙ char) in omega (arith, same, lt)
 
-pub slash_no_blank : (b : ℕ) → b ≡ 47 → is_blank b ≡ true → ⊥
+pub slash_no_blank : (b : ℕ) → b ≡ 47 → is_white_space b ≡ true → ⊥
 slash_no_blank b e h = false≢true (rw e at h)
 
 -- a blank is one of four bytes
-pub blank_byte : (b : ℕ) → is_blank b ≡ true → (n : ℕ) × (b ≡ suc n) × (suc n < 33)
+pub blank_byte : (b : ℕ) → is_white_space b ≡ true → (n : ℕ) × (b ≡ suc n) × (suc n < 33)
 blank_byte zero h = absurd (false≢true h)
 blank_byte (suc n) h = (n, refl, small n h)
   where
-    small : (n : ℕ) → is_blank (suc n) ≡ true → suc n < 33
+    small : (n : ℕ) → is_white_space (suc n) ≡ true → suc n < 33
     small n h = grind (arith, nat_tests)
 
 -- where a line comment ends, its run ends
@@ -69,7 +69,7 @@ pub record Lies (bytes : List ℕ) (at to : ℕ) : Type 0 where
   pub behind : at < to
   pub within : to ≤ length bytes
 
-pub blank_lies : (bytes : List ℕ) (at : ℕ) → is_blank (slice_index bytes at) ≡ true → Lies bytes at (at + 1)
+pub blank_lies : (bytes : List ℕ) (at : ℕ) → is_white_space (slice_index bytes at) ≡ true → Lies bytes at (at + 1)
 blank_lies bytes at h =
     let b = blank_byte (slice_index bytes at) h in
     let w = byte_within bytes at b.0 b.1 in

@@ -6,9 +6,9 @@ use Rattle.go_tree.specs.declared.token.Token.{Token}
 use Rattle.go_tree.specs.declared.node_kind.NodeKind.{NodeKind}
 use Rattle.go_tree.specs.Tree.{Tree, branch, Trees, no_trees, more_trees, trees_of, start_of}
 use Rattle.go_tree.specs.Grammar.RightSide.{RightSide, Do, Call, Nothing, Seq, Or, Many, When, Open, Close}
-use Rattle.go_tree.specs.Grammar.Reading.{OpenNode, next_start, reopened, reopen, adopted, adopt, close_last, node_read}
-use Rattle.go_tree.specs.Grammar.Prediction.{Tables, is_empty}
-use Rattle.go_tree.specs.Grammar.Spans.{HasRun, HaveRuns, end_of_last}
+use Rattle.go_tree.specs.Grammar.Trees.Reading.{OpenNode, next_start, reopened, reopen, adopted, adopt, close_last, node_read}
+use Rattle.go_tree.specs.Grammar.Tables.Prediction.{Tables, is_empty}
+use Rattle.go_tree.specs.Grammar.Trees.Spans.{HasRun, HaveRuns, end_of_last}
 
 -- a node can end before a token is passed
 abbrev pub ends_early : {N : Type 0} → Tables N → (N → Bool) → RightSide N → Bool

@@ -6,10 +6,10 @@ use Rattle.go_tree.specs.declared.token.Token.{Token}
 use Rattle.go_tree.specs.declared.token.TokenKind.{TokenKind}
 use Rattle.go_tree.specs.Tree.{Tree, branch, Trees, no_trees, more_trees, start_of, end_of}
 use Rattle.go_tree.specs.Grammar.RightSide.{RightSide, Do, Call, Nothing, Seq, Or, Many, When, Act, Pass, Open, Reopen, Adopt, CheckType, Close}
-use Rattle.go_tree.specs.Grammar.TokenKinds.{same_kind}
-use Rattle.go_tree.specs.Grammar.Reading.{State, OpenNode, Reads, at_end, does, calls, nothing, in_turn, left, right, done, again, chosen, passed_by, acted, passed, next_start, reopen, adopt, close_last, ends_in_type, before, newest_of, tree_read}
-use Rattle.go_tree.specs.Grammar.Prediction.{Tables, is_empty}
-use Rattle.go_tree.specs.Grammar.Spans.{HasSpans, HasRun, HaveRuns}
+use Rattle.go_tree.specs.Grammar.Tables.TokenKinds.{same_kind}
+use Rattle.go_tree.specs.Grammar.Trees.Reading.{State, OpenNode, Reads, at_end, does, calls, nothing, in_turn, left, right, done, again, chosen, passed_by, acted, passed, next_start, reopen, adopt, close_last, ends_in_type, before, newest_of, tree_read}
+use Rattle.go_tree.specs.Grammar.Tables.Prediction.{Tables, is_empty}
+use Rattle.go_tree.specs.Grammar.Trees.Spans.{HasSpans, HasRun, HaveRuns}
 use Rattle.go_tree.proofs.TruthLemmas.{again_starts, call_starts, left_starts, right_starts, seq_starts}
 use Rattle.go_tree.proofs.SpanActLemmas.{ends_early, end_early, has_tokens, HasTokens, HaveTokens, ends, Runs, all_of, is_bare, Frames, wider, end_after, longer_by, has_one, pass_frames, pass_row, not_bare, innermost, Turns, no_turn, reopen_turns, adopt_turns, close_turns}
 

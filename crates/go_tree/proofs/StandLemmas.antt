@@ -2,7 +2,7 @@
 use Rattle.std.proofs.Common.{ℕ, List, [], ◌∷◌, ◌++◌, Option, Some, sym, subst}
 use Rattle.go_tree.specs.declared.token.Token.{Token}
 use Rattle.go_tree.specs.declared.token.TokenKind.{TokenKind}
-use Rattle.go_tree.specs.Scan.{Stand}
+use Rattle.go_tree.specs.Lexical.Scan.{Stand}
 
 pub stand_append : (bytes : List ℕ) (at mid to : ℕ) (last kind then : Option TokenKind) (us vs : List Token) → Stand bytes at last us mid kind → Stand bytes mid kind vs to then → Stand bytes at last (us ++ vs) to then
 stand_append bytes at mid to last kind then [] vs h w = subst (λ k. Stand bytes at k vs to then) (sym h.1) (subst (λ m. Stand bytes m kind vs to then) (sym h.0) w)

@@ -4,9 +4,9 @@ use Rattle.std.proofs.lemmas.Bool.{and_from, and_parts}
 use Rattle.go_tree.specs.declared.token.Token.{Token}
 use Rattle.go_tree.specs.declared.token.TokenKind.{TokenKind}
 use Rattle.go_tree.specs.Grammar.RightSide.{RightSide, Do, Call, Nothing, Seq, Or, Many, When, Act, Pass, Open, Reopen, Adopt, CheckType, Close, Ahead, OneOf, Both}
-use Rattle.go_tree.specs.Grammar.TokenKinds.{same_kind, is_in}
-use Rattle.go_tree.specs.Grammar.Reading.{looks}
-use Rattle.go_tree.specs.Grammar.Prediction.{Tables, act_is_empty, may_look, may_miss, is_empty, begins, next_of, starts, expand}
+use Rattle.go_tree.specs.Grammar.Tables.TokenKinds.{same_kind, is_in}
+use Rattle.go_tree.specs.Grammar.Trees.Reading.{looks}
+use Rattle.go_tree.specs.Grammar.Tables.Prediction.{Tables, act_is_empty, may_look, may_miss, is_empty, begins, next_of, starts, expand}
 use Rattle.go_tree.proofs.DecidedTests.{each_kind, implied, is_false}
 use Rattle.go_tree.proofs.DecidedLemmas.{every_kind}
 use Rattle.go_tree.proofs.TruthLemmas.{falsely, implies}

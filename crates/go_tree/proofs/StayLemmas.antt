@@ -4,7 +4,7 @@ use Rattle.std.proofs.Common.{◌≡◌, Bool, true, false, List, [], ◌∷◌,
 use Rattle.std.proofs.lemmas.Bool.{and_from, and_parts}
 use Rattle.go_tree.specs.declared.token.TokenKind.{TokenKind}
 use Rattle.go_tree.specs.Grammar.RightSide.{RightSide, Do, Call, Nothing, Seq, Or, Many, When, Act, Pass, Open, Reopen, Adopt, CheckType, Close, Ahead, OneOf, Both}
-use Rattle.go_tree.specs.Grammar.TokenKinds.{is_in}
+use Rattle.go_tree.specs.Grammar.Tables.TokenKinds.{is_in}
 use Rattle.go_tree.proofs.ShapeLemmas.{Shape, covers}
 
 -- ---- the test of a right side: `next` tests what it leaves

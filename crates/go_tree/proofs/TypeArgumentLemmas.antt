@@ -10,10 +10,10 @@ use Rattle.go_tree.specs.declared.production.Production.{Production}
 use Rattle.go_tree.specs.declared.production.Production.TheVariants as p
 use Rattle.go_tree.specs.Tree.{Tree, start_of}
 use Rattle.go_tree.specs.Grammar.RightSide.{RightSide, Call, Act, Pass, Open, Reopen, Adopt, CheckType, Close}
-use Rattle.go_tree.specs.Grammar.Reading.{State, OpenNode, at_end, does, calls, nothing, in_turn, left, right, acted, passed, next_start, reopen, adopt, close_last, ends_in_type}
-use Rattle.go_tree.specs.Grammar.TypeTrees.{is_type}
+use Rattle.go_tree.specs.Grammar.Trees.Reading.{State, OpenNode, at_end, does, calls, nothing, in_turn, left, right, acted, passed, next_start, reopen, adopt, close_last, ends_in_type}
+use Rattle.go_tree.specs.Grammar.Trees.TypeTrees.{is_type}
 use Rattle.go_tree.specs.Grammar.Words.{◌•◌, ◌or◌, tok, the, opt, open_node, adopt_last, check_type, close}
-use Rattle.go_tree.specs.Grammar.Sentence.{production, ReadsGo}
+use Rattle.go_tree.specs.Grammar.Trees.Sentence.{production, ReadsGo}
 use Rattle.go_tree.proofs.ReadingLemmas.{split, join, in_turn_of}
 use Rattle.go_tree.proofs.NetEffects.{any_sort}
 use Rattle.go_tree.proofs.NetEffectLemmas.{with_parts}

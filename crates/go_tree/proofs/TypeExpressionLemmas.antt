@@ -11,12 +11,12 @@ use Rattle.go_tree.specs.declared.production.Production.{Production}
 use Rattle.go_tree.specs.declared.production.Production.TheVariants as p
 use Rattle.go_tree.specs.Tree.{Tree, start_of, trees_of}
 use Rattle.go_tree.specs.Grammar.RightSide.{RightSide, Call, Nothing, Seq, Or, Many, When, Pass, Reopen, Close, OneOf, Both}
-use Rattle.go_tree.specs.Grammar.Reading.{State, OpenNode, at_end, does, calls, nothing, in_turn, left, right, done, chosen, passed_by, looks, acted, next_start, reopen, close_last, node_read}
-use Rattle.go_tree.specs.Grammar.TypeTrees.{is_name, is_type_name, is_type, all_types}
+use Rattle.go_tree.specs.Grammar.Trees.Reading.{State, OpenNode, at_end, does, calls, nothing, in_turn, left, right, done, chosen, passed_by, looks, acted, next_start, reopen, close_last, node_read}
+use Rattle.go_tree.specs.Grammar.Trees.TypeTrees.{is_name, is_type_name, is_type, all_types}
 use Rattle.go_tree.specs.Grammar.Words.{◌•◌, tok, the, opt, many, node, extend}
 use Rattle.go_tree.specs.Grammar.Expressions.{dot, index}
 use Rattle.go_tree.specs.Grammar.Types.{type_name_rest, word_type}
-use Rattle.go_tree.specs.Grammar.Sentence.{production, ReadsGo}
+use Rattle.go_tree.specs.Grammar.Trees.Sentence.{production, ReadsGo}
 use Rattle.go_tree.proofs.ReadingLemmas.{split, join, in_turn_of}
 use Rattle.go_tree.proofs.NetEffectLemmas.{with_parts}
 use Rattle.go_tree.proofs.ReadingStepLemmas.{Passed, passes, opens, reopens, closes, reads_less, pass_less, NodeParts, node_parts, node_back, last_act, ExtendParts, extend_parts, behind_argument, bracket_next, comma_next, paren_next, left_bracket_next, both_next}

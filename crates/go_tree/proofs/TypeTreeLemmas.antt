@@ -4,8 +4,8 @@ use Rattle.std.proofs.lemmas.List.{reverse-append}
 use Rattle.std.proofs.lemmas.Grind.{reverse_onto}
 use Rattle.go_tree.specs.declared.node_kind.NodeKind.TheVariants as k
 use Rattle.go_tree.specs.Tree.{Tree, branch, no_trees, more_trees, trees_of, kind_of, parts_of}
-use Rattle.go_tree.specs.Grammar.TypeTrees.{is_name, is_type_name, is_type, all_types}
-use Rattle.go_tree.specs.Grammar.Reading.{node_read}
+use Rattle.go_tree.specs.Grammar.Trees.TypeTrees.{is_name, is_type_name, is_type, all_types}
+use Rattle.go_tree.specs.Grammar.Trees.Reading.{node_read}
 use Rattle.go_tree.proofs.NetEffects.{Sorts, sorts, nameless, no_type, Is}
 
 -- types that begin with a word or `[`

@@ -6,9 +6,9 @@ use Rattle.go_tree.specs.declared.production.Form.TheVariants.{Plain}
 use Rattle.go_tree.specs.declared.production.Production.{Production}
 use Rattle.go_tree.specs.declared.production.Production.TheVariants as p
 use Rattle.go_tree.specs.Grammar.RightSide.{Call}
-use Rattle.go_tree.specs.Grammar.Reading.{State, OpenNode, at_end, does, calls, nothing, in_turn, left, right, passed_by, next_start, node_read, ends_in_type}
+use Rattle.go_tree.specs.Grammar.Trees.Reading.{State, OpenNode, at_end, does, calls, nothing, in_turn, left, right, passed_by, next_start, node_read, ends_in_type}
 use Rattle.go_tree.specs.Grammar.Words.{◌•◌, ◌or◌, tok, the}
-use Rattle.go_tree.specs.Grammar.Sentence.{production, ReadsGo}
+use Rattle.go_tree.specs.Grammar.Trees.Sentence.{production, ReadsGo}
 use Rattle.go_tree.proofs.ReadingLemmas.{join}
 use Rattle.go_tree.proofs.NetEffects.{TypeLiteral, ChanLiteral, Sorts, only, within, flow, stack}
 use Rattle.go_tree.proofs.NetEffectLemmas.{with_parts, is_within}

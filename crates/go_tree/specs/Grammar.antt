@@ -1,12 +1,4 @@
-pub mod Sentence
-pub mod Fronts
-pub mod Spans
-pub mod PlainLists
-pub mod PlainDeclarations
-pub mod PlainTypes
-pub mod PlainExpressions
-pub mod PlainStatements
-pub mod PlainLines
+-- The grammar of Go files: its productions, what they read, and what is proved of them.
 pub mod File
 pub mod Declarations
 pub mod Types
@@ -14,14 +6,6 @@ pub mod Expressions
 pub mod Statements
 pub mod Words
 pub mod RightSide
-pub mod Reading
-pub mod TypeTrees
-pub mod TokenKinds
-pub mod Prediction
-pub mod TokenLists
-pub mod First
-pub mod Follow
-pub mod Completion
-pub mod Brief
-pub mod Rank
-pub mod Brackets
+pub mod Trees
+pub mod Plain
+pub mod Tables

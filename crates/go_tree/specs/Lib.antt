@@ -1,13 +1,8 @@
-pub mod Scan
-pub mod Tokens
-pub mod Faults
-pub mod Semicolons
-pub mod Characters
-pub mod Comments
-pub mod Numbers
-pub mod Literals
-pub mod LiteralValues
+-- the tokens of a text, and the fault where none starts
+pub mod Lexical
+-- which tokens have which tree, and how high they stand
 pub mod Grammar
 pub mod Height
+-- trees
 pub mod Tree
 pub mod Find

@@ -5,13 +5,13 @@ ghost use Rattle.go_tree.specs.declared.production.Production.{Production};
 ghost use Rattle.go_tree.specs.declared.production.Production.TheVariants.{File};
 ghost use Rattle.go_tree.specs.Tree.{Tree};
 ghost use Rattle.go_tree.specs.Grammar.RightSide.{RightSide};
-ghost use Rattle.go_tree.specs.Grammar.Reading.{State, OpenNode};
-ghost use Rattle.go_tree.specs.Grammar.Completion.{Firm, completion, tokens_of};
-ghost use Rattle.go_tree.specs.Grammar.Rank.{top_rank};
-ghost use Rattle.go_tree.specs.Grammar.Sentence.{texts, ReadsGo, is_whole, IsA, Derives, Begins};
-ghost use Rattle.go_tree.specs.Grammar.Fronts.{Passes};
-ghost use Rattle.go_tree.specs.Grammar.Spans.{HasSpans, HasRun};
-ghost use Rattle.go_tree.specs.Grammar.PlainLines.{ReadPlainLines};
+ghost use Rattle.go_tree.specs.Grammar.Trees.Reading.{State, OpenNode};
+ghost use Rattle.go_tree.specs.Grammar.Tables.Completion.{Firm, completion, tokens_of};
+ghost use Rattle.go_tree.specs.Grammar.Tables.Rank.{top_rank};
+ghost use Rattle.go_tree.specs.Grammar.Trees.Sentence.{texts, ReadsGo, is_whole, IsA, Derives, Begins};
+ghost use Rattle.go_tree.specs.Grammar.Trees.Fronts.{Passes};
+ghost use Rattle.go_tree.specs.Grammar.Trees.Spans.{HasSpans, HasRun};
+ghost use Rattle.go_tree.specs.Grammar.Plain.Lines.{ReadPlainLines};
 
 /// A token list has at most one tree.
 pub fn one_tree()

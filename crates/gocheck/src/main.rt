@@ -2,21 +2,15 @@
 //! prints its report.
 #![tactic(auto)]
 
-mod fields;
-mod lines;
-mod places;
 #[cfg(test)]
-mod rows;
-mod run;
-mod text;
-mod values;
-mod verdict;
-mod words;
+mod folder_tests;
+#[cfg(test)]
+mod stream_tests;
 
 ghost use Rattle.std.specs.Prelude.{◌≡◌};
 
 use go_base::{FolderTree, Status, StdSink, Steps, Word};
-use run::gocheck;
+use go_command::gocheck;
 use std::alloc::Global;
 use std::io::ErrorKind;
 use std::marker::Brand;

@@ -8,11 +8,11 @@ use Rattle.go_term.specs.declared.term.Term.{Term}
 use Rattle.go_num.specs.declared.value.Value.{Value}
 use Rattle.go_model.specs.declared.rec.Mode.{Mode}
 use Rattle.go_model.specs.declared.rec.Mode.TheVariants.{Const as ConstMode}
-use Rattle.go_model.specs.declared.records.DefKind.{DefKind}
-use Rattle.go_model.specs.declared.records.DefKind.TheVariants.{Const, Package}
-use Rattle.go_model.specs.declared.records.Line.{Line}
-use Rattle.go_model.specs.declared.records.What.{What}
-use Rattle.go_model.specs.declared.records.What.TheVariants.{Def, Used, Expr}
+use Rattle.go_model.specs.declared.lines.DefKind.{DefKind}
+use Rattle.go_model.specs.declared.lines.DefKind.TheVariants.{Const, Package}
+use Rattle.go_model.specs.declared.lines.Line.{Line}
+use Rattle.go_model.specs.declared.lines.What.{What}
+use Rattle.go_model.specs.declared.lines.What.TheVariants.{Def, Used, Expr}
 use Rattle.go_module.specs.declared.places.At.{At}
 use Rattle.go_module.specs.declared.places.Placed.{Placed}
 use Rattle.go_model.specs.Report.{VerdictData, accepted, refused, skipped, PackageReportData, ReportData}

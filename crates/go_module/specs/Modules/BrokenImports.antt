@@ -16,8 +16,8 @@ use Rattle.go_module.specs.Modules.Packages.{PackageTable, named, imports_at}
 use Rattle.go_graph.specs.Graph.{is_marked}
 
 -- an import that names no package
-abbrev pub unnamed_import : Rule
-unnamed_import = record { family = P; number = 1 }
+abbrev pub missing_package : Rule
+missing_package = record { family = P; number = 1 }
 
 -- an import on a cycle of imports
 abbrev pub cyclic_import : Rule
@@ -28,8 +28,8 @@ abbrev pub mixed_package : Rule
 mixed_package = record { family = P; number = 3 }
 
 -- an import outside the language that is checked
-abbrev pub unbuilt_import : Rule
-unbuilt_import = record { family = U; number = 7 }
+abbrev pub special_import : Rule
+special_import = record { family = U; number = 7 }
 
 -- "If the PackageName is omitted, it defaults to the identifier specified in the package clause of the
 -- imported package": there has to be one
@@ -41,13 +41,13 @@ begins_with byte [] = false
 begins_with byte (b ∷ bytes) = b == byte
 
 -- C, unsafe, and paths that begin with `.` or `/`
-abbrev pub is_unbuilt : List ℕ → Bool
-is_unbuilt path = same_text path (codes "C") || (same_text path (codes "unsafe") || (begins_with 46 path || begins_with 47 path))
+abbrev pub is_special : List ℕ → Bool
+is_special path = same_text path (codes "C") || (same_text path (codes "unsafe") || (begins_with 46 path || begins_with 47 path))
 
 abbrev pub broken_import : List (List ℕ) → List Bool → Bool → ℕ → ImportSpec → List Broken
 broken_import paths stubs from_stub file spec =
-    told_if (is_unnamed paths stubs from_stub spec.path) (broken_at file spec.at unnamed_import)
-    ++ told_if (is_unbuilt spec.path) (broken_at file spec.at unbuilt_import)
+    told_if (is_unnamed paths stubs from_stub spec.path) (broken_at file spec.at missing_package)
+    ++ told_if (is_special spec.path) (broken_at file spec.at special_import)
 
 -- what the imports of a file break
 abbrev pub broken_imports_at : List (List ℕ) → List Bool → List FileHead → Bool → ℕ → List Broken
@@ -64,12 +64,12 @@ name_place heads file = option_map_or (λ head. head.name_at) (slice_get heads f
 abbrev pub is_mixed : List (List ℕ) → Bool
 is_mixed names = list_any (λ a. list_any (λ b. not (same_text a b)) names) names || list_any (λ name. same_text name (codes "_")) names
 
-abbrev pub broken_names : List FileHead → List ℕ → List Broken
-broken_names heads files = if is_mixed (map (name_at heads) files) then map (λ file. broken_at file (name_place heads file) mixed_package) files else []
+abbrev pub broken_clauses : List FileHead → List ℕ → List Broken
+broken_clauses heads files = if is_mixed (map (name_at heads) files) then map (λ file. broken_at file (name_place heads file) mixed_package) files else []
 
 -- what a package breaks
 abbrev pub broken_package : List FileHead → List (List ℕ) → List Bool → Bool → List ℕ → List Broken
-broken_package heads paths stubs from_stub files = broken_names heads files ++ flat_map (broken_imports_at paths stubs heads from_stub) files
+broken_package heads paths stubs from_stub files = broken_clauses heads files ++ flat_map (broken_imports_at paths stubs heads from_stub) files
 
 abbrev pub broken_if_reached : List FileHead → PackageTable → ℕ → List Broken
 broken_if_reached heads t k = if is_marked t.reached k then broken_package heads t.paths t.stubs (is_marked t.stubs k) (unwrap_or (slice_get t.files k) []) else []

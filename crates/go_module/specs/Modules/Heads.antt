@@ -6,8 +6,8 @@ use Rattle.go_num.specs.Text.{most_text}
 use Rattle.go_tree.specs.declared.node_kind.NodeKind.TheVariants.{ImportDecl, ImportGroup}
 use Rattle.go_tree.specs.declared.token.Token.{Token}
 use Rattle.go_tree.specs.declared.token.TokenKind.TheVariants.{Text}
-use Rattle.go_tree.specs.LiteralValues.{string_lit_value}
-use Rattle.go_tree.specs.Scan.{IsNext}
+use Rattle.go_tree.specs.Lexical.LiteralValues.{string_lit_value}
+use Rattle.go_tree.specs.Lexical.Scan.{IsNext}
 use Rattle.go_tree.specs.Tree.{Tree, branch, list_of, parts_of, start_of, text_of}
 use Rattle.go_module.specs.NodeParts.{first_part, last_part}
 

@@ -15,7 +15,7 @@ use Rattle.go_module.specs.Modules.Texts.{as_text}
 use Rattle.go_module.specs.Modules.Module.{FileData, PackageData}
 use Rattle.go_module.specs.Modules.Paths.{same_text}
 use Rattle.go_module.specs.NodeParts.{first_part}
-use Rattle.go_module.specs.Names.Exported.{is_blank}
+use Rattle.go_module.specs.Names.Exported.{is_blank_identifier}
 
 -- ConstDecl = "const" ( ConstSpec | "(" { ConstSpec ";" } ")" ) .
 abbrev pub const_specs_in : Tree → List Tree
@@ -50,7 +50,7 @@ constant_region k file name = record {
 
 -- "The blank identifier .. does not introduce a binding": the constants that a spec declares
 abbrev pub constants_in_spec : ℕ → ℕ → Tree → List Region
-constants_in_spec k file spec = map (constant_region k file) (filter (λ name. not (is_blank (name_text name))) (names_in_spec spec))
+constants_in_spec k file spec = map (constant_region k file) (filter (λ name. not (is_blank_identifier (name_text name))) (names_in_spec spec))
 
 abbrev pub constants_in_file : ℕ → ℕ → Tree → List Region
 constants_in_file k file tree = flat_map (constants_in_spec k file) (const_specs tree)

@@ -15,7 +15,7 @@ use Rattle.go_module.specs.Modules.Heads.{import_specs}
 use Rattle.go_module.specs.Modules.Module.{FileData, PackageData, ModuleData}
 use Rattle.go_module.specs.Modules.Paths.{same_text}
 use Rattle.go_module.specs.Names.Constants.{name_text, constant_object, package_names}
-use Rattle.go_module.specs.Names.Exported.{is_blank, is_exported}
+use Rattle.go_module.specs.Names.Exported.{is_blank_identifier, is_exported}
 
 -- what a package is known by: the name in its package clauses, and the names of its package block
 pub record PackageNames : Type 0 where
@@ -75,7 +75,7 @@ is_dot t = false
 abbrev pub named_regions : PackageNames → Importing → Tree → Tree → List Region
 named_regions known i name string =
     if is_dot name then map (dot_region i string) (exports_of known)
-    else if is_blank (name_text name) then []
+    else if is_blank_identifier (name_text name) then []
     else import_region i (name_text name) name ∷ []
 
 -- ImportSpec = [ "." | PackageName ] ImportPath .
@@ -93,7 +93,7 @@ file_block known imports = flat_map (import_regions known) imports
 
 -- `_ "q"`
 abbrev pub is_blank_import : Trees → Bool
-is_blank_import (more_trees name (more_trees string no_trees)) = if is_dot name then false else is_blank (name_text name)
+is_blank_import (more_trees name (more_trees string no_trees)) = if is_dot name then false else is_blank_identifier (name_text name)
 is_blank_import parts = false
 
 -- an import that declares names

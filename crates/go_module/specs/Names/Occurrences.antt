@@ -6,7 +6,7 @@ use Rattle.go_tree.specs.declared.node_kind.NodeKind.TheVariants.{Name, Selector
 use Rattle.go_tree.specs.Tree.{Tree, branch, Trees, no_trees, more_trees, parts_of, id_of, start_of}
 use Rattle.go_module.specs.declared.block.Occurrence.{Occurrence}
 use Rattle.go_module.specs.declared.block.Selected.{Selected}
-use Rattle.go_tree.specs.Grammar.TypeTrees.{is_name}
+use Rattle.go_tree.specs.Grammar.Trees.TypeTrees.{is_name}
 use Rattle.go_module.specs.NodeParts.{all_but_first}
 use Rattle.go_module.specs.Names.Constants.{const_specs, name_text}
 

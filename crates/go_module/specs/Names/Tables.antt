@@ -14,10 +14,10 @@ use Rattle.go_module.specs.declared.object.Object.{Object}
 use Rattle.go_module.specs.declared.scopes.Scopes.{Scopes}
 use Rattle.go_module.specs.Modules.Module.{FileData, PackageData, ModuleData}
 use Rattle.go_module.specs.Scopes.{same_node, same_object}
-use Rattle.go_module.specs.Names.BrokenNames.{broken_names}
+use Rattle.go_module.specs.Names.Rules.BrokenNames.{broken_names}
 use Rattle.go_module.specs.Names.Constants.{constant_object, object_id, package_names}
 use Rattle.go_module.specs.Names.Imports.{PackageNames, known_in, exported}
-use Rattle.go_module.specs.Names.OccurrenceRules.{denoted_package}
+use Rattle.go_module.specs.Names.Rules.OccurrenceRules.{denoted_package}
 use Rattle.go_module.specs.Names.Occurrences.{occurrences_in_file}
 use Rattle.go_module.specs.Names.Regions.{regions_of, resolution}
 

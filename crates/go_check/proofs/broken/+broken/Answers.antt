@@ -4,10 +4,10 @@ use Rattle.std.proofs.lemmas.Result.{on_ok_weaker}
 use Rattle.go_tree.specs.Tree.{tree_of, start_of, kind_of}
 use Rattle.go_tree.proofs.TreeLemmas.{part_within}
 use Rattle.go_module.specs.Rules.{unbuilt_form}
-use Rattle.go_model.specs.Quests.{run}
-use Rattle.go_model.specs.Records.{record_of}
-use Rattle.go_model.specs.Rules.{broken_among, broken_in, rule_at, told_at}
-use Rattle.go_model.specs.Tests.{asked_of, selector_test}
+use Rattle.go_model.specs.Values.Quests.{run}
+use Rattle.go_model.specs.Values.Records.{record_of}
+use Rattle.go_model.specs.Values.Rules.{broken_among, broken_in, rule_at, told_at}
+use Rattle.go_model.specs.Values.Tests.{asked_of, selector_test}
 use Rattle.go_check.specs.Table.{slot_of}
 use Rattle.go_check.specs.View.{means_by}
 use Rattle.go_check.proofs.BrokenLemmas.{broken-parts, broken-selector}

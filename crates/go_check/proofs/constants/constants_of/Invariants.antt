@@ -1,5 +1,5 @@
 use Rattle.std.proofs.Common.{◌≡◌, ◌++◌, map, drop}
-use Rattle.go_model.specs.Constants as rule
+use Rattle.go_model.specs.Values.Constants as rule
 use Rattle.go_module.specs.Modules.Module.{file_view}
 use Rattle.go_check.specs.View.{constants_view}
 use Rattle.go_check.proofs.constants.constants_of.Given as goal

@@ -1,6 +1,6 @@
 use Rattle.std.proofs.Common.{◌≡◌, ◌-◌, ◌∙◌, ap, drop, arith}
 use Rattle.indexmap.specs.IndexMap.{insert_entry}
-use Rattle.go_model.specs.Constants.{number_of, numbers_of}
+use Rattle.go_model.specs.Values.Constants.{number_of, numbers_of}
 use Rattle.go_module.specs.Scopes.{same_object}
 use Rattle.go_check.specs.View.{constant_view, constants_view}
 use Rattle.go_check.proofs.PlaceLemmas.{one_more_place, place_from, place_from_start}

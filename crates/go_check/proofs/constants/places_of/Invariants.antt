@@ -1,7 +1,7 @@
 use Rattle.std.proofs.Common.{◌≡◌, drop}
 use Rattle.std.specs.Map.{lookup}
 use Rattle.go_module.specs.declared.object.ObjId.{ObjId}
-use Rattle.go_model.specs.Constants.{numbers_of}
+use Rattle.go_model.specs.Values.Constants.{numbers_of}
 use Rattle.go_module.specs.Scopes.{same_object}
 use Rattle.go_check.specs.View.{constants_view}
 use Rattle.go_check.proofs.PlaceLemmas.{place_from}

@@ -1,6 +1,6 @@
 use Rattle.std.proofs.Common.{◌≡◌, ◌++◌, map, drop}
 use Rattle.go_tree.specs.Tree.{tree_of}
-use Rattle.go_model.specs.Constants as rule
+use Rattle.go_model.specs.Values.Constants as rule
 use Rattle.go_check.specs.View.{constants_view}
 use Rattle.go_check.proofs.constants.push_bound.Given as goal
 

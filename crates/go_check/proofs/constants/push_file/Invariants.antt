@@ -1,6 +1,6 @@
 use Rattle.std.proofs.Common.{◌≡◌, ◌++◌, drop}
 use Rattle.std.specs.List.{flat_map}
-use Rattle.go_model.specs.Constants as rule
+use Rattle.go_model.specs.Values.Constants as rule
 use Rattle.go_scope.specs.Blocks.{trees_at}
 use Rattle.go_check.specs.View.{constants_view}
 use Rattle.go_check.proofs.constants.push_file.Given as goal

@@ -3,7 +3,7 @@ use Rattle.indexmap.specs.IndexMap.{insert_all}
 use Rattle.go_model.specs.Declarations.{declaration}
 use Rattle.go_module.specs.Scopes.{same_object}
 use Rattle.go_scope.specs.Blocks.{trees_at}
-use Rattle.go_check.specs.TextView.{file_of}
+use Rattle.go_check.specs.LinedFileView.{file_of}
 use Rattle.go_check.proofs.declarations.add_nodes.Given as goal
 
 -- the table, with the declarations by the nodes left, is that with those by all nodes

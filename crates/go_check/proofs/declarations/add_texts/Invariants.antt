@@ -3,7 +3,7 @@ use Rattle.std.specs.List.{flat_map}
 use Rattle.indexmap.specs.IndexMap.{insert_all}
 use Rattle.go_model.specs.Declarations.{declarations_in}
 use Rattle.go_module.specs.Scopes.{same_object}
-use Rattle.go_check.specs.TextView.{file_of}
+use Rattle.go_check.specs.LinedFileView.{file_of}
 use Rattle.go_check.proofs.declarations.add_texts.Given as goal
 
 -- the table, with the declarations of the files left, is that with those of all files

@@ -2,7 +2,7 @@ use Rattle.std.proofs.Common.{◌≡◌, ◌++◌, drop}
 use Rattle.std.specs.List.{flat_map}
 use Rattle.go_model.specs.PackageLines.{constant_defs}
 use Rattle.go_check.specs.Table.{slot_of}
-use Rattle.go_check.specs.TextView.{file_of}
+use Rattle.go_check.specs.LinedFileView.{file_of}
 use Rattle.go_check.specs.View.{constants_view, means_by}
 use Rattle.go_check.proofs.defs.push_constants.Given as goal
 

@@ -3,7 +3,7 @@ use Rattle.go_tree.specs.Tree.{tree_of, trees_of}
 use Rattle.go_tree.proofs.TreeLemmas.{part_within}
 use Rattle.go_model.specs.PackageLines.{exprs_among}
 use Rattle.go_check.specs.Table.{slot_of}
-use Rattle.go_check.specs.TextView.{file_of}
+use Rattle.go_check.specs.LinedFileView.{file_of}
 use Rattle.go_check.specs.View.{means_by}
 use Rattle.go_check.proofs.ExprLemmas.{inside_other, node_done}
 use Rattle.go_check.proofs.exprs.+exprs.Goals as goal

@@ -1,10 +1,10 @@
 use Rattle.std.proofs.Common.{◌≡◌, ◌++◌, drop}
 use Rattle.std.specs.List.{flat_map}
-use Rattle.go_model.specs.Constants.{values_in_spec}
+use Rattle.go_model.specs.Values.Constants.{values_in_spec}
 use Rattle.go_model.specs.PackageLines.{exprs_in}
 use Rattle.go_scope.specs.Blocks.{trees_at}
 use Rattle.go_check.specs.Table.{slot_of}
-use Rattle.go_check.specs.TextView.{file_of}
+use Rattle.go_check.specs.LinedFileView.{file_of}
 use Rattle.go_check.specs.View.{means_by}
 use Rattle.go_check.proofs.exprs.push_file.Given as goal
 

@@ -3,7 +3,7 @@ use Rattle.std.specs.List.{flat_map}
 use Rattle.go_tree.specs.Tree.{tree_of}
 use Rattle.go_model.specs.PackageLines.{exprs_in}
 use Rattle.go_check.specs.Table.{slot_of}
-use Rattle.go_check.specs.TextView.{file_of}
+use Rattle.go_check.specs.LinedFileView.{file_of}
 use Rattle.go_check.specs.View.{means_by}
 use Rattle.go_check.proofs.exprs.push_values.Given as goal
 

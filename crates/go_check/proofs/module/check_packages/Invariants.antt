@@ -3,7 +3,7 @@ use Rattle.std.specs.Vec.Iter.{into_iter_items}
 use Rattle.go_module.specs.Modules.Module.{ModuleData, package_view}
 use Rattle.go_model.specs.PackageLines.{outline_of}
 use Rattle.go_check.specs.State.{IsBehind}
-use Rattle.go_check.specs.TextView.{outline_view}
+use Rattle.go_check.specs.LinedFileView.{outline_view}
 use Rattle.go_check.proofs.module.check_packages.Given as goal
 
 -- all packages are checked but those that the iterator still has

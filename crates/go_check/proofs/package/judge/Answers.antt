@@ -8,11 +8,11 @@ use Rattle.go_model.specs.PackageLines.{lines_of}
 use Rattle.go_model.specs.Phases.{IsVerdict, values_of}
 use Rattle.go_module.specs.Places.{placed_by}
 use Rattle.go_model.specs.Report.{accepted, refused, verdict_view}
-use Rattle.go_model.specs.Rules.{broken_values}
+use Rattle.go_model.specs.Values.Rules.{broken_values}
 use Rattle.go_module.specs.Scopes.{same_object}
-use Rattle.go_model.specs.Waiting.{Chain}
+use Rattle.go_model.specs.Values.Waiting.{Chain}
 use Rattle.go_check.specs.Table.{slot_of}
-use Rattle.go_check.specs.TextView.{outline_view}
+use Rattle.go_check.specs.LinedFileView.{outline_view}
 use Rattle.go_check.specs.View.{constants_view, denotes_by, means_by}
 use Rattle.go_check.proofs.ResultLemmas.{both_if_ok}
 use Rattle.go_check.proofs.VerdictLemmas.{breaks, denotes_are, means_are, refused_values, sound_names, sound_verdict}

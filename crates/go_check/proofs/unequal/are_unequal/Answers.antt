@@ -4,7 +4,7 @@ use Rattle.std.proofs.lemmas.Bool.{ne_eqb}
 use Rattle.std.proofs.lemmas.List.{length-map}
 use Rattle.std.proofs.lemmas.List.Folds.{list_all-map}
 use Rattle.go_tree.specs.Tree.{Tree, tree_of}
-use Rattle.go_model.specs.Records.{record_of}
+use Rattle.go_model.specs.Values.Records.{record_of}
 use Rattle.go_check.specs.Table.{slot_of}
 use Rattle.go_check.specs.View.{means_by}
 use Rattle.go_check.proofs.unequal.are_unequal.Goals as goal

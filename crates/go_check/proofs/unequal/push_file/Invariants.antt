@@ -1,6 +1,6 @@
 use Rattle.std.proofs.Common.{◌≡◌, ◌++◌}
 use Rattle.std.specs.List.{flat_map}
-use Rattle.go_model.specs.Rules.{broken_spec}
+use Rattle.go_model.specs.Values.Rules.{broken_spec}
 use Rattle.go_scope.specs.Blocks.{trees_at}
 use Rattle.go_check.specs.Table.{slot_of}
 use Rattle.go_check.specs.View.{means_by}

@@ -1,6 +1,6 @@
 use Rattle.std.proofs.Common.{◌≡◌, ◌++◌, map, drop}
 use Rattle.go_module.specs.Modules.Module.{file_view}
-use Rattle.go_model.specs.Rules.{broken_specs}
+use Rattle.go_model.specs.Values.Rules.{broken_specs}
 use Rattle.go_check.specs.Table.{slot_of}
 use Rattle.go_check.specs.View.{means_by}
 use Rattle.go_check.proofs.unequal.push_specs.Given as goal

@@ -1,7 +1,7 @@
 use Rattle.std.proofs.Common.{◌≡◌, ◌++◌, map, drop}
 use Rattle.std.specs.List.{flat_map}
 use Rattle.go_tree.specs.Tree.{tree_of}
-use Rattle.go_model.specs.Rules.{broken_in}
+use Rattle.go_model.specs.Values.Rules.{broken_in}
 use Rattle.go_check.specs.Table.{slot_of}
 use Rattle.go_check.specs.View.{means_by}
 use Rattle.go_check.proofs.unequal.push_values.Given as goal

@@ -1,7 +1,7 @@
 use Rattle.std.proofs.Common.{◌≡◌, ◌++◌, drop}
 use Rattle.std.specs.List.{flat_map}
 use Rattle.go_model.specs.PackageLines.{occurrence_uses}
-use Rattle.go_check.specs.TextView.{file_of, outline_view}
+use Rattle.go_check.specs.LinedFileView.{file_of, outline_view}
 use Rattle.go_check.specs.View.{denotes_by}
 use Rattle.go_check.proofs.uses.push_occurrences.Given as goal
 

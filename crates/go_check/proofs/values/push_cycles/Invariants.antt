@@ -1,6 +1,6 @@
 use Rattle.std.proofs.Common.{◌≡◌, ◌++◌, drop}
 use Rattle.go_graph.specs.Graph.{is_marked}
-use Rattle.go_model.specs.Rules.{broken_cycles}
+use Rattle.go_model.specs.Values.Rules.{broken_cycles}
 use Rattle.go_check.specs.View.{constants_view}
 use Rattle.go_check.proofs.values.push_cycles.Given as goal
 

@@ -2,7 +2,7 @@ use Rattle.std.proofs.Common.{◌++◌, ap, sym, ◌∙◌, option_to_list, arit
 use Rattle.std.proofs.lemmas.Result.{on_ok_weaker}
 use Rattle.go_tree.specs.Tree.{tree_of, parts_of}
 use Rattle.go_tree.proofs.TreeLemmas.{part_within}
-use Rattle.go_model.specs.Waiting.{lacked_among, lacked_in}
+use Rattle.go_model.specs.Values.Waiting.{lacked_among, lacked_in}
 use Rattle.go_check.specs.Table.{slot_of}
 use Rattle.go_check.specs.View.{means_by}
 use Rattle.go_check.proofs.ValueLemmas.{joined}

@@ -1,6 +1,6 @@
 use Rattle.std.proofs.Common.{◌≡◌, ◌+◌, ◌*◌, ◌++◌, map, drop}
 use Rattle.go_tree.specs.Tree.{tree_of, trees_of, node_count, node_count_of_all}
-use Rattle.go_model.specs.Waiting.{lacked_among}
+use Rattle.go_model.specs.Values.Waiting.{lacked_among}
 use Rattle.go_check.specs.Table.{slot_of}
 use Rattle.go_check.specs.View.{means_by}
 use Rattle.go_check.proofs.waits.+lacked.Given as goal

@@ -1,5 +1,5 @@
 use Rattle.std.proofs.Common.{◌≡◌, ◌++◌, drop}
-use Rattle.go_model.specs.Lacking.{lacking}
+use Rattle.go_model.specs.Values.Lacking.{lacking}
 use Rattle.go_check.specs.Table.{slot_of}
 use Rattle.go_check.specs.View.{constants_view, means_by}
 use Rattle.go_check.proofs.waits.waits_of.Given as goal

@@ -1,5 +1,5 @@
 use Rattle.std.proofs.Common.{arith}
-use Rattle.go_tree.specs.Scan.{none}
+use Rattle.go_tree.specs.Lexical.Scan.{none}
 use Rattle.go_tree.proofs.SpaceLemmas.{space_lies}
 use Rattle.go_form.proofs.BuildConstraintLemmas.{goes_on, goes_within, gap_more, gets_none, gets_more}
 use Rattle.go_form.proofs.build_constraints.build_constraints.Goals as goal

@@ -1,5 +1,5 @@
 use Rattle.std.proofs.Common.{◌≤◌, ◌-◌, false}
-use Rattle.go_tree.specs.Scan.{Gap}
+use Rattle.go_tree.specs.Lexical.Scan.{Gap}
 use Rattle.go_form.specs.BuildConstraints.{GetsBuildConstraints}
 use Rattle.go_form.proofs.build_constraints.build_constraints.Given as goal
 

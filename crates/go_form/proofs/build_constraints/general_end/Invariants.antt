@@ -1,5 +1,5 @@
 use Rattle.std.proofs.Common.{ℕ, ◌+◌, ◌≤◌, ◌-◌, length}
-use Rattle.go_tree.specs.Comments.{IsGeneralComment}
+use Rattle.go_tree.specs.Lexical.Comments.{IsGeneralComment}
 use Rattle.go_form.proofs.build_constraints.general_end.Given as goal
 
 abbrev pub invariant-loop-at : goal.invariant-loop-at

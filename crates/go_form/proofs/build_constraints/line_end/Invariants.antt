@@ -1,5 +1,5 @@
 use Rattle.std.proofs.Common.{ℕ, ◌+◌, ◌≤◌, ◌-◌, length}
-use Rattle.go_tree.specs.Comments.{IsLineComment}
+use Rattle.go_tree.specs.Lexical.Comments.{IsLineComment}
 use Rattle.go_form.proofs.build_constraints.line_end.Given as goal
 
 abbrev pub invariant-loop-at : goal.invariant-loop-at

@@ -1,7 +1,7 @@
 use Rattle.std.proofs.Common.{◌≡◌, ◌++◌, map, drop}
 use Rattle.std.specs.List.{flat_map}
 use Rattle.go_tree.specs.Tree.{tree_of}
-use Rattle.go_form.specs.Declarations.{generic_spec}
+use Rattle.go_form.specs.Families.Declarations.{generic_spec}
 use Rattle.go_form.proofs.declarations.push_generic_specs.Given as goal
 
 abbrev pub invariant-loop-spec : goal.invariant-loop-spec

@@ -1,6 +1,6 @@
 use Rattle.std.proofs.Common.{◌≡◌, ◌++◌, map, drop}
 use Rattle.go_tree.specs.Tree.{tree_of, trees_of}
-use Rattle.go_form.specs.Guards.{guards_of_parts}
+use Rattle.go_form.specs.Families.Guards.{guards_of_parts}
 use Rattle.go_form.proofs.guards.push_of_parts.Given as goal
 
 abbrev pub invariant-loop-part : goal.invariant-loop-part

@@ -1,7 +1,7 @@
 use Rattle.std.proofs.Common.{◌≡◌, ◌-◌, ◌≤◌, suc, List, [], ◌∷◌, length, map, get_or, ap, ◌∙◌, arith}
 use Rattle.go_tree.specs.declared.node.Node.{Node}
 use Rattle.go_tree.specs.Tree.{tree_of}
-use Rattle.go_form.specs.Parameters.{is_one_identifier, ends_in_identifier}
+use Rattle.go_form.specs.Families.Parameters.{is_one_identifier, ends_in_identifier}
 use Rattle.go_form.proofs.parameters.ends_in_identifier.Goals as goal
 
 ends_at_last : (ns : List Node) (n : Node) → 1 ≤ length ns → n ≡ get_or ns (length ns - 1) n → is_one_identifier (tree_of n) ≡ ends_in_identifier (map tree_of ns)

@@ -1,6 +1,6 @@
 use Rattle.std.proofs.Common.{◌≡◌, ◌++◌, ◌&&◌, map, drop, reverse}
 use Rattle.go_tree.specs.Tree.{tree_of}
-use Rattle.go_form.specs.Parameters.{is_variadic, is_none, variadics}
+use Rattle.go_form.specs.Families.Parameters.{is_variadic, is_none, variadics}
 use Rattle.go_form.proofs.parameters.push_variadics_reversed.Given as goal
 
 abbrev pub invariant-loop-place : goal.invariant-loop-place

@@ -1,7 +1,7 @@
 use Rattle.std.proofs.Common.{◌≡◌, ◌++◌, map, drop}
 use Rattle.go_tree.specs.Tree.{tree_of, trees_of}
-use Rattle.go_form.specs.Nodes.{places_where}
-use Rattle.go_form.specs.Statements.{is_no_name}
+use Rattle.go_form.specs.Families.Nodes.{places_where}
+use Rattle.go_form.specs.Families.Statements.{is_no_name}
 use Rattle.go_form.proofs.statements.push_no_names.Given as goal
 
 abbrev pub invariant-loop-node : goal.invariant-loop-node

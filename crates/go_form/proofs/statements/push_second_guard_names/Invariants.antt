@@ -1,6 +1,6 @@
 use Rattle.std.proofs.Common.{◌≡◌, ◌++◌, map, drop}
 use Rattle.go_tree.specs.Tree.{tree_of, trees_of}
-use Rattle.go_form.specs.Statements.{second_guard_names_at}
+use Rattle.go_form.specs.Families.Statements.{second_guard_names_at}
 use Rattle.go_form.proofs.statements.push_second_guard_names.Given as goal
 
 abbrev pub invariant-loop-node : goal.invariant-loop-node

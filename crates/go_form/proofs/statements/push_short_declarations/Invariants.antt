@@ -1,7 +1,7 @@
 use Rattle.std.proofs.Common.{◌≡◌, ◌++◌, map, drop}
 use Rattle.go_tree.specs.Tree.{tree_of, trees_of, kind_of}
-use Rattle.go_form.specs.Nodes.{places_where}
-use Rattle.go_form.specs.StatementParts.{is_short_declaration}
+use Rattle.go_form.specs.Families.Nodes.{places_where}
+use Rattle.go_form.specs.Families.StatementParts.{is_short_declaration}
 use Rattle.go_form.proofs.statements.push_short_declarations.Given as goal
 
 abbrev pub invariant-loop-node : goal.invariant-loop-node

@@ -1,6 +1,6 @@
 use Rattle.std.proofs.Common.{◌≡◌, map, drop}
 use Rattle.go_tree.specs.Tree.{tree_of, trees_of}
-use Rattle.go_form.specs.Statements.{some_has_several}
+use Rattle.go_form.specs.Families.Statements.{some_has_several}
 use Rattle.go_form.proofs.statements.some_has_several.Given as goal
 
 abbrev pub invariant-loop-node : goal.invariant-loop-node

@@ -1,7 +1,7 @@
 use Rattle.std.proofs.Common.{◌≡◌, ◌≤◌, ◌+◌, length, map, drop}
 use Rattle.go_tree.specs.Tree.{tree_of, trees_of}
-use Rattle.go_form.specs.Nodes.{places_where}
-use Rattle.go_form.specs.SwitchStatements.{is_default_clause}
+use Rattle.go_form.specs.Families.Nodes.{places_where}
+use Rattle.go_form.specs.Families.SwitchStatements.{is_default_clause}
 use Rattle.go_form.proofs.switch_statements.defaults.Given as goal
 
 abbrev pub invariant-loop-node : goal.invariant-loop-node

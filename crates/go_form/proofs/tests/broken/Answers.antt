@@ -1,5 +1,5 @@
 use Rattle.std.proofs.Common.{false, sym, subst}
-use Rattle.go_tree.specs.Scan.{Gap, none}
+use Rattle.go_tree.specs.Lexical.Scan.{Gap, none}
 use Rattle.go_form.proofs.tests.broken.Goals as goal
 
 pub broken_forms-requires : goal.broken_forms-requires

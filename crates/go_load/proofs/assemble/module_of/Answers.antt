@@ -1,7 +1,7 @@
 use Rattle.std.proofs.Common.{◌<◌, ℕ, List, length, map, ap, sym, subst, ◌∙◌}
 use Rattle.std.specs.Prelude.{◌==◌, All, position}
 use Rattle.go_module.specs.Modules.Module.{file_view}
-use Rattle.go_load.specs.Assembly.{files_left, packages_with}
+use Rattle.go_load.specs.Packages.Assembly.{files_left, packages_with}
 use Rattle.go_load.proofs.AssemblyLemmas.{module_made, order_inside, table_graph}
 use Rattle.go_load.proofs.SlotLemmas.{all-views}
 use Rattle.go_load.proofs.assemble.module_of.Goals as goal

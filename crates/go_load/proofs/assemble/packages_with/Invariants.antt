@@ -1,6 +1,6 @@
 use Rattle.std.proofs.Common.{◌≡◌, ◌++◌, drop, map}
 use Rattle.go_module.specs.Modules.Module.{package_view}
-use Rattle.go_load.specs.Assembly.{files_left, packages_with}
+use Rattle.go_load.specs.Packages.Assembly.{files_left, packages_with}
 use Rattle.go_load.proofs.assemble.packages_with.Given as goal
 
 -- the packages so far and those of what is left are those of all

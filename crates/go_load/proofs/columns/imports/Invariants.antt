@@ -1,5 +1,5 @@
 use Rattle.std.proofs.Common.{◌≡◌, ◌++◌, drop}
-use Rattle.go_load.specs.PathSets.{imports_by}
+use Rattle.go_load.specs.Packages.PathSets.{imports_by}
 use Rattle.go_load.proofs.columns.imports.Given as goal
 
 abbrev pub invariant-loop-k : goal.invariant-loop-k

@@ -1,7 +1,7 @@
 use Rattle.std.proofs.Common.{◌≡◌, ◌++◌, length, ap, ◌∙◌, arith}
 use Rattle.std.specs.List.{flat_map, range_with_len}
 use Rattle.go_graph.specs.Cycles.{marks_of}
-use Rattle.go_load.specs.CyclicImports.{cyclic_if_reached}
+use Rattle.go_load.specs.Packages.CyclicImports.{cyclic_if_reached}
 use Rattle.go_load.proofs.BrokenLemmas.{packages_more}
 use Rattle.go_load.proofs.cycles_broken.add_cyclic_imports.Goals as goal
 

@@ -1,6 +1,6 @@
 use Rattle.std.proofs.Common.{◌≡◌, ◌++◌, take}
 use Rattle.std.specs.List.{flat_map}
-use Rattle.go_load.specs.CyclicImports.{named_import}
+use Rattle.go_load.specs.Packages.CyclicImports.{named_import}
 use Rattle.go_load.proofs.cycles_broken.add_each_import.Given as goal
 
 abbrev pub invariant-loop-import : goal.invariant-loop-import

@@ -3,7 +3,7 @@ use Rattle.std.specs.Option.{option_map_or}
 use Rattle.std.specs.List.{flat_map}
 use Rattle.std.proofs.lemmas.List.{append-nil}
 use Rattle.go_module.specs.Modules.Heads.{FileHead}
-use Rattle.go_load.specs.CyclicImports.{named_import}
+use Rattle.go_load.specs.Packages.CyclicImports.{named_import}
 use Rattle.go_module.proofs.MemberLemmas.{get_beyond}
 use Rattle.go_load.proofs.cycles_broken.add_file.Goals as goal
 

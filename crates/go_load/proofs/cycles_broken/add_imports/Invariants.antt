@@ -1,6 +1,6 @@
 use Rattle.std.proofs.Common.{◌≡◌, ◌++◌, take}
 use Rattle.std.specs.List.{flat_map}
-use Rattle.go_load.specs.CyclicImports.{named_imports_at}
+use Rattle.go_load.specs.Packages.CyclicImports.{named_imports_at}
 use Rattle.go_load.proofs.cycles_broken.add_imports.Given as goal
 
 abbrev pub invariant-loop-file : goal.invariant-loop-file

@@ -1,5 +1,5 @@
 use Rattle.std.proofs.Common.{◌++◌, arith}
-use Rattle.go_load.specs.CyclicImports.{with_marks}
+use Rattle.go_load.specs.Packages.CyclicImports.{with_marks}
 use Rattle.go_load.proofs.CyclicLemmas.{marked_more, marked_all}
 use Rattle.go_load.proofs.cycles_broken.add_marked.Goals as goal
 

@@ -1,5 +1,5 @@
 use Rattle.std.proofs.Common.{◌≡◌, ◌++◌, drop}
-use Rattle.go_load.specs.CyclicImports.{with_marks}
+use Rattle.go_load.specs.Packages.CyclicImports.{with_marks}
 use Rattle.go_load.proofs.cycles_broken.add_marked.Given as goal
 
 abbrev pub invariant-loop-k : goal.invariant-loop-k

@@ -1,7 +1,7 @@
 use Rattle.std.proofs.Common.{◌++◌, sym, ap, ◌∙◌}
 use Rattle.go_graph.specs.Cycles.{marks_of}
 use Rattle.go_graph.specs.Graph.{is_marked, row_at}
-use Rattle.go_load.specs.CyclicImports.{named_imports_in}
+use Rattle.go_load.specs.Packages.CyclicImports.{named_imports_in}
 use Rattle.go_load.proofs.CyclicLemmas.{package_marked}
 use Rattle.go_load.proofs.cycles_broken.add_package.Goals as goal
 

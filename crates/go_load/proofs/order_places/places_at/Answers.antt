@@ -1,5 +1,5 @@
 use Rattle.std.proofs.Common.{arith}
-use Rattle.go_load.specs.Assembly.{slot_at}
+use Rattle.go_load.specs.Packages.Assembly.{slot_at}
 use Rattle.go_load.proofs.SlotLemmas.{filter_map-push}
 use Rattle.go_load.proofs.order_places.places_at.Goals as goal
 

@@ -1,6 +1,6 @@
 use Rattle.std.proofs.Common.{◌≡◌, take}
 use Rattle.std.specs.List.{filter_map}
-use Rattle.go_load.specs.Assembly.{slot_at}
+use Rattle.go_load.specs.Packages.Assembly.{slot_at}
 use Rattle.go_load.proofs.order_places.places_at.Given as goal
 
 abbrev pub invariant-loop-number : goal.invariant-loop-number

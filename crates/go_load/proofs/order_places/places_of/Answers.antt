@@ -1,5 +1,5 @@
 use Rattle.std.proofs.Common.{◌≡◌, ◌<◌, List, Option, ℕ, get_or, length, refl, ap, ◌∙◌, arith}
-use Rattle.go_load.specs.Assembly.{put_first}
+use Rattle.go_load.specs.Packages.Assembly.{put_first}
 use Rattle.go_load.proofs.OrderPlaceLemmas.{place_more, written_whole}
 use Rattle.go_load.proofs.order_places.places_of.Goals as goal
 

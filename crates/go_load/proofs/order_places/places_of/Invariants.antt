@@ -1,6 +1,6 @@
 use Rattle.std.proofs.Common.{◌≡◌, ◌==◌, ℕ, length, take}
 use Rattle.std.specs.Prelude.{position}
-use Rattle.go_load.specs.Assembly.{slot_at}
+use Rattle.go_load.specs.Packages.Assembly.{slot_at}
 use Rattle.go_load.proofs.order_places.places_of.Given as goal
 
 abbrev pub invariant-loop-place : goal.invariant-loop-place

@@ -4,7 +4,7 @@ use Rattle.go_module.specs.Modules.BrokenImports.{broken_imports_in}
 use Rattle.go_module.specs.Order.{IsListOf}
 use Rattle.go_graph.specs.Graph.{IsGraph}
 use Rattle.go_graph.specs.Cycles.{MarksCycles, marks_of}
-use Rattle.go_load.specs.CyclicImports.{cyclic_in}
+use Rattle.go_load.specs.Packages.CyclicImports.{cyclic_in}
 use Rattle.go_load.proofs.CyclicLemmas.{packages_told}
 use Rattle.go_load.proofs.TableGraphLemmas.{table_graph}
 use Rattle.go_load.proofs.packages_broken.broken_packages.Goals as goal

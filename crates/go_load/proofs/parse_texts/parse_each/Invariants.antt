@@ -1,5 +1,5 @@
 use Rattle.std.proofs.Common.{take}
-use Rattle.go_load.specs.Trees.{AreParsed}
+use Rattle.go_load.specs.Packages.Trees.{AreParsed}
 use Rattle.go_load.proofs.parse_texts.parse_each.Given as goal
 
 -- the first texts are parsed

@@ -1,5 +1,5 @@
 use Rattle.std.proofs.Common.{ℕ, List, subst}
-use Rattle.go_load.specs.ReadTexts.{AreGoFilesOf}
+use Rattle.go_load.specs.Texts.ReadTexts.{AreGoFilesOf}
 use Rattle.go_load.proofs.ReadingLemmas.{stub_files}
 use Rattle.go_load.proofs.reading.list_stubs.Goals as goal
 

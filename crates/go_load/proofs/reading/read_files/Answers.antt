@@ -1,7 +1,7 @@
 use Rattle.std.proofs.Common.{◌∙◌, List, Option, subst, arith}
 use Rattle.go_base.specs.declared.tree.MemFile.{MemFile}
 use Rattle.go_load.proofs.ReadingLemmas.{adds_more, ok_no_fault}
-use Rattle.go_load.specs.ReadTexts.{IsTextRead}
+use Rattle.go_load.specs.Texts.ReadTexts.{IsTextRead}
 use Rattle.go_load.proofs.reading.read_files.Goals as goal
 
 pub loop-path-preserved : goal.loop-path-preserved

@@ -1,5 +1,5 @@
 use Rattle.std.proofs.Common.{◌≡◌, take}
-use Rattle.go_load.specs.ReadTexts.{Adds}
+use Rattle.go_load.specs.Texts.ReadTexts.{Adds}
 use Rattle.go_load.proofs.reading.read_files.Given as goal
 
 abbrev pub invariant-loop-path : goal.invariant-loop-path

@@ -2,7 +2,7 @@ use Rattle.std.proofs.Common.{List, Option, subst}
 use Rattle.std.specs.Option.{option_copied}
 use Rattle.std.proofs.lemmas.Result.{err_from_is_err_and}
 use Rattle.go_base.specs.declared.tree.MemFile.{MemFile}
-use Rattle.go_load.specs.ReadTexts.{AreAllRead}
+use Rattle.go_load.specs.Texts.ReadTexts.{AreAllRead}
 use Rattle.go_load.proofs.ReadingLemmas.{reads_broken, reads_module, reads_nothing}
 use Rattle.go_load.proofs.reading.read_listed.Goals as goal
 

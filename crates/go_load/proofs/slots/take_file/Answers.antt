@@ -2,7 +2,7 @@ use Rattle.std.proofs.Common.{ap, ◌∙◌, sym}
 use Rattle.std.specs.Prelude.{option_map, slice_set}
 use Rattle.std.proofs.lemmas.List.{length-map, map-set}
 use Rattle.go_module.specs.Modules.Module.{file_view}
-use Rattle.go_load.specs.Assembly.{files_left}
+use Rattle.go_load.specs.Packages.Assembly.{files_left}
 use Rattle.go_load.proofs.SlotLemmas.{slot-past}
 use Rattle.go_load.proofs.slots.take_file.Goals as goal
 

@@ -1,6 +1,6 @@
 use Rattle.std.proofs.Common.{◌≡◌, ◌++◌, drop, map}
 use Rattle.go_module.specs.Modules.Module.{file_view}
-use Rattle.go_load.specs.Assembly.{cleared, files_left, taken}
+use Rattle.go_load.specs.Packages.Assembly.{cleared, files_left, taken}
 use Rattle.go_load.proofs.slots.take_files.Given as goal
 
 -- what was taken so far and what is taken of what is left are what is taken

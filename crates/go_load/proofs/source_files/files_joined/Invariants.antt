@@ -1,6 +1,6 @@
 use Rattle.std.proofs.Common.{◌≡◌, ◌++◌, length, map, reverse}
 use Rattle.go_module.specs.Modules.Module.{file_view}
-use Rattle.go_load.specs.SourceFiles.{joined}
+use Rattle.go_load.specs.Packages.SourceFiles.{joined}
 use Rattle.go_load.proofs.source_files.files_joined.Given as goal
 
 -- what is left and the files so far are all files

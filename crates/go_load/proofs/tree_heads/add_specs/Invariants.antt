@@ -1,6 +1,6 @@
 use Rattle.std.proofs.Common.{map, take}
 use Rattle.go_tree.specs.Tree.{tree_of}
-use Rattle.go_load.specs.Trees.{AddsImports}
+use Rattle.go_load.specs.Packages.Trees.{AddsImports}
 use Rattle.go_load.proofs.tree_heads.add_specs.Given as goal
 
 -- the imports added so far are those of the first specs

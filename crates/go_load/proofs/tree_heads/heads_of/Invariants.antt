@@ -1,6 +1,6 @@
 use Rattle.std.proofs.Common.{take}
 use Rattle.go_module.specs.Modules.Module.{AreHeads}
-use Rattle.go_load.specs.Trees.{trees_in}
+use Rattle.go_load.specs.Packages.Trees.{trees_in}
 use Rattle.go_load.proofs.tree_heads.heads_of.Given as goal
 
 -- the heads so far are those of the first texts

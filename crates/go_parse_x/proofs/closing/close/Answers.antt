@@ -1,6 +1,6 @@
 use Rattle.std.proofs.Common.{◌≡◌, [], ◌∷◌, ◌++◌, refl, sym, subst}
 use Rattle.std.proofs.lemmas.List.{append_assoc, append-nil}
-use Rattle.go_parse_x.specs.Opened.{numbers, Rises}
+use Rattle.go_parse_x.specs.Tables.Opened.{numbers, Rises}
 use Rattle.go_parse_x.proofs.OpenedLemmas.{numbers_append, numbers_among_push, Rises-push}
 use Rattle.go_parse_x.proofs.closing.close.Goals as goal
 

@@ -1,6 +1,6 @@
 use Rattle.std.proofs.Common.{◌≡◌}
 use Rattle.go_parse_x.specs.Answers.{spot_of}
-use Rattle.go_parse_x.specs.Steps.{behind}
+use Rattle.go_parse_x.specs.Machine.Steps.{behind}
 use Rattle.go_parse_x.proofs.counting.stray.Goals as goal
 
 pub returns-in-Err-peek-clause-stray : goal.returns-in-Err-peek-clause-stray

@@ -1,10 +1,10 @@
 use Rattle.std.proofs.Common.{ℕ}
-use Rattle.go_tree.specs.Grammar.Prediction.{AllDecided}
-use Rattle.go_tree.specs.Grammar.Sentence.{tables}
-use Rattle.go_parse_x.specs.Lines.{sides}
-use Rattle.go_parse_x.specs.Opened.{frames, numbers, Rises}
-use Rattle.go_parse_x.specs.Turns.{IsSameAtEnd}
-use Rattle.go_parse_x.specs.Weights.{cost}
+use Rattle.go_tree.specs.Grammar.Tables.Prediction.{AllDecided}
+use Rattle.go_tree.specs.Grammar.Trees.Sentence.{tables}
+use Rattle.go_parse_x.specs.Tables.Lines.{sides}
+use Rattle.go_parse_x.specs.Tables.Opened.{frames, numbers, Rises}
+use Rattle.go_parse_x.specs.Machine.Turns.{IsSameAtEnd}
+use Rattle.go_parse_x.specs.Machine.Weights.{cost}
 use Rattle.go_parse_x.proofs.finish.finish.Given as goal
 
 abbrev pub invariant-loop-place : goal.invariant-loop-place

@@ -1,7 +1,7 @@
 use Rattle.std.proofs.Common.{sym, ◌∙◌}
-use Rattle.go_tree.specs.Grammar.Prediction.{starts}
-use Rattle.go_tree.specs.Grammar.Sentence.{tables}
-use Rattle.go_parse_x.specs.Lines.{side}
+use Rattle.go_tree.specs.Grammar.Tables.Prediction.{starts}
+use Rattle.go_tree.specs.Grammar.Trees.Sentence.{tables}
+use Rattle.go_parse_x.specs.Tables.Lines.{side}
 use Rattle.go_parse_x.proofs.TurnLemmas.{left_same, right_same}
 use Rattle.go_parse_x.proofs.StepLemmas.{in_set, not_in_set}
 use Rattle.go_parse_x.proofs.machine.either.Goals as goal

@@ -1,5 +1,5 @@
 use Rattle.std.proofs.Common.{refl}
-use Rattle.go_parse_x.specs.Lines.{side}
+use Rattle.go_parse_x.specs.Tables.Lines.{side}
 use Rattle.go_parse_x.proofs.TurnLemmas.{sides_push, seq_same}
 use Rattle.go_parse_x.proofs.StepLemmas.{taken_turn, taken_cheaper, called_turn, called_cheaper}
 use Rattle.go_parse_x.proofs.WeightLemmas.{seq_cheaper}

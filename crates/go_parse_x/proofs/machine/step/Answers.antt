@@ -1,4 +1,4 @@
-use Rattle.go_parse_x.specs.Lines.{side}
+use Rattle.go_parse_x.specs.Tables.Lines.{side}
 use Rattle.go_parse_x.proofs.StepLemmas.{nothing_turn}
 use Rattle.go_parse_x.proofs.machine.step.Goals as goal
 

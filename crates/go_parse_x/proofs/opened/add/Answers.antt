@@ -2,7 +2,7 @@ use Rattle.std.proofs.Common.{◌≡◌, [], ◌∷◌, ◌++◌, refl, sym, sub
 use Rattle.std.proofs.lemmas.List.{append_assoc, append-nil}
 use Rattle.std.proofs.lemmas.Result.{on_ok_weaker, on_err_weaker}
 use Rattle.go_tree.specs.Tree.{tree_of}
-use Rattle.go_parse_x.specs.Opened.{numbers, numbers_in, Rises}
+use Rattle.go_parse_x.specs.Tables.Opened.{numbers, numbers_in, Rises}
 use Rattle.go_parse_x.proofs.OpenedLemmas.{seen_push, numbers_push, numbers_among_push, Rises-append, Rises-below, Rises-higher}
 use Rattle.go_parse_x.proofs.opened.add.Goals as goal
 

@@ -1,6 +1,6 @@
 use Rattle.std.proofs.Common.{ℕ, IfSome, sym, subst}
 use Rattle.go_tree.specs.Tree.{tree_of}
-use Rattle.go_parse_x.specs.Opened.{numbers, numbers_in, Rises}
+use Rattle.go_parse_x.specs.Tables.Opened.{numbers, numbers_in, Rises}
 use Rattle.go_parse_x.proofs.OpenedLemmas.{newest_rises}
 use Rattle.go_parse_x.proofs.opened.last_node.Goals as goal
 

@@ -1,5 +1,5 @@
-use Rattle.go_parse_x.specs.Lines.{side}
-use Rattle.go_parse_x.specs.Sizes.{size}
+use Rattle.go_parse_x.specs.Tables.Lines.{side}
+use Rattle.go_parse_x.specs.Tables.Sizes.{size}
 use Rattle.go_parse_x.proofs.prediction.+begins.Given as goal
 
 abbrev pub decreases-begins : goal.decreases-begins

@@ -1,5 +1,5 @@
-use Rattle.go_parse_x.specs.Lines.{side}
-use Rattle.go_parse_x.specs.Sizes.{size}
+use Rattle.go_parse_x.specs.Tables.Lines.{side}
+use Rattle.go_parse_x.specs.Tables.Sizes.{size}
 use Rattle.go_parse_x.proofs.prediction.+is_empty.Given as goal
 
 abbrev pub decreases-is_empty : goal.decreases-is_empty

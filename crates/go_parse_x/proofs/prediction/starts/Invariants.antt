@@ -1,7 +1,7 @@
 use Rattle.std.proofs.Common.{◌≡◌, ◌≤◌, length, take}
-use Rattle.go_tree.specs.Grammar.Prediction.{starts}
-use Rattle.go_tree.specs.Grammar.Sentence.{tables}
-use Rattle.go_parse_x.specs.Lines.{sides}
+use Rattle.go_tree.specs.Grammar.Tables.Prediction.{starts}
+use Rattle.go_tree.specs.Grammar.Trees.Sentence.{tables}
+use Rattle.go_parse_x.specs.Tables.Lines.{sides}
 use Rattle.go_parse_x.proofs.prediction.starts.Given as goal
 
 -- the places that were passed are empty, and do not begin with the kind

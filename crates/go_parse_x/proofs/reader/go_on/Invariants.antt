@@ -2,10 +2,10 @@ use Rattle.std.proofs.Common.{ℕ, ◌≡◌, true, false, List, ◌++◌, lengt
 use Rattle.go_parse_x.specs.Targets.{piece}
 use Rattle.go_tree.specs.declared.token.Token.{Token}
 use Rattle.go_scan.specs.Weight.{scan_weight}
-use Rattle.go_parse_x.specs.Lines.{sides}
+use Rattle.go_parse_x.specs.Tables.Lines.{sides}
 use Rattle.go_parse_x.specs.Pieces.{PassesNoBlock, open_view, IsOpen}
-use Rattle.go_tree.specs.Scan.{Stand}
-use Rattle.go_parse_x.specs.Turns.{IsSolid}
+use Rattle.go_tree.specs.Lexical.Scan.{Stand}
+use Rattle.go_parse_x.specs.Machine.Turns.{IsSolid}
 use Rattle.go_parse_x.proofs.reader.go_on.Given as goal
 
 abbrev pub invariant-loop-lex : goal.invariant-loop-lex

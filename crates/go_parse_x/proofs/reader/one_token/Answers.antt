@@ -3,10 +3,10 @@ use Rattle.go_parse_x.specs.Targets.{hands}
 use Rattle.go_tree.specs.declared.token.Token.{Token}
 use Rattle.go_scan.proofs.NextLemmas.{one_next}
 use Rattle.go_parse_x.specs.Answers.{spot_of}
-use Rattle.go_parse_x.specs.Lines.{sides}
-use Rattle.go_parse_x.specs.Opened.{frames, numbers, Rises}
+use Rattle.go_parse_x.specs.Tables.Lines.{sides}
+use Rattle.go_parse_x.specs.Tables.Opened.{frames, numbers, Rises}
 use Rattle.go_parse_x.specs.Pieces.{View, open_view, IsOpen, IsAwaiting}
-use Rattle.go_parse_x.specs.Turns.{IsSolid}
+use Rattle.go_parse_x.specs.Machine.Turns.{IsSolid}
 use Rattle.go_parse_x.proofs.PieceLemmas.{piece_is}
 use Rattle.go_parse_x.proofs.OpenLemmas.{passed_open, block_awaits, block_goes}
 use Rattle.go_parse_x.proofs.NoBlockLemmas.{passed_no_block}

@@ -1,8 +1,8 @@
 use Rattle.std.proofs.Common.{ℕ}
-use Rattle.go_parse_x.specs.Lines.{on_top, sides}
-use Rattle.go_parse_x.specs.Opened.{frames, numbers, Rises}
-use Rattle.go_parse_x.specs.Turns.{IsSound, IsSame, IsMet}
-use Rattle.go_parse_x.specs.Weights.{cost}
+use Rattle.go_parse_x.specs.Tables.Lines.{on_top, sides}
+use Rattle.go_parse_x.specs.Tables.Opened.{frames, numbers, Rises}
+use Rattle.go_parse_x.specs.Machine.Turns.{IsSound, IsSame, IsMet}
+use Rattle.go_parse_x.specs.Machine.Weights.{cost}
 use Rattle.go_parse_x.proofs.SettleLemmas.{assumed_so}
 use Rattle.go_parse_x.proofs.settle.settle.Given as goal
 

@@ -1,5 +1,5 @@
 use Rattle.std.proofs.Common.{◌+◌}
-use Rattle.go_parse_x.specs.Lines.{side_at}
+use Rattle.go_parse_x.specs.Tables.Lines.{side_at}
 use Rattle.go_parse_x.proofs.LeadLemmas.{filled, set_right}
 use Rattle.go_parse_x.proofs.shape.shape_of.Goals as goal
 

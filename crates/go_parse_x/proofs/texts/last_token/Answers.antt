@@ -1,7 +1,7 @@
 use Rattle.std.proofs.Common.{refl, ap}
 use Rattle.go_parse_x.specs.Answers.{spot_of}
-use Rattle.go_parse_x.specs.Lines.{sides}
-use Rattle.go_parse_x.specs.Opened.{frames, numbers}
+use Rattle.go_parse_x.specs.Tables.Lines.{sides}
+use Rattle.go_parse_x.specs.Tables.Opened.{frames, numbers}
 use Rattle.go_parse_x.specs.Pieces.{open_view}
 use Rattle.go_parse_x.specs.Targets.{piece}
 use Rattle.go_parse_x.proofs.PieceLemmas.{piece_is}

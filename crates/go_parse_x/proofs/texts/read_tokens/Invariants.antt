@@ -2,7 +2,7 @@ use Rattle.std.proofs.Common.{◌≡◌, List, length}
 use Rattle.go_tree.specs.declared.token.Token.{Token}
 use Rattle.go_scan.specs.Weight.{scan_weight}
 use Rattle.go_parse_x.specs.Pieces.{open_view, IsOpen}
-use Rattle.go_tree.specs.Scan.{Stand}
+use Rattle.go_tree.specs.Lexical.Scan.{Stand}
 use Rattle.go_parse_x.proofs.texts.read_tokens.Given as goal
 
 abbrev pub invariant-loop-lex : goal.invariant-loop-lex

@@ -1,7 +1,7 @@
 use Rattle.std.proofs.Common.{◌≡◌, ◌+◌, ◌*◌, map, drop}
 use Rattle.go_tree.specs.Tree.{tree_of, trees_of, node_count, node_count_of_all}
-use Rattle.go_tree.specs.Grammar.TypeTrees.{all_types}
-use Rattle.go_parse_x.specs.Opened.{all_unnumbered}
+use Rattle.go_tree.specs.Grammar.Trees.TypeTrees.{all_types}
+use Rattle.go_parse_x.specs.Tables.Opened.{all_unnumbered}
 use Rattle.go_parse_x.proofs.type_tree.+is_type.Given as goal
 
 abbrev pub decreases-is_type : goal.decreases-is_type

@@ -1,5 +1,5 @@
 use Rattle.std.proofs.Common.{◌+◌, ◌≤◌, length, sym, ◌∙◌, arith}
-use Rattle.go_tree.specs.Characters.{none}
+use Rattle.go_tree.specs.Lexical.Characters.{none}
 use Rattle.go_tree.proofs.CharacterRunLemmas.{run_from}
 use Rattle.go_tree.proofs.SpaceLemmas.{opens_general_within, closes_within}
 use Rattle.go_scan.proofs.CommentLemmas.{closing, open_first, inside_on, inside_moves, general_stuck, general_none, open_short, not_closing}

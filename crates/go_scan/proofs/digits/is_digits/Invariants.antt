@@ -1,5 +1,5 @@
 use Rattle.std.proofs.Common.{◌≡◌, ℕ, Bool, true, false, List, drop}
-use Rattle.go_tree.specs.Numbers.{is_digits, are_more_digits}
+use Rattle.go_tree.specs.Lexical.Numbers.{is_digits, are_more_digits}
 use Rattle.go_scan.specs.Digits.{is_digit_of}
 use Rattle.go_scan.proofs.digits.is_digits.Given as goal
 

@@ -1,8 +1,8 @@
 use Rattle.std.proofs.Common.{◌≡◌, ◌≤◌, ◌<◌, ◌+◌, ℕ, false, List, length, slice_index, Some, sym, ◌∙◌, ap, arith, inl, inr, IfOk, IfErr, Result, Ok, Err}
 use Rattle.std.specs.Prelude.{slice_range}
 use Rattle.std.proofs.lemmas.Bool.{both_ways}
-use Rattle.go_tree.specs.Characters.{is_allowed}
-use Rattle.go_tree.specs.Literals.{IsCharacter}
+use Rattle.go_tree.specs.Lexical.Characters.{is_allowed}
+use Rattle.go_tree.specs.Lexical.Literals.{IsCharacter}
 use Rattle.go_scan.specs.Escapes.{Stops, IsEscape, IsQuote, NoCharacter}
 use Rattle.go_scan.proofs.LiteralCharacterLemmas.{character_from, character_itself, character_escaped, allowed_itself, no_character, no_character_byte, no_character_escape}
 use Rattle.go_scan.proofs.escapes.character.Goals.{then-byte-quote-via-then-byte-quote, then-byte-quote-via-else-byte-quote+then-byte-eq10}

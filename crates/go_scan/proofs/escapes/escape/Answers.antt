@@ -1,7 +1,7 @@
 use Rattle.std.proofs.Common.{◌≡◌, ◌≤◌, ◌<◌, ◌+◌, ℕ, true, List, length, slice_index, sym, ◌∙◌, ap, arith, IfOk, IfErr, Result, Ok, Err}
 use Rattle.std.specs.Prelude.{slice_range}
-use Rattle.go_tree.specs.Literals.{is_simple_escape}
-use Rattle.go_tree.specs.Numbers.{is_octal}
+use Rattle.go_tree.specs.Lexical.Literals.{is_simple_escape}
+use Rattle.go_tree.specs.Lexical.Numbers.{is_octal}
 use Rattle.go_scan.specs.declared.escapes.Digits.{Digits}
 use Rattle.go_scan.specs.declared.escapes.Digits.TheVariants.{Octal, Byte, Little, Big}
 use Rattle.go_scan.specs.Escapes.{AreDigits, Stops, IsEscape, IsQuote}

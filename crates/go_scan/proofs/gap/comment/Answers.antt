@@ -1,6 +1,6 @@
 use Rattle.std.proofs.Common.{inl, inr, sym, ◌∙◌, arith}
-use Rattle.go_tree.specs.Comments.{OpensLine, OpensGeneral}
-use Rattle.go_tree.specs.Scan.{line, general}
+use Rattle.go_tree.specs.Lexical.Comments.{OpensLine, OpensGeneral}
+use Rattle.go_tree.specs.Lexical.Scan.{line, general}
 use Rattle.go_scan.proofs.SpaceLemmas.{line_alone, general_alone}
 use Rattle.go_scan.proofs.gap.comment.Goals as goal
 

@@ -1,5 +1,5 @@
 use Rattle.std.proofs.Common.{◌≤◌, ◌-◌, length}
-use Rattle.go_tree.specs.Scan.{Gap}
+use Rattle.go_tree.specs.Lexical.Scan.{Gap}
 use Rattle.go_scan.proofs.gap.place.Given as goal
 
 abbrev pub invariant-loop-end : goal.invariant-loop-end

@@ -1,6 +1,6 @@
 -- The digits read so far write the value.
 use Rattle.std.proofs.Common.{◌≡◌, take}
-use Rattle.go_tree.specs.Literals.{number_in}
+use Rattle.go_tree.specs.Lexical.Literals.{number_in}
 use Rattle.go_scan.specs.Digits.{size_of_base}
 use Rattle.go_scan.proofs.literals.natural_in.Given as goal
 

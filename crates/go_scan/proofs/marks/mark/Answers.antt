@@ -1,5 +1,5 @@
 use Rattle.std.proofs.Common.{◌≡◌, ◌+◌, ◌∷◌, [], slice_index, sym, ◌∙◌, arith}
-use Rattle.go_tree.specs.Tokens.{spelling}
+use Rattle.go_tree.specs.Lexical.Tokens.{spelling}
 use Rattle.go_scan.proofs.SpelledLemmas.{slice_two, two_within}
 use Rattle.go_scan.proofs.marks.mark.Goals as goal
 

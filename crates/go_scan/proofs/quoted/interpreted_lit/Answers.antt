@@ -1,5 +1,5 @@
 use Rattle.std.proofs.Common.{◌∙◌, sym, arith}
-use Rattle.go_tree.specs.Literals.{none}
+use Rattle.go_tree.specs.Lexical.Literals.{none}
 use Rattle.go_tree.proofs.ByteLemmas.{there}
 use Rattle.go_scan.proofs.QuotedLemmas.{StringEnds, characters_from, characters_more, string_none, string_stuck}
 use Rattle.go_scan.proofs.quoted.interpreted_lit.Goals as goal

@@ -1,5 +1,5 @@
 use Rattle.std.proofs.Common.{◌≤◌, ◌+◌, ◌-◌, length}
-use Rattle.go_tree.specs.Literals.{AreCharacters}
+use Rattle.go_tree.specs.Lexical.Literals.{AreCharacters}
 use Rattle.go_scan.proofs.quoted.interpreted_lit.Given as goal
 
 abbrev pub invariant-loop-from : goal.invariant-loop-from

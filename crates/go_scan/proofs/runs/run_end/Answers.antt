@@ -1,5 +1,5 @@
 use Rattle.std.proofs.Common.{sym, ◌∙◌, arith}
-use Rattle.go_tree.specs.Characters.{none}
+use Rattle.go_tree.specs.Lexical.Characters.{none}
 use Rattle.go_scan.specs.Runs.{passes_of}
 use Rattle.go_tree.proofs.CharacterRunLemmas.{More, one_more}
 use Rattle.go_scan.proofs.runs.run_end.Goals as goal

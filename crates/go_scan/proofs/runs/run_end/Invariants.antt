@@ -1,5 +1,5 @@
 use Rattle.std.proofs.Common.{◌≤◌, ◌-◌, length}
-use Rattle.go_tree.specs.Characters.{Run}
+use Rattle.go_tree.specs.Lexical.Characters.{Run}
 use Rattle.go_scan.specs.Runs.{passes_of}
 use Rattle.go_scan.proofs.runs.run_end.Given as goal
 

@@ -1,5 +1,5 @@
 use Rattle.std.proofs.Common.{◌≡◌, Some, sym, ◌∙◌}
-use Rattle.go_tree.specs.Numbers.{number_kind}
+use Rattle.go_tree.specs.Lexical.Numbers.{number_kind}
 use Rattle.std.proofs.Common.{slice_range}
 use Rattle.go_scan.proofs.NumberLemmas.{number_kind_int_or_float}
 use Rattle.go_scan.proofs.LongestLemmas.{number_is_longest, number_token_of, no_number_token, number_blamed}

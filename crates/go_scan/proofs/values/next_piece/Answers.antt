@@ -1,5 +1,5 @@
 use Rattle.std.proofs.Common.{List, ◌≡◌, ◌<◌, ◌+◌, ◌∷◌, ◌++◌, ℕ, [], length, slice_index, slice_range, sym, ◌∙◌, ap, arith}
-use Rattle.go_tree.specs.LiteralValues.{escape_len, unescaped}
+use Rattle.go_tree.specs.Lexical.LiteralValues.{escape_len, unescaped}
 use Rattle.go_scan.specs.Quoted.{Escapes}
 use Rattle.go_scan.proofs.UnescapeLemmas.{NextEscape, next_escape, escapes_from, unescaped_byte}
 use Rattle.go_scan.proofs.values.next_piece.Goals as goal

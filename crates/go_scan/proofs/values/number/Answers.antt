@@ -1,5 +1,5 @@
 use Rattle.std.proofs.Common.{◌≡◌, ◌*◌, length, slice_index, ◌∙◌, ap, refl, arith, take_all}
-use Rattle.go_tree.specs.Literals.{number_in, digit_value}
+use Rattle.go_tree.specs.Lexical.Literals.{number_in, digit_value}
 use Rattle.go_scan.specs.Escapes.{base_of}
 use Rattle.go_scan.proofs.ValueLemmas.{number_step, number_fits}
 use Rattle.go_scan.proofs.values.number.Goals as goal

@@ -1,5 +1,5 @@
 use Rattle.std.proofs.Common.{◌≡◌, take}
-use Rattle.go_tree.specs.Literals.{number_in}
+use Rattle.go_tree.specs.Lexical.Literals.{number_in}
 use Rattle.go_scan.specs.Escapes.{base_of}
 use Rattle.go_scan.proofs.values.number.Given as goal
 

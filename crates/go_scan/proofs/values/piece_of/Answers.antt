@@ -1,6 +1,6 @@
 use Rattle.std.proofs.Common.{◌≡◌, ◌⊎◌, true, slice_index, sym, ◌∙◌, ap, arith, inl, inr}
-use Rattle.go_tree.specs.Literals.{is_valid_code_point}
-use Rattle.go_tree.specs.LiteralValues.{escape_value}
+use Rattle.go_tree.specs.Lexical.Literals.{is_valid_code_point}
+use Rattle.go_tree.specs.Lexical.LiteralValues.{escape_value}
 use Rattle.go_scan.proofs.UnescapeLemmas.{code_escape, byte_escape, out_of_range}
 use Rattle.go_scan.proofs.values.piece_of.Goals.{then-e-eq117-via-then-e-eq117, then-e-eq117-via-else-e-eq117+then-e-eq85}
 use Rattle.go_scan.proofs.values.piece_of.Goals as goal

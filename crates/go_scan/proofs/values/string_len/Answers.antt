@@ -1,5 +1,5 @@
 use Rattle.std.proofs.Common.{length, sym, ◌∙◌, ap, arith}
-use Rattle.go_tree.specs.LiteralValues.{without_returns}
+use Rattle.go_tree.specs.Lexical.LiteralValues.{without_returns}
 use Rattle.go_scan.proofs.StringLemmas.{string_within, interpreted_escapes, interpreted_value, raw_value}
 use Rattle.go_scan.proofs.values.string_len.Goals as goal
 

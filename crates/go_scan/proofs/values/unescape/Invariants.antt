@@ -1,5 +1,5 @@
 use Rattle.std.proofs.Common.{◌≡◌, ◌++◌, ◌-◌, slice_range}
-use Rattle.go_tree.specs.LiteralValues.{unescaped}
+use Rattle.go_tree.specs.Lexical.LiteralValues.{unescaped}
 use Rattle.go_scan.specs.Quoted.{Escapes}
 use Rattle.go_scan.proofs.values.unescape.Given as goal
 

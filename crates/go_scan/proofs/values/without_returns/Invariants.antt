@@ -1,5 +1,5 @@
 use Rattle.std.proofs.Common.{◌≡◌, take}
-use Rattle.go_tree.specs.LiteralValues.{without_returns}
+use Rattle.go_tree.specs.Lexical.LiteralValues.{without_returns}
 use Rattle.go_scan.proofs.values.without_returns.Given as goal
 
 abbrev pub invariant-loop-byte : goal.invariant-loop-byte

@@ -1,5 +1,5 @@
 use Rattle.std.proofs.Common.{arith}
-use Rattle.go_module.specs.Names.BlockRules.{repeated_at}
+use Rattle.go_module.specs.Names.Rules.BlockRules.{repeated_at}
 use Rattle.go_scope.proofs.ListLemmas.{flat_step}
 use Rattle.go_scope.proofs.block_rules.add_repeated.Goals as goal
 

@@ -1,6 +1,6 @@
 use Rattle.std.proofs.Common.{◌≡◌, ◌++◌, take}
 use Rattle.std.specs.List.{flat_map}
-use Rattle.go_module.specs.Names.BlockRules.{repeated_at}
+use Rattle.go_module.specs.Names.Rules.BlockRules.{repeated_at}
 use Rattle.go_scope.proofs.block_rules.add_repeated.Given as goal
 
 abbrev pub invariant-loop-region : goal.invariant-loop-region

@@ -1,6 +1,6 @@
 use Rattle.std.proofs.Common.{◌≡◌, ◌++◌, take}
 use Rattle.std.specs.List.{flat_map}
-use Rattle.go_module.specs.Names.BlockRules.{reserved_at}
+use Rattle.go_module.specs.Names.Rules.BlockRules.{reserved_at}
 use Rattle.go_scope.proofs.block_rules.add_reserved.Given as goal
 
 abbrev pub invariant-loop-region : goal.invariant-loop-region

@@ -4,7 +4,7 @@ use Rattle.go_base.specs.declared.rule.Broken.{Broken}
 use Rattle.indexmap.specs.IndexMap.{insert_all}
 use Rattle.go_module.specs.Order.{IsListOf}
 use Rattle.go_module.specs.Modules.Module.{file_view, package_view}
-use Rattle.go_module.specs.Names.BrokenNames.{broken_in_files}
+use Rattle.go_module.specs.Names.Rules.BrokenNames.{broken_in_files}
 use Rattle.go_module.specs.Names.Constants.{names_of}
 use Rattle.go_module.specs.Names.Imports.{known_in}
 use Rattle.go_module.specs.Places.{with_number}

@@ -1,6 +1,6 @@
 use Rattle.std.proofs.Common.{◌≡◌, ◌++◌, take}
 use Rattle.std.specs.List.{flat_map}
-use Rattle.go_module.specs.Names.ImportRules as rule
+use Rattle.go_module.specs.Names.Rules.ImportRules as rule
 use Rattle.go_scope.proofs.import_rules.add_conflicting.Given as goal
 
 abbrev pub invariant-loop-import : goal.invariant-loop-import

@@ -1,7 +1,7 @@
 use Rattle.std.proofs.Common.{arith, get_or, not, ◌&&◌, ◌∙◌, ◌++◌}
 use Rattle.go_module.specs.Broken.{broken_at, told_if}
 use Rattle.go_module.specs.declared.block.Import.{Import}
-use Rattle.go_module.specs.Names.ImportRules as rule
+use Rattle.go_module.specs.Names.Rules.ImportRules as rule
 use Rattle.go_scope.specs.Resolved as spec
 use Rattle.go_scope.proofs.ListLemmas.{flat_step_at}
 use Rattle.go_scope.proofs.import_rules.add_unused.Goals as goal

@@ -1,6 +1,6 @@
 use Rattle.std.proofs.Common.{not, map, ap, ◌∙◌, List, ℕ, Bor}
 use Rattle.go_module.specs.Modules.Paths.{has_path}
-use Rattle.go_load.specs.PathSets.{with_path}
+use Rattle.go_load.specs.Packages.PathSets.{with_path}
 use Rattle.go_load.proofs.PathSetLemmas.{has-keys, with-keys}
 use Rattle.go_load.proofs.path_set.PathSet.add.Goals as goal
 

@@ -2,7 +2,7 @@ use Rattle.std.proofs.Common.{arith, ap, ◌∙◌, []}
 use Rattle.std.specs.Prelude.{fold}
 use Rattle.std.proofs.lemmas.List.{take_all}
 use Rattle.go_module.specs.Modules.Paths.{has_path}
-use Rattle.go_load.specs.PathSets.{with_path}
+use Rattle.go_load.specs.Packages.PathSets.{with_path}
 use Rattle.go_load.proofs.PathSetLemmas.{set_more, at-any, has-set, sorted_set}
 use Rattle.go_load.proofs.path_set.PathSet.of.Goals as goal
 

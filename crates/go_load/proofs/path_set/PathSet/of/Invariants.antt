@@ -1,6 +1,6 @@
 use Rattle.std.proofs.Common.{◌≡◌, [], take}
 use Rattle.std.specs.Prelude.{fold}
-use Rattle.go_load.specs.PathSets.{with_path}
+use Rattle.go_load.specs.Packages.PathSets.{with_path}
 use Rattle.go_load.proofs.path_set.PathSet.of.Given as goal
 
 abbrev pub invariant-loop-path : goal.invariant-loop-path

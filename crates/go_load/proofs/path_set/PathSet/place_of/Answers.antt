@@ -1,5 +1,5 @@
 use Rattle.std.proofs.Common.{ap, ◌∙◌}
-use Rattle.go_load.specs.PathSets.{place_of}
+use Rattle.go_load.specs.Packages.PathSets.{place_of}
 use Rattle.go_load.proofs.PathSetLemmas.{position-of}
 use Rattle.go_load.proofs.path_set.PathSet.place_of.Goals as goal
 

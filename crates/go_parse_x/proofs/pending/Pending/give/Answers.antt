@@ -1,6 +1,6 @@
 use Rattle.std.proofs.Common.{◌≡◌, refl, sym}
-use Rattle.go_parse_x.specs.Lines.{sides}
-use Rattle.go_parse_x.specs.Opened.{frames, numbers, tree_without}
+use Rattle.go_parse_x.specs.Tables.Lines.{sides}
+use Rattle.go_parse_x.specs.Tables.Opened.{frames, numbers, tree_without}
 use Rattle.go_parse_x.specs.Pieces.{open_view}
 use Rattle.go_parse_x.proofs.GiveLemmas.{given_open}
 use Rattle.go_parse_x.proofs.PieceLemmas.{piece_is}

@@ -1,6 +1,6 @@
 use Rattle.std.proofs.Common.{sym, ap, ◌∙◌}
 use Rattle.std.specs.Option.{option_copied}
-use Rattle.go_module.specs.Names.BlockRules.{is_repeated}
+use Rattle.go_module.specs.Names.Rules.BlockRules.{is_repeated}
 use Rattle.go_scope.proofs.HeldLemmas.{none_repeated}
 use Rattle.go_scope.proofs.held.Declared.is_repeated.Goals as goal
 

@@ -1,0 +1,20 @@
+//! The top call: one run of the checker.
+//!
+//! `gocheck` reads the words of the command, loads the module below ROOT with the stub packages that it reaches
+//! below ROOT2, checks it, and writes the text of its report to a sink; its answer is the status that the run
+//! ends with.
+#![tactic(auto)]
+
+mod fields;
+mod lines;
+mod places;
+mod run;
+mod text;
+mod values;
+mod verdict;
+mod words;
+
+pub use run::gocheck;
+
+#[cfg(test)]
+mod tests;
