@@ -7,5 +7,4 @@ pub mod Tree
 pub mod Sink
 pub mod MemTree
 pub mod MemSink
--- what a table of lines keeps inside
 pub mod Lines

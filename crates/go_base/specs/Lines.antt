@@ -15,6 +15,10 @@ pub record HasLineStarts (bytes : List ℕ) (end : ℕ) (starts : List ℕ) : Ty
   pub whole : length starts ≡ count_by is_newline (take end bytes) + 1
   pub each : (k : ℕ) → k < length starts → IsLineStart bytes k (slice_index starts k)
 
+-- the starts of all lines of a text, in order
+abbrev pub AreLineStarts : List ℕ → List ℕ → Type 0
+AreLineStarts text starts = HasLineStarts text (length text) starts
+
 -- the starts up to the offset are the first n
 pub record IsUpTo (starts : List ℕ) (offset n : ℕ) : Type 0 where
   pub within : n ≤ length starts

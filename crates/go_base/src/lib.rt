@@ -2,7 +2,8 @@
 //! trees that files are read from, the sinks that a report is written to, and the count of steps.
 #![tactic(auto)]
 
-// Places, rules and statuses.
+// Places, numbers of objects, rules and statuses.
+mod ids;
 mod lines;
 mod places;
 mod rule;
@@ -35,7 +36,8 @@ pub use blanks::is_blank;
 pub use bytes::Bytes;
 pub use files::has_distinct_paths;
 pub use folder_tree::FolderTree;
-pub use lines::Lines;
+pub use ids::ObjId;
+pub use lines::LineStarts;
 pub use mem_sink::{FailPut, MemSink};
 pub use mem_tree::MemTree;
 pub use name::Name;

@@ -1,7 +1,7 @@
 // That calls succeed where there is memory, and the values of a few tables.
 use crate::{
-    Bytes, FailPut, Family, LineCol, Lines, MemFile, MemSink, MemTree, Name, Rule, Sink, SinkFault,
-    Status, SureSink, SureTree, Tree, TreeFault, Word, has_distinct_paths, place,
+    Bytes, FailPut, Family, LineCol, LineStarts, MemFile, MemSink, MemTree, Name, Rule, Sink,
+    SinkFault, Status, SureSink, SureTree, Tree, TreeFault, Word, has_distinct_paths, place,
 };
 use std::alloc::{AllocError, Global};
 use std::test::Fail;
@@ -26,9 +26,9 @@ fn places(rt: HostRuntime) -> Result<(), Fail> {
         assert!(rt; offset <= bytes.len());
         let want = LineCol { line, col };
         assert_eq!(rt; place(bytes, offset), want, "{text:?} at {offset}");
-        let lines = Lines::new(rt.alloc(), bytes)?;
+        let lines = LineStarts::of(rt.alloc(), bytes)?;
         assert_eq!(rt;
-            lines.place(offset),
+            lines.place(bytes, offset),
             want,
             "{text:?} at {offset}, by its lines"
         );

@@ -5,16 +5,16 @@ use Rattle.std.proofs.lemmas.Bool.{cases_eq}
 use Rattle.std.proofs.lemmas.List.{take_at}
 use Rattle.std.proofs.lemmas.Option.{unwrap_or-slice_get}
 use Rattle.go_model.specs.declared.meaning.Meaning.{Meaning}
-use Rattle.go_model.specs.Values.Constants.{Constant}
+use Rattle.go_module.specs.Names.Declarations.{Declaration}
 use Rattle.go_model.specs.Values.Records.{value_over}
 use Rattle.go_model.specs.Values.Headers.{headers_of, Follows, Justified, Holds, Known}
 use Rattle.go_model.specs.Values.Quests.{IsPart}
 use Rattle.go_model.proofs.HeaderLemmas.{value_over-part, Follows-part, Follows-same, headers_of-here, headers_of-there, headers_of-holds, stays}
-use Rattle.go_check.specs.declared.constants.Constant.{Constant as OwnConstant}
+use Rattle.go_names.specs.declared.declaration.Declaration.{Declaration as OwnDeclaration}
 use Rattle.go_check.specs.Table.{slot_of, IsBacked, IsSettled, open_count}
-use Rattle.go_check.specs.View.{constant_view, constants_view}
+use Rattle.go_names.specs.Views.{declaration_view, declarations_view}
 
-module _ (means : ℕ → Meaning) (constants : List Constant) where
+module _ (means : ℕ → Meaning) (constants : List Declaration) where
   -- what a settled table has where a header follows from it
   settled_slot : (table : List (Option ℤ)) → IsBacked means constants table → ((d : ℕ) → IsSettled means constants table d) → (d : ℕ) (h : ℤ) → Follows means constants (slot_of table) d h → (o : Option ℤ) → slot_of table d ≡ o → o ≡ Some h
   settled_slot table b s d h g None e = absurd (s d h e g)
@@ -54,12 +54,12 @@ slot_of-there (x ∷ table) (suc d) zero h ne = refl
 slot_of-there (x ∷ table) (suc d) (suc n) h ne = slot_of-there table d n h (λ e. ne (ap suc e))
 
 -- a header that follows from the table may be put into it
-pub IsBacked-set : (means : ℕ → Meaning) (constants : List Constant) (table : List (Option ℤ)) (d : ℕ) (h : ℤ) (constant : Constant) → IsBacked means constants table → d < length table → slice_get constants d ≡ Some constant → value_over means (slot_of table) constant ≡ Some h → IsBacked means constants (slice_set table d (Some h))
-IsBacked-set means constants table d h constant b lt at v =
+pub IsBacked-set : (means : ℕ → Meaning) (constants : List Declaration) (table : List (Option ℤ)) (d : ℕ) (h : ℤ) (declaration : Declaration) → IsBacked means constants table → d < length table → slice_get constants d ≡ Some declaration → value_over means (slot_of table) declaration ≡ Some h → IsBacked means constants (slice_set table d (Some h))
+IsBacked-set means constants table d h declaration b lt at v =
     let part : IsPart (slot_of table) (headers_of b.list) = λ d' h' q. sym (b.same d') ∙ q in
     record {
       list = (d, h) ∷ b.list;
-      justified = (b.justified, record { constant = constant; declared = at; value = value_over-part means (slot_of table) (headers_of b.list) part constant h v });
+      justified = (b.justified, record { declaration = declaration; declared = at; value = value_over-part means (slot_of table) (headers_of b.list) part declaration h v });
       same = λ n. ⊎_elim
           (λ here. subst (λ m. slot_of (slice_set table d (Some h)) m ≡ headers_of ((d, h) ∷ b.list) m) here (slot_of-here table d h lt ∙ sym (headers_of-here (d, h) b.list d refl)))
           (λ ne. slot_of-there table d n h ne ∙ b.same n ∙ sym (headers_of-there (d, h) b.list n ne))
@@ -74,9 +74,9 @@ open_count-set (None ∷ table) (suc d) h lt e = let r = open_count-set table d 
 open_count-set (Some x ∷ table) (suc d) h lt e = open_count-set table d h (omega arith) e
 
 -- the constant at a place
-pub declared_at : (list : List OwnConstant) (d : ℕ) (c : OwnConstant) → d < length list → c ≡ get_or list d c → slice_get (constants_view list) d ≡ Some (constant_view c)
+pub declared_at : (list : List OwnDeclaration) (d : ℕ) (c : OwnDeclaration) → d < length list → c ≡ get_or list d c → slice_get (declarations_view list) d ≡ Some (declaration_view c)
 declared_at [] d c lt e = absurd (omega arith)
-declared_at (x ∷ list) zero c lt e = ap (λ (y : OwnConstant). Some (constant_view y)) (sym e)
+declared_at (x ∷ list) zero c lt e = ap (λ (y : OwnDeclaration). Some (declaration_view y)) (sym e)
 declared_at (x ∷ list) (suc d) c lt e = declared_at list d c (omega arith) e
 
 none_if : (o : Option ℤ) → false ≡ is_some o → o ≡ None

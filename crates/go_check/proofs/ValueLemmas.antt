@@ -1,30 +1,35 @@
--- Lists that grow by what each step adds.
-use Rattle.std.proofs.Common.{◌≡◌, ℕ, suc, ◌+◌, ◌<◌, List, ◌∷◌, ◌++◌, length, map, get_or, drop, sym, ap, ◌∙◌, append_assoc, add-one}
+-- The specs of the files of a package, and what they break, spec after spec.
+use Rattle.std.proofs.Common.{◌≡◌, ℕ, ◌+◌, Bool, List, [], ◌∷◌, ◌++◌, length, map, drop, refl, sym, ap, ◌∙◌, append_assoc}
 use Rattle.std.specs.List.{flat_map}
-use Rattle.std.proofs.Math.Seq.{drop-cons}
-use Rattle.go_base.specs.declared.rule.Broken.{Broken}
-use Rattle.go_tree.specs.Tree.{tree_of}
-use Rattle.go_model.specs.declared.meaning.Meaning.{Meaning}
-use Rattle.go_module.specs.declared.module.SourceFile.{SourceFile}
-use Rattle.go_module.specs.Modules.Module.{file_view}
-use Rattle.go_module.specs.Names.Constants.{const_specs}
-use Rattle.go_model.specs.Values.Records.{Headers}
-use Rattle.go_model.specs.Values.Rules.{broken_spec, broken_specs}
+use Rattle.std.proofs.lemmas.Grind.{flat_map-append}
+use Rattle.go_module.specs.Modules.Heads.{import_specs}
+use Rattle.go_module.specs.Modules.Module.{FileData}
+use Rattle.go_module.specs.Names.Declarations.{Spec, specs_from, specs_in_file}
+use Rattle.go_check.specs.Found.{OwnFileData, all_specs_in, own_files_from}
 
--- what two steps add
-pub joined : {X : Type 0} (old mid new a b whole : List X) → mid ≡ old ++ a → new ≡ mid ++ b → whole ≡ a ++ b → new ≡ old ++ whole
-joined old mid new a b whole first second split =
-    second ∙ ap (λ l. l ++ b) first ∙ append_assoc old a b ∙ ap (λ l. old ++ l) (sym split)
+-- the specs of all files are those of the package
+pub specs_are : (stub : Bool) (place : ℕ) (files : List FileData) (packages : List ℕ) → all_specs_in (own_files_from stub place files packages) ≡ specs_from place files
+specs_are stub place [] packages = refl
+specs_are stub place (f ∷ files) packages =
+    ap (λ l. specs_in_file place f.tree ++ l) (specs_are stub (place + 1) files (drop (length (import_specs f.tree)) packages))
 
-drop-step : (files : List SourceFile) (i : ℕ) (x : SourceFile) → i < length files → x ≡ get_or files i x → drop i files ≡ x ∷ drop (i + 1) files
-drop-step files i x lt e = drop-cons files i x lt ∙ ap (λ (y : SourceFile). y ∷ drop (suc i) files) (sym e) ∙ ap (λ k. x ∷ drop k files) (sym (add-one i))
+-- one more spec
+pub one_spec_more : {X Y Z : Type 0} (f : Y → List Z) (g : X → Y) (xs : List X) (i : ℕ) (x : X) (old new whole : List Z) → drop i xs ≡ x ∷ drop (i + 1) xs
+    → new ≡ old ++ f (g x) → old ++ flat_map f (map g (drop i xs)) ≡ whole → new ++ flat_map f (map g (drop (i + 1) xs)) ≡ whole
+one_spec_more f g xs i x old new whole at now so_far =
+    ap (λ l. l ++ flat_map f (map g (drop (i + 1) xs))) now
+    ∙ append_assoc old (f (g x)) (flat_map f (map g (drop (i + 1) xs)))
+    ∙ ap (λ l. old ++ flat_map f (map g l)) (sym at)
+    ∙ so_far
 
--- what one more file breaks
-pub one_more_file : (means : ℕ → Meaning) (headers : Headers) (files : List SourceFile) (i : ℕ) (x : SourceFile) (old new whole : List Broken) → i < length files → x ≡ get_or files i x → new ≡ old ++ flat_map (broken_spec i means headers) (const_specs (tree_of x.tree.root)) → old ++ broken_specs i means headers (map file_view (drop i files)) ≡ whole → new ++ broken_specs (i + 1) means headers (map file_view (drop (i + 1) files)) ≡ whole
-one_more_file means headers files i x old new whole lt at now before =
-    let own = flat_map (broken_spec i means headers) (const_specs (tree_of x.tree.root)) in
-    let rest = broken_specs (i + 1) means headers (map file_view (drop (i + 1) files)) in
-    ap (λ l. l ++ rest) now
-    ∙ append_assoc old own rest
-    ∙ ap (λ fs. old ++ broken_specs i means headers (map file_view fs)) (sym (drop-step files i x lt at))
-    ∙ before
+-- one more file
+pub one_file_more : {X Z : Type 0} (f : Spec → List Z) (g : X → OwnFileData) (xs : List X) (i : ℕ) (x : X) (old new whole : List Z) → drop i xs ≡ x ∷ drop (i + 1) xs
+    → new ≡ old ++ flat_map f (g x).specs → old ++ flat_map f (all_specs_in (map g (drop i xs))) ≡ whole → new ++ flat_map f (all_specs_in (map g (drop (i + 1) xs))) ≡ whole
+one_file_more f g xs i x old new whole at now so_far =
+    let here : List Spec = (g x).specs in
+    let rest : List Spec = all_specs_in (map g (drop (i + 1) xs)) in
+    ap (λ l. l ++ flat_map f rest) now
+    ∙ append_assoc old (flat_map f here) (flat_map f rest)
+    ∙ ap (λ l. old ++ l) (sym (flat_map-append f here rest))
+    ∙ ap (λ l. old ++ flat_map f (all_specs_in (map g l))) (sym at)
+    ∙ so_far

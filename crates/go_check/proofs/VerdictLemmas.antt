@@ -5,28 +5,30 @@ use Rattle.std.specs.Map.{lookup}
 use Rattle.std.proofs.Math.Path.{fun_ext}
 use Rattle.indexmap.specs.IndexMap.{insert_all}
 use Rattle.go_base.specs.declared.rule.Broken.{Broken}
+use Rattle.go_base.specs.declared.ids.ObjId.{ObjId}
 use Rattle.go_tree.specs.declared.node.NodeId.{NodeId}
-use Rattle.go_model.specs.declared.meaning.Meaning.{Meaning}
-use Rattle.go_module.specs.declared.object.ObjId.{ObjId}
 use Rattle.go_module.specs.declared.scopes.Scopes.{Scopes}
-use Rattle.go_model.specs.Values.Constants.{Constant, constants_of, numbers_of}
+use Rattle.go_module.specs.Modules.Module.{ModuleData, PackageData}
+use Rattle.go_module.specs.Names.Declarations.{Declaration, declarations_of, numbers_of}
+use Rattle.go_module.specs.Names.Imports.{known_in}
+use Rattle.go_module.specs.Names.Rules.BrokenNames.{broken_names}
+use Rattle.go_module.specs.Names.Tables.{IsScopesOf}
 use Rattle.go_module.specs.Order.{IsListOf}
+use Rattle.go_module.specs.Places.{placed_by}
+use Rattle.go_module.specs.Scopes.{same_node, same_object}
+use Rattle.go_model.specs.declared.meaning.Meaning.{Meaning}
+use Rattle.go_model.specs.Outline.{outline_of}
+use Rattle.go_model.specs.PackageLines.{AreLines, named_in}
+use Rattle.go_model.specs.Phases.{ArePackageLines, HasHeaders, BreaksValues, IsVerdict, by_names, by_values, sound, values_of}
+use Rattle.go_model.specs.Report.{VerdictData, accepted, refused}
 use Rattle.go_model.specs.Values.Headers.{Known}
 use Rattle.go_model.specs.Values.Meaning.{KnownValues, meaning_by, meaning_in, place_among, uses_table}
-use Rattle.go_module.specs.Modules.Module.{ModuleData, PackageData}
-use Rattle.go_model.specs.PackageLines.{lines_of, outline_of}
-use Rattle.go_model.specs.Phases.{HasHeaders, BreaksValues, IsVerdict, by_names, by_values, sound, values_of}
-use Rattle.go_module.specs.Places.{placed_by}
 use Rattle.go_model.specs.Values.Records.{Headers}
-use Rattle.go_model.specs.Report.{VerdictData, accepted, refused}
 use Rattle.go_model.specs.Values.Rules.{broken_values}
-use Rattle.go_module.specs.Scopes.{same_node, same_object}
 use Rattle.go_model.specs.Values.Waiting.{Chain}
-use Rattle.go_module.specs.Names.Rules.BrokenNames.{broken_names}
-use Rattle.go_module.specs.Names.Imports.{known_in}
-use Rattle.go_module.specs.Names.Tables.{IsScopesOf}
 use Rattle.go_scope.specs.Collecting.{IsBrokenNames}
 use Rattle.go_check.specs.declared.around.Around.{Around}
+use Rattle.go_check.specs.Verdicts.{IsAccepting}
 use Rattle.go_check.specs.View.{IsAround, denotes_by, means_by, places_by}
 
 -- the package at a place is one
@@ -41,9 +43,9 @@ module _ (m : ModuleData) (k : ℕ) (p : PackageData) (at : slice_get m.packages
   pub sound_names : (scopes : Scopes) → IsScopesOf m k scopes → broken_names (known_in m) k p ≡ []
   sound_names scopes is = ap (broken_names (known_in m) k) (sym (same_package m k p is.p at is.at)) ∙ is.sound
 
-  module _ (constants : List Constant) (around : Around) (constants_are : constants ≡ constants_of p) (is_around : IsAround constants around) (is_scopes : IsScopesOf m k around.scopes.now) where
-    places_are : places_by around ≡ place_among (numbers_of (constants_of p))
-    places_are = fun_ext (λ d. is_around d ∙ ap (λ (cs : List Constant). place_among (numbers_of cs) d) constants_are)
+  module _ (declarations : List Declaration) (around : Around) (declarations_are : declarations ≡ declarations_of p) (is_around : IsAround declarations around) (is_scopes : IsScopesOf m k around.scopes.now) where
+    places_are : places_by around ≡ place_among (numbers_of (declarations_of p))
+    places_are = fun_ext (λ d. is_around d ∙ ap (λ (ds : List Declaration). place_among (numbers_of ds) d) declarations_are)
 
     pub means_are : means_by around ≡ meaning_in m k p around.before.now.entries
     means_are =
@@ -53,36 +55,37 @@ module _ (m : ModuleData) (k : ℕ) (p : PackageData) (at : slice_get m.packages
     pub denotes_are : denotes_by around ≡ (λ id. lookup (same_node id) (uses_table m k p))
     denotes_are = ap (λ (uses : List (NodeId × ObjId)). λ id. lookup (same_node id) uses) (uses_are around.scopes.now is_scopes)
 
-module _ (m : ModuleData) (k : ℕ) (p : PackageData) (before : KnownValues) (means : ℕ → Meaning) (constants : List Constant) (means_are : means ≡ meaning_in m k p before) (constants_are : constants ≡ constants_of p) where
+module _ (m : ModuleData) (k : ℕ) (p : PackageData) (before : KnownValues) (means : ℕ → Meaning) (declarations : List Declaration) (means_are : means ≡ meaning_in m k p before) (declarations_are : declarations ≡ declarations_of p) where
   -- what the values break, over what was found
   pub breaks : (headers : Headers) (cyclic : ℕ → Bool) (list : List Broken) → broken_names (known_in m) k p ≡ []
-      → ((d : ℕ) (h : ℤ) → (headers d ≡ Some h) ↔ Known means constants d h)
-      → ((d : ℕ) → (cyclic d ≡ true) ↔ Chain means constants headers d d)
+      → ((d : ℕ) (h : ℤ) → (headers d ≡ Some h) ↔ Known means declarations d h)
+      → ((d : ℕ) → (cyclic d ≡ true) ↔ Chain means declarations headers d d)
       → IsListOf (broken_values means headers cyclic p) list
       → BreaksValues m k p before headers list
   breaks headers cyclic list names known chains listed =
-      let found : HasHeaders means constants headers cyclic = record { known = known; is_cyclic = chains } in
-      let own = subst (λ (ms : ℕ → Meaning). HasHeaders ms constants headers cyclic) means_are found in
+      let found : HasHeaders means declarations headers cyclic = record { known = known; is_cyclic = chains } in
+      let own = subst (λ (ms : ℕ → Meaning). HasHeaders ms declarations headers cyclic) means_are found in
       record {
         sound_names = names;
         cyclic = cyclic;
-        has_headers = subst (λ (cs : List Constant). HasHeaders (meaning_in m k p before) cs headers cyclic) constants_are own;
+        has_headers = subst (λ (ds : List Declaration). HasHeaders (meaning_in m k p before) ds headers cyclic) declarations_are own;
         is_list = subst (λ (ms : ℕ → Meaning). IsListOf (broken_values ms headers cyclic p) list) means_are listed;
       }
 
   -- no rule is broken
   pub sound_verdict : (headers : Headers) (denotes : NodeId → Option ObjId) (list : List Broken) (verdict : VerdictData) (values : List (ObjId × ℤ)) → BreaksValues m k p before headers list → list ≡ []
       → denotes ≡ (λ id. lookup (same_node id) (uses_table m k p))
-      → verdict ≡ accepted (lines_of (outline_of m) k p denotes means headers) → values ≡ values_of means headers constants
+      → IsAccepting (outline_of m) k p denotes means headers verdict → values ≡ values_of means headers declarations
       → IsVerdict m k p before verdict (insert_all same_object before values)
-  sound_verdict headers denotes list verdict values found none denotes_are verdict_is values_are =
-      let is = sound headers (subst (BreaksValues m k p before headers) none found) in
-      let own : verdict ≡ accepted (lines_of (outline_of m) k p (λ id. lookup (same_node id) (uses_table m k p)) (meaning_in m k p before) headers) =
-      verdict_is ∙ ap (λ ds. accepted (lines_of (outline_of m) k p ds means headers)) denotes_are ∙ ap (λ (ms : ℕ → Meaning). accepted (lines_of (outline_of m) k p (λ id. lookup (same_node id) (uses_table m k p)) ms headers)) means_are in
-      let all : values ≡ values_of (meaning_in m k p before) headers (constants_of p) =
-      values_are ∙ ap (λ (ms : ℕ → Meaning). values_of ms headers constants) means_are ∙ ap (values_of (meaning_in m k p before) headers) constants_are in
-      subst (λ v. IsVerdict m k p before v (insert_all same_object before values)) (sym own)
-      (subst (λ vs. IsVerdict m k p before (accepted (lines_of (outline_of m) k p (λ id. lookup (same_node id) (uses_table m k p)) (meaning_in m k p before) headers)) (insert_all same_object before vs)) (sym all) is)
+  sound_verdict headers denotes list verdict values found none denotes_are accepting values_are =
+      let own : ArePackageLines m k p before headers accepting.lines =
+      subst (λ (ms : ℕ → Meaning). AreLines (outline_of m) k p (λ id. lookup (same_node id) (uses_table m k p)) ms headers accepting.lines) means_are
+      (subst (λ ds. AreLines (outline_of m) k p ds means headers accepting.lines) denotes_are accepting.are_lines) in
+      let is = sound headers accepting.lines (subst (BreaksValues m k p before headers) none found) own in
+      let all : values ≡ values_of (meaning_in m k p before) headers (declarations_of p) =
+      values_are ∙ ap (λ (ms : ℕ → Meaning). values_of ms headers declarations) means_are ∙ ap (values_of (meaning_in m k p before) headers) declarations_are in
+      subst (λ v. IsVerdict m k p before v (insert_all same_object before values)) (sym accepting.is)
+      (subst (λ vs. IsVerdict m k p before (accepted accepting.lines (named_in (outline_of m) accepting.lines)) (insert_all same_object before vs)) (sym all) is)
 
 module _ (m : ModuleData) (k : ℕ) (p : PackageData) (before : KnownValues) where
   -- some rule is

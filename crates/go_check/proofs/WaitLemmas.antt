@@ -1,4 +1,4 @@
--- What an expression lacks, node by node, and the graph of the waits.
+-- What an expression lacks, and the graph of the waits.
 use Rattle.std.proofs.Common.{◌≡◌, ℕ, ℤ, ◌<◌, Bool, Option, Some, None, List, [], ◌∷◌, ◌++◌, length, map, refl, sym, ap, ◌∙◌, subst, Contains, arith}
 use Rattle.std.specs.Prelude.{◌↔◌, All, slice_get, unwrap_or, if◌then◌else◌, true, false}
 use Rattle.std.specs.List.{flat_map}
@@ -6,20 +6,22 @@ use Rattle.std.specs.Option.{option_map}
 use Rattle.std.proofs.lemmas.List.{length-map}
 use Rattle.std.proofs.lemmas.Option.{slice_get-map}
 use Rattle.std.proofs.lemmas.List.Elements.{All-nil, All-cons, All-append, All-contains}
+use Rattle.go_base.specs.declared.ids.ObjId.{ObjId}
+use Rattle.go_graph.specs.Graph.{Graph, HasEdge, Path, start, further, IsGraph, row_at}
 use Rattle.go_tree.specs.declared.node_kind.NodeKind.TheVariants.{AddExpr, SelectorExpr, Name}
-use Rattle.go_tree.specs.Tree.{Tree, branch, Trees, no_trees, more_trees, id_of, kind_of, parts_of}
+use Rattle.go_tree.specs.Tree.{Tree, branch, no_trees, more_trees, id_of, kind_of, parts_of}
+use Rattle.go_module.specs.Names.Declarations.{Declaration, rests_on}
+use Rattle.go_module.specs.Names.Occurrences.{nodes_in}
+use Rattle.go_module.proofs.MemberLemmas.{contains_none}
 use Rattle.go_model.specs.declared.meaning.Meaning.{Meaning}
 use Rattle.go_model.specs.declared.meaning.Meaning.TheVariants.{Own, Outer, Predeclared, Other}
-use Rattle.go_module.specs.declared.object.ObjId.{ObjId}
-use Rattle.go_model.specs.Values.Constants.{Constant}
-use Rattle.go_graph.specs.Graph.{Graph, HasEdge, Path, start, further, IsGraph, row_at}
-use Rattle.go_module.proofs.MemberLemmas.{contains_none}
+use Rattle.go_model.specs.Outline.{is_predeclared}
 use Rattle.go_model.specs.Values.Lacking.{lacking}
-use Rattle.go_model.specs.Values.Meaning.{KnownValues, denoted_meaning, declared_meaning, outer_meaning, is_predeclared}
+use Rattle.go_model.specs.Values.Meaning.{KnownValues, denoted_meaning, declared_meaning, outer_meaning}
 use Rattle.go_model.specs.Values.Quests.{Done, run}
 use Rattle.go_model.specs.Values.Records.{Headers, record_of}
 use Rattle.go_model.specs.Values.Tests.{name_test, selector_test, sum_test, asked_of}
-use Rattle.go_model.specs.Values.Waiting.{lacked, lacked_in, lacked_among, lacked_by, Waits, Chain, one, more}
+use Rattle.go_model.specs.Values.Waiting.{lacked, lacked_in, lacked_by, Waits, Chain, one, more}
 use Rattle.go_check.specs.declared.around.Around.{Around}
 use Rattle.go_check.specs.View.{PlacesBelow, denotes_by, means_by, places_by}
 
@@ -42,20 +44,7 @@ selector_lacks headers Predeclared operand = refl
 selector_lacks headers Other None = refl
 selector_lacks headers Other (Some v) = refl
 
--- what an expression lacks, by its parts
-lacked-behind : (means : ℕ → Meaning) (headers : Headers) (id from to : ℕ) (text : List ℕ) (parts : Trees) (a b : Tree) → parts ≡ more_trees a (more_trees b no_trees) → lacked_in means headers (branch id from to SelectorExpr text parts) ≡ lacked (asked_of means headers (branch id from to SelectorExpr text parts)) ++ lacked_in means headers a
-lacked-behind means headers id from to text parts a b two =
-    subst (λ ts. lacked_in means headers (branch id from to SelectorExpr text ts) ≡ lacked (asked_of means headers (branch id from to SelectorExpr text ts)) ++ lacked_in means headers a) (sym two) refl
-
-pub lacked-selector : (means : ℕ → Meaning) (headers : Headers) (t a b : Tree) → kind_of t ≡ SelectorExpr → parts_of t ≡ more_trees a (more_trees b no_trees) → lacked_in means headers t ≡ lacked (asked_of means headers t) ++ lacked_in means headers a
-lacked-selector means headers (branch id from to kind text parts) a b is two =
-    subst (λ k. lacked_in means headers (branch id from to k text parts) ≡ lacked (asked_of means headers (branch id from to k text parts)) ++ lacked_in means headers a) (sym is) (lacked-behind means headers id from to text parts a b two)
-
-pub lacked-parts : (means : ℕ → Meaning) (headers : Headers) (t : Tree) → ((a b : Tree) → kind_of t ≡ SelectorExpr → parts_of t ≡ more_trees a (more_trees b no_trees) → ⊥) → lacked_in means headers t ≡ lacked (asked_of means headers t) ++ lacked_among means headers (parts_of t)
-lacked-parts means headers (branch id from to SelectorExpr text (more_trees x (more_trees y no_trees))) s = absurd (s x y refl refl)
-lacked-parts means headers t s = refl
-
--- what a name lacks is the place of a constant
+-- what a name lacks is the place of a declaration
 slot_within : (n d : ℕ) (h : Option ℤ) → d < n → All (λ k. k < n) (lacked (Some (run (λ _. h) (name_test (Own d)))))
 slot_within n d None lt = All-cons (λ k. k < n) d [] lt (All-nil (λ k. k < n))
 slot_within n d (Some h) lt = All-nil (λ k. k < n)
@@ -73,25 +62,15 @@ module _ (n : ℕ) (means : ℕ → Meaning) (headers : Headers) (below : (id pl
       subst (All (λ k. k < n)) (sym (selector_lacks headers (means (id_of y)) (record_of means headers x))) (name_within n headers (means (id_of y)) (below (id_of y)))
   own_within t = subst (All (λ k. k < n)) (sym (lacks_none means headers t (λ e. cc) (λ a b e two. cc))) (All-nil (λ k. k < n))
 
-  mutual
-    lacked_within : (t : Tree) → All (λ k. k < n) (lacked_in means headers t)
-    lacked_within (branch id from to SelectorExpr text (more_trees x (more_trees y no_trees))) =
-        All-append (λ k. k < n) (lacked (asked_of means headers (branch id from to SelectorExpr text (more_trees x (more_trees y no_trees))))) (lacked_in means headers x)
-        (own_within (branch id from to SelectorExpr text (more_trees x (more_trees y no_trees)))) (lacked_within x)
-    lacked_within (branch id from to kind text parts) =
-        subst (All (λ k. k < n)) (sym (lacked-parts means headers (branch id from to kind text parts) (λ a b e two. cc)))
-        (All-append (λ k. k < n) (lacked (asked_of means headers (branch id from to kind text parts))) (lacked_among means headers parts)
-        (own_within (branch id from to kind text parts)) (among_within parts))
+  flat_within : {X : Type 0} (f : X → List ℕ) → ((x : X) → All (λ k. k < n) (f x)) → (xs : List X) → All (λ k. k < n) (flat_map f xs)
+  flat_within f each [] = All-nil (λ k. k < n)
+  flat_within f each (x ∷ xs) = All-append (λ k. k < n) (f x) (flat_map f xs) (each x) (flat_within f each xs)
 
-    among_within : (ts : Trees) → All (λ k. k < n) (lacked_among means headers ts)
-    among_within no_trees = All-nil (λ k. k < n)
-    among_within (more_trees t ts) =
-        All-append (λ k. k < n) (lacked_in means headers t) (lacked_among means headers ts)
-        (lacked_within t) (among_within ts)
+  lacked_within : (t : Tree) → All (λ k. k < n) (lacked_in means headers t)
+  lacked_within t = flat_within (λ node. lacked (asked_of means headers node)) own_within (nodes_in t)
 
   all_within : (ts : List Tree) → All (λ k. k < n) (flat_map (lacked_in means headers) ts)
-  all_within [] = All-nil (λ k. k < n)
-  all_within (t ∷ ts) = All-append (λ k. k < n) (lacked_in means headers t) (flat_map (lacked_in means headers) ts) (lacked_within t) (all_within ts)
+  all_within ts = flat_within (lacked_in means headers) lacked_within ts
 
 -- only the place of an object is the place that an identifier means
 outer_place : (o : Option ℤ) (place : ℕ) → outer_meaning o ≡ Own place → ⊥
@@ -117,41 +96,41 @@ places_within n around below id place e =
     below found.0 place found.1
 
 -- the graph of the waits
-row_declared : (f : Constant → List ℕ) (constants : List Constant) (d e : ℕ) → Contains (row_at (map f constants) d) e → (constant : Constant) × (slice_get constants d ≡ Some constant) × Contains (f constant) e
-row_declared f constants d e has = by_place (slice_get constants d) refl (subst (λ (o : Option (List ℕ)). Contains (unwrap_or o []) e) (slice_get-map f constants d) has)
+row_declared : (f : Declaration → List ℕ) (declarations : List Declaration) (d e : ℕ) → Contains (row_at (map f declarations) d) e → (declaration : Declaration) × (slice_get declarations d ≡ Some declaration) × Contains (f declaration) e
+row_declared f declarations d e has = by_place (slice_get declarations d) refl (subst (λ (o : Option (List ℕ)). Contains (unwrap_or o []) e) (slice_get-map f declarations d) has)
   where
-    by_place : (o : Option Constant) → slice_get constants d ≡ o → Contains (unwrap_or (option_map f o) []) e → (constant : Constant) × (slice_get constants d ≡ Some constant) × Contains (f constant) e
+    by_place : (o : Option Declaration) → slice_get declarations d ≡ o → Contains (unwrap_or (option_map f o) []) e → (declaration : Declaration) × (slice_get declarations d ≡ Some declaration) × Contains (f declaration) e
     by_place None at h = absurd (contains_none e h)
-    by_place (Some constant) at h = (constant, at, h)
+    by_place (Some declaration) at h = (declaration, at, h)
 
-declared_row : (f : Constant → List ℕ) (constants : List Constant) (d : ℕ) (constant : Constant) → slice_get constants d ≡ Some constant → row_at (map f constants) d ≡ f constant
-declared_row f constants d constant at = ap (λ (o : Option (List ℕ)). unwrap_or o []) (slice_get-map f constants d ∙ ap (option_map f) at)
+declared_row : (f : Declaration → List ℕ) (declarations : List Declaration) (d : ℕ) (declaration : Declaration) → slice_get declarations d ≡ Some declaration → row_at (map f declarations) d ≡ f declaration
+declared_row f declarations d declaration at = ap (λ (o : Option (List ℕ)). unwrap_or o []) (slice_get-map f declarations d ∙ ap (option_map f) at)
 
-module _ (means : ℕ → Meaning) (headers : Headers) (constants : List Constant) where
-  pub waits_graph : ((id place : ℕ) → means id ≡ Own place → place < length constants) → IsGraph (lacking means headers constants)
+module _ (means : ℕ → Meaning) (headers : Headers) (declarations : List Declaration) where
+  pub waits_graph : ((id place : ℕ) → means id ≡ Own place → place < length declarations) → IsGraph (lacking means headers declarations)
   waits_graph below a b e =
-      let at = row_declared (lacked_by means headers) constants a b e in
-      let lt = All-contains (λ k. k < length constants) (lacked_by means headers at.0) b (all_within (length constants) means headers below at.0.rests_on) at.2 in
-      omega (arith, lt, length-map constants (lacked_by means headers))
+      let at = row_declared (lacked_by means headers) declarations a b e in
+      let lt = All-contains (λ k. k < length declarations) (lacked_by means headers at.0) b (all_within (length declarations) means headers below (rests_on at.0)) at.2 in
+      omega (arith, lt, length-map declarations (lacked_by means headers))
 
-  edge_waits : (d e : ℕ) → HasEdge (lacking means headers constants) d e → Waits means constants headers d e
+  edge_waits : (d e : ℕ) → HasEdge (lacking means headers declarations) d e → Waits means declarations headers d e
   edge_waits d e leads =
-      let at = row_declared (lacked_by means headers) constants d e leads in
-      record { constant = at.0; declared = at.1; lacks = at.2 }
+      let at = row_declared (lacked_by means headers) declarations d e leads in
+      record { declaration = at.0; declared = at.1; lacks = at.2 }
 
-  waits_edge : (d e : ℕ) → Waits means constants headers d e → HasEdge (lacking means headers constants) d e
-  waits_edge d e w = subst (λ (xs : List ℕ). Contains xs e) (sym (declared_row (lacked_by means headers) constants d w.constant w.declared)) w.lacks
+  waits_edge : (d e : ℕ) → Waits means declarations headers d e → HasEdge (lacking means headers declarations) d e
+  waits_edge d e w = subst (λ (xs : List ℕ). Contains xs e) (sym (declared_row (lacked_by means headers) declarations d w.declaration w.declared)) w.lacks
 
-  path_chain : (d e : ℕ) → Path (lacking means headers constants) d e → Chain means constants headers d e
+  path_chain : (d e : ℕ) → Path (lacking means headers declarations) d e → Chain means declarations headers d e
   path_chain d e (start _ leads) = one e (edge_waits d e leads)
   path_chain d e (further b _ p leads) = more b e (path_chain d b p) (edge_waits b e leads)
 
-  chain_path : (d e : ℕ) → Chain means constants headers d e → Path (lacking means headers constants) d e
+  chain_path : (d e : ℕ) → Chain means declarations headers d e → Path (lacking means headers declarations) d e
   chain_path d e (one _ w) = start e (waits_edge d e w)
   chain_path d e (more b _ p w) = further b e (chain_path d b p) (waits_edge b e w)
 
   -- the paths through the graph of the waits are the chains of waits
-  pub paths_are_chains : (g : Graph) → g ≡ lacking means headers constants → (d e : ℕ) → Path g d e ↔ Chain means constants headers d e
+  pub paths_are_chains : (g : Graph) → g ≡ lacking means headers declarations → (d e : ℕ) → Path g d e ↔ Chain means declarations headers d e
   paths_are_chains g same d e = (
     λ p. path_chain d e (subst (λ (h : Graph). Path h d e) same p),
     λ chain. subst (λ (h : Graph). Path h d e) (sym same) (chain_path d e chain),

@@ -1,6 +1,10 @@
 -- what inner functions promise each other
 pub mod View
+pub mod Evaluated
+pub mod Sources
+pub mod Found
+pub mod Ordered
+pub mod Names
+pub mod Verdicts
 pub mod State
 pub mod Table
-pub mod LinedFiles
-pub mod LinedFileView

@@ -1,26 +1,26 @@
--- A table of headers, one slot for each constant, and a list of marks, one for each constant.
+-- A table of headers, one slot for each declaration, and a list of marks, one for each declaration.
 -- Says what the rounds that fill the table keep, and when nothing more can be filled in.
 use Rattle.std.specs.Prelude.{◌≡◌, ℕ, suc, ℤ, Option, Some, None, List, [], ◌∷◌, slice_get, unwrap_or}
 use Rattle.go_model.specs.declared.meaning.Meaning.{Meaning}
-use Rattle.go_model.specs.Values.Constants.{Constant}
+use Rattle.go_module.specs.Names.Declarations.{Declaration}
 use Rattle.go_model.specs.Values.Records.{Headers}
 use Rattle.go_model.specs.Values.Headers.{Follows, headers_of, Justified}
 
--- what a table has for the constant at each place
+-- what a table has for the declaration at each place
 abbrev pub slot_of : List (Option ℤ) → Headers
 slot_of table d = unwrap_or (slice_get table d) None
 
 -- the table has what some justified list has
-pub record IsBacked (means : ℕ → Meaning) (constants : List Constant) (table : List (Option ℤ)) : Type 0 where
+pub record IsBacked (means : ℕ → Meaning) (declarations : List Declaration) (table : List (Option ℤ)) : Type 0 where
   pub list : List (ℕ × ℤ)
-  pub justified : Justified means constants list
+  pub justified : Justified means declarations list
   pub same : (d : ℕ) → slot_of table d ≡ headers_of list d
 
--- no header for the constant d follows from the table, unless it is there
-abbrev pub IsSettled : (ℕ → Meaning) → List Constant → List (Option ℤ) → ℕ → Type 0
-IsSettled means constants table d = (h : ℤ) → slot_of table d ≡ None → Follows means constants (slot_of table) d h → ⊥
+-- no header for the declaration d follows from the table, unless it is there
+abbrev pub IsSettled : (ℕ → Meaning) → List Declaration → List (Option ℤ) → ℕ → Type 0
+IsSettled means declarations table d = (h : ℤ) → slot_of table d ≡ None → Follows means declarations (slot_of table) d h → ⊥
 
--- how many constants have no header yet
+-- how many declarations have no header yet
 abbrev pub open_count : List (Option ℤ) → ℕ
 open_count [] = 0
 open_count (None ∷ table) = suc (open_count table)

@@ -1,30 +1,18 @@
 -- What the values of the program stand for.
 use Rattle.std.specs.Prelude.{◌≡◌, ℕ, ◌<◌, Option, Some, List, map}
 use Rattle.std.specs.Map.{lookup}
-use Rattle.std.specs.Option.{option_map}
+use Rattle.go_base.specs.declared.ids.ObjId.{ObjId}
 use Rattle.go_tree.specs.declared.node.NodeId.{NodeId}
-use Rattle.go_tree.specs.Tree.{tree_of}
-use Rattle.go_model.specs.declared.meaning.Meaning.{Meaning}
-use Rattle.go_module.specs.declared.object.ObjId.{ObjId}
-use Rattle.go_model.specs.Values.Constants.{Constant, numbers_of}
-use Rattle.go_model.specs.Values.Meaning.{meaning_by, place_among}
+use Rattle.go_module.specs.Modules.Module.{package_view}
+use Rattle.go_module.specs.Names.Declarations.{Declaration, numbers_of}
 use Rattle.go_module.specs.Scopes.{same_node, same_object}
+use Rattle.go_model.specs.declared.meaning.Meaning.{Meaning}
+use Rattle.go_model.specs.Outline.{Outline}
+use Rattle.go_model.specs.Values.Meaning.{meaning_by, place_among}
 use Rattle.go_check.specs.declared.around.Around.{Around}
-use Rattle.go_check.specs.declared.constants.Constant.{Constant as OwnConstant}
+use Rattle.go_check.specs.declared.outline.Outline.{Outline as OwnOutline}
 
--- a constant
-abbrev pub constant_view : OwnConstant → Constant
-constant_view c = record {
-  file = c.file;
-  name = tree_of c.name.now;
-  rests_on = map tree_of c.rests_on.now;
-  value = option_map (λ node. tree_of node.now) c.value;
-}
-
-abbrev pub constants_view : List OwnConstant → List Constant
-constants_view list = map constant_view list
-
--- the place of an object among the constants, and the object that an identifier denotes
+-- the place of an object among the declarations, and the object that an identifier denotes
 abbrev pub places_by : Around → ObjId → Option ℕ
 places_by around d = lookup (same_object d) around.places.now.entries
 
@@ -39,6 +27,9 @@ means_by around = meaning_by around.scopes.now.uses.entries (places_by around) a
 abbrev pub PlacesBelow : ℕ → Around → Type 0
 PlacesBelow n around = (d : ObjId) (place : ℕ) → places_by around d ≡ Some place → place < n
 
--- the places of objects are those of constants
-abbrev pub IsAround : List Constant → Around → Type 0
-IsAround constants around = (d : ObjId) → places_by around d ≡ place_among (numbers_of constants) d
+-- the places of objects are those of declarations
+abbrev pub IsAround : List Declaration → Around → Type 0
+IsAround declarations around = (d : ObjId) → places_by around d ≡ place_among (numbers_of declarations) d
+
+abbrev pub outline_view : OwnOutline → Outline
+outline_view outline = record { paths = map (λ p. p.path) (map package_view outline.packages.now); declared = outline.declared.now.entries }

@@ -10,9 +10,9 @@ use go_tree::NodeId;
 use indexmap::IndexMap;
 
 /// The number of a module's first node; lower ones are those of predeclared identifiers.
-const FIRST_NUMBER: usize = 45;
+pub const FIRST_NUMBER: usize = 45;
 
-/// What is known round the constants of a package: what its names denote, the places of its constants by their
+/// What is known round the declarations of a package: what its names denote, the places of its declarations by their
 /// numbers, and the values of the constants of packages that stand before.
 #[derive(Clone, Copy)]
 pub struct Around<'a> {
@@ -45,7 +45,7 @@ impl<'a> Around<'a> {
         }
     }
 
-    // What an object means that is no constant of the package.
+    // What an object means that the package does not declare.
     fn outer_meaning(&self, d: ObjId) -> Meaning
         ensures { result ≡ spec.declared_meaning self.now.before.now.entries d None }
     {

@@ -1,90 +1,70 @@
-// The lines of declared names: of imports, and of constants with their values (Go specification, "Import
-// declarations", "Constant declarations").
-ghost use Rattle.std.specs.Prelude.{◌≡◌, ◌++◌, ◌≤◌, IfOk, OnOk, length};
-ghost use Rattle.std.specs.List.{flat_map, prefix_len, zip};
+// The lines of declared names: of imports, and of declarations (Go specification, "Import declarations", "Constant
+// declarations").
+ghost use Rattle.std.specs.Prelude.{◌≡◌, ◌++◌, IfOk, OnOk, map};
+ghost use Rattle.std.specs.List.{flat_map, zip};
 ghost use Rattle.go_tree.specs.Tree.{tree_of, start_of, parts_of};
-ghost use Rattle.go_model.specs.declared.lines.What.TheVariants as what;
-ghost use Rattle.go_model.specs.Values.Constants.{constants_from};
-ghost use Rattle.go_module.specs.Names.Constants.{name_text};
+ghost use Rattle.go_module.specs.Modules.Module.{file_view};
+ghost use Rattle.go_module.specs.Names.Declarations.{name_text};
 ghost use Rattle.go_module.specs.Names.Imports as imports;
 ghost use Rattle.go_model.specs.PackageLines as spec;
-ghost use Rattle.go_module.specs.Places.{at_offset};
-ghost use Rattle.go_scope.specs.Blocks.{trees_at};
+ghost use Rattle.go_model.specs.Report.{defined, defined_view, line_view};
+ghost use Rattle.go_names.specs.Views.{declaration_view, declarations_view, trees_at};
+ghost use Rattle.go_check.specs.Found.{def_lines, import_lines, own_file_view};
 ghost use Rattle.go_check.specs.Table.{slot_of};
-ghost use Rattle.go_check.specs.LinedFiles.{defs_by, files_of, import_defs_by, is_in};
-ghost use Rattle.go_check.specs.LinedFileView.{file_of, outline_view, lined_file_view, lined_files_view};
-ghost use Rattle.go_check.specs.View.{constant_view, constants_view, means_by};
+ghost use Rattle.go_check.specs.View.{means_by, outline_view};
 
 use crate::around::Around;
-use crate::constants::Constant;
-use crate::lined_file::LinedFile;
 use crate::outline::Outline;
+use crate::own_file::OwnFile;
 use crate::record::value_over;
 use go_base::NoMemory;
 use go_model::{DefKind, Line, What};
 use go_module::text_name;
+use go_names::{Declaration, declarations_in};
 use go_num::Value;
-use go_scope::{behind, front, import_specs};
 use go_term::{Basic, Term};
 use go_tree::{Node, NodeKind};
 use std::alloc::Global;
 
-/// Pushes the line of each name that the files of a package declare, where their imports name these packages,
-/// file after file, and these are the constants of the files. An error is want of memory.
-pub fn push_defs(
+/// The line of each name that a file declares. An error is want of memory.
+pub fn found_defs(
     alloc: Global,
     outline: &Outline,
-    texts: &[LinedFile],
-    packages: &[usize],
+    file: &OwnFile,
     around: &Around,
     table: &[Option<i128>],
-    constants: &[Constant],
-    lines: &mut Vec<Line>,
-) -> Result<(), NoMemory>
-    requires { constants_view constants.now ≡ constants_from 0 (files_of (lined_files_view texts.now)) }
-    ensures { OnOk result (lines.new.items ≡ lines.old.items ++ defs_by (outline_view outline.now)
-        (means_by around.now) (slot_of table.now) 0 (lined_files_view texts.now) packages.now) }
+) -> Result<Vec<Line>, NoMemory>
+    ensures { IfOk result (λ lines. map line_view lines.items ≡ def_lines (outline_view outline.now)
+        (means_by around.now) (slot_of table.now) (own_file_view file.now)) }
 {
-    let mut named = packages;
-    let mut start = 0;
-    for (file, text) in texts.iter().enumerate() {
-        let specs = import_specs(alloc, text.root())?;
-        let count = specs.len();
-        push_imports(alloc, outline, text, &specs, front(named, count), lines)?;
-        named = behind(named, count);
-        let rest = &constants[start..];
-        let run = run_length(rest, file);
-        push_constants(alloc, text, around, table, &rest[..run], lines)?;
-        start += run;
-    }
-    Ok(())
+    let mut lines = Vec::new(alloc);
+    push_imports(
+        alloc,
+        outline,
+        file,
+        &file.imports,
+        file.packages,
+        &mut lines,
+    )?;
+    let declarations = declarations_in(alloc, &file.specs)?;
+    push_declarations(alloc, file, around, table, &declarations, &mut lines)?;
+    Ok(lines)
 }
 
-// How many constants at the front of the list are those of that file.
-fn run_length(constants: &[Constant], file: usize) -> usize
-    ensures len { result ≡ prefix_len (is_in file) constants.now }
-    ensures within { result ≤ length constants.now }
-{
-    constants
-        .iter()
-        .take_while(|constant| constant.file == file)
-        .count()
-}
-
-// Pushes the line of each import of a file with a name that is written.
+// Pushes the line of each import with a name that is written.
 fn push_imports(
     alloc: Global,
     outline: &Outline,
-    text: &LinedFile,
+    file: &OwnFile,
     specs: &[&Node],
     packages: &[usize],
     lines: &mut Vec<Line>,
 ) -> Result<(), NoMemory>
-    ensures { OnOk result (lines.new.items ≡ lines.old.items
-        ++ import_defs_by (outline_view outline.now) (lined_file_view text.now) (zip (trees_at specs.now) packages.now)) }
+    ensures { OnOk result (map line_view lines.new.items ≡ map line_view lines.old.items
+        ++ import_lines (outline_view outline.now) (own_file_view file.now) (zip (trees_at specs.now) packages.now)) }
 {
     for i in 0..specs.len().min(packages.len()) {
-        push_import(alloc, outline, text, specs[i], packages[i], lines)?;
+        push_import(alloc, outline, file, specs[i], packages[i], lines)?;
     }
     Ok(())
 }
@@ -93,35 +73,36 @@ fn push_imports(
 fn push_import(
     alloc: Global,
     outline: &Outline,
-    text: &LinedFile,
+    file: &OwnFile,
     import: &Node,
     imported: usize,
     lines: &mut Vec<Line>,
 ) -> Result<(), NoMemory>
-    ensures { OnOk result (lines.new.items ≡ lines.old.items ++ spec.import_defs_in
-        (outline_view outline.now) text.now.stub (file_of text.now) imported (parts_of (tree_of import.now))) }
+    ensures { OnOk result (map line_view lines.new.items ≡ map line_view lines.old.items
+        ++ spec.import_defs_in (outline_view outline.now) file.now.stub (file_view file.now.file.now) imported
+        (parts_of (tree_of import.now))) }
 {
     match import.both_parts() {
-        Some((name, _)) => push_named(alloc, outline, text, name, imported, lines),
+        Some((name, _)) => push_named(alloc, outline, file, imported, name, lines),
         None => Ok(()),
     }
 }
 
-// Pushes the line of an import with that before its string.
+// Pushes the line of an import with that before its string, unless it is a `.`.
 fn push_named(
     alloc: Global,
     outline: &Outline,
-    text: &LinedFile,
-    name: &Node,
+    file: &OwnFile,
     imported: usize,
+    name: &Node,
     lines: &mut Vec<Line>,
 ) -> Result<(), NoMemory>
-    ensures { OnOk result (lines.new.items ≡ lines.old.items ++ spec.import_def
-        (outline_view outline.now) text.now.stub (file_of text.now) imported (tree_of name.now)) }
+    ensures { OnOk result (map line_view lines.new.items ≡ map line_view lines.old.items ++ spec.import_def
+        (outline_view outline.now) file.now.stub (file_view file.now.file.now) imported (tree_of name.now)) }
 {
     if !is_dot(name) {
         let kind = DefKind::Package(outline.path_at(alloc, imported)?);
-        lines.push(def_line(alloc, text, name, kind)?)?;
+        lines.push(def_line(alloc, file, name, kind)?)?;
     }
     Ok(())
 }
@@ -132,54 +113,52 @@ fn is_dot(name: &Node) -> bool
     name.is(NodeKind::DotImport)
 }
 
-// Pushes the lines of constants of a file.
-fn push_constants(
+// Pushes the lines of declarations.
+fn push_declarations(
     alloc: Global,
-    text: &LinedFile,
+    file: &OwnFile,
     around: &Around,
     table: &[Option<i128>],
-    constants: &[Constant],
+    declarations: &[Declaration],
     lines: &mut Vec<Line>,
 ) -> Result<(), NoMemory>
-    ensures { OnOk result (lines.new.items ≡ lines.old.items
-        ++ flat_map (spec.constant_defs text.now.stub (file_of text.now) (means_by around.now) (slot_of table.now))
-        (constants_view constants.now)) }
+    ensures { OnOk result (map line_view lines.new.items ≡ map line_view lines.old.items ++ flat_map
+        (spec.declaration_defs file.now.stub (file_view file.now.file.now) (means_by around.now) (slot_of table.now))
+        (declarations_view declarations.now)) }
 {
-    for constant in constants {
-        push_constant(alloc, text, around, table, constant, lines)?;
+    for declaration in declarations {
+        push_declaration(alloc, file, around, table, declaration, lines)?;
     }
     Ok(())
 }
 
-// Pushes the line of a constant, where it has a value.
-fn push_constant(
+// Pushes the line of a declaration, where it has a value.
+fn push_declaration(
     alloc: Global,
-    text: &LinedFile,
+    file: &OwnFile,
     around: &Around,
     table: &[Option<i128>],
-    constant: &Constant,
+    declaration: &Declaration,
     lines: &mut Vec<Line>,
 ) -> Result<(), NoMemory>
-    ensures { OnOk result (lines.new.items ≡ lines.old.items
-        ++ spec.constant_defs text.now.stub (file_of text.now) (means_by around.now) (slot_of table.now)
-        (constant_view constant.now)) }
+    ensures { OnOk result (map line_view lines.new.items ≡ map line_view lines.old.items
+        ++ spec.declaration_defs file.now.stub (file_view file.now.file.now) (means_by around.now) (slot_of table.now)
+        (declaration_view declaration.now)) }
 {
-    if let Some(v) = value_over(around, table, constant) {
+    if let Some(v) = value_over(around, table, declaration) {
         let kind = DefKind::Const(Term::Basic(Basic::UntypedInt), Value::Int(v));
-        lines.push(def_line(alloc, text, constant.name, kind)?)?;
+        lines.push(def_line(alloc, file, declaration.name, kind)?)?;
     }
     Ok(())
 }
 
 // The line of a name that is declared as that.
-fn def_line(alloc: Global, text: &LinedFile, name: &Node, kind: DefKind) -> Result<Line, NoMemory>
-    ensures { IfOk result (λ line. line ≡ record {
-      at = at_offset text.now.stub (file_of text.now) (start_of (tree_of name.now));
-      what = what.Def (name_text (tree_of name.now)) kind;
-    }) }
+fn def_line(alloc: Global, file: &OwnFile, name: &Node, kind: DefKind) -> Result<Line, NoMemory>
+    ensures { IfOk result (λ line. line_view line ≡ spec.line_at file.now.stub (file_view file.now.file.now)
+        (start_of (tree_of name.now)) (defined (name_text (tree_of name.now)) (defined_view kind))) }
 {
     Ok(Line {
-        at: text.at(name.start())?,
+        at: file.file.at(file.stub, name.start())?,
         what: What::Def(text_name(alloc, name.text())?, kind),
     })
 }

@@ -1,38 +1,38 @@
 //! What checking a module tells.
 //!
-//! `check_module` answers with the report of a module that is loaded: of each package, in import order, the
-//! rules that its names or its values break, or its lines. Headers, the values of constants, are found in rounds
-//! over a table.
+//! `check_module` answers with the report of a module: of each package, in import order, the rules that its names or
+//! its values break, or its lines. The scopes of all packages are collected first; headers, the values of constants,
+//! are found in rounds over a table.
 #![tactic(auto)]
 
 mod rules;
 
-// The constants of a package, and what identifiers mean.
+// The files of a package, and what identifiers mean.
 mod around;
-mod constants;
-mod parts;
+mod names;
+mod own_file;
 
-// The values of constants.
+// The values of declarations.
+mod evaluated;
 mod headers;
 mod record;
 
 // The rules on values.
 mod broken;
-mod unequal;
 mod values;
 mod waits;
 
 // Places.
-mod declarations;
-mod lined_file;
+mod declared;
 mod outline;
 mod places;
 
 // Lines.
 mod defs;
 mod exprs;
+mod line_order;
 mod lines;
-mod room;
+mod named;
 mod uses;
 
 // Reports.

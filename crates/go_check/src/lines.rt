@@ -1,53 +1,131 @@
 // The lines of an accepted package.
-ghost use Rattle.std.specs.Prelude.{◌≡◌, ℕ, IfOk};
-ghost use Rattle.go_model.specs.Values.Constants.{constants_of};
-ghost use Rattle.go_module.specs.Modules.Module.{package_view};
+ghost use Rattle.std.specs.Prelude.{◌≡◌, ◌++◌, ℕ, IfOk, OnOk, map};
+ghost use Rattle.go_module.specs.Modules.Module.{PackageData};
+ghost use Rattle.go_model.specs.LineOrder.{AreInOrder};
 ghost use Rattle.go_model.specs.PackageLines as spec;
+ghost use Rattle.go_model.specs.Report.{line_view};
+ghost use Rattle.go_check.specs.Found.{def_lines, expr_lines, own_files_in, own_files_view, use_lines};
+ghost use Rattle.go_check.specs.Ordered.{AddsInOrder};
 ghost use Rattle.go_check.specs.Table.{slot_of};
-ghost use Rattle.go_check.specs.LinedFileView.{outline_view};
-ghost use Rattle.go_check.specs.View.{constants_view, denotes_by, means_by};
+ghost use Rattle.go_check.specs.View.{denotes_by, means_by, outline_view};
 
 use crate::around::Around;
-use crate::constants::Constant;
-use crate::defs::push_defs;
-use crate::exprs::push_exprs;
+use crate::defs::found_defs;
+use crate::exprs::found_exprs;
+use crate::line_order::put_in_order;
 use crate::outline::Outline;
-use crate::places::lined_files;
-use crate::room::line_count;
-use crate::uses::push_uses;
+use crate::own_file::OwnFile;
+use crate::uses::found_uses;
 use go_base::NoMemory;
 use go_model::Line;
-use go_module::Package;
 use std::alloc::Global;
 
-/// The lines of a package: one for each declared name, then one for each use, then one for each expression, each
-/// group by places. An error is want of memory.
+/// The lines of a package with these files: one for each declared name, then one for each use, then one for each
+/// expression, each kind in order. An error is want of memory.
 pub fn lines_of(
     alloc: Global,
-    own: &Package,
     outline: &Outline,
+    files: &[OwnFile],
     around: &Around,
     table: &[Option<i128>],
-    constants: &[Constant],
 ) -> Result<Vec<Line>, NoMemory>
-    requires { constants_view constants.now ≡ constants_of (package_view own.now) }
-    ensures { IfOk result (λ lines. (k : ℕ) → lines.items ≡ spec.lines_of (outline_view outline.now) k
-        (package_view own.now) (denotes_by around.now) (means_by around.now) (slot_of table.now)) }
+    ensures { IfOk result (λ lines. (k : ℕ) (p : PackageData) → own_files_view files.now ≡ own_files_in p
+        → spec.AreLines (outline_view outline.now) k p (denotes_by around.now) (means_by around.now)
+        (slot_of table.now) (map line_view lines.items)) }
 {
-    let texts = lined_files(alloc, own)?;
-    let mut lines = Vec::with_capacity(alloc, line_count(own, around, constants))?;
-    push_defs(
-        alloc,
-        outline,
-        &texts,
-        &own.imports,
-        around,
-        table,
-        constants,
-        &mut lines,
-    )?;
-    push_uses(alloc, outline, &texts, around, &mut lines)?;
-    push_exprs(alloc, &texts, around, table, &mut lines)?;
-    lines.shrink_to_fit();
+    let defs = all_defs(alloc, outline, files, around, table)?;
+    let uses = all_uses(alloc, outline, files, around)?;
+    let exprs = all_exprs(alloc, files, around, table)?;
+    joined(alloc, defs, uses, exprs)
+}
+
+// The lines of three kinds, one kind after another. Their room is taken at once.
+fn joined(
+    alloc: Global,
+    defs: Vec<Line>,
+    uses: Vec<Line>,
+    exprs: Vec<Line>,
+) -> Result<Vec<Line>, NoMemory>
+    ensures { IfOk result (λ lines. lines.items ≡ defs.items ++ (uses.items ++ exprs.items)) }
+{
+    let count = defs
+        .len()
+        .saturating_add(uses.len())
+        .saturating_add(exprs.len());
+    let mut lines = Vec::with_capacity(alloc, count)?;
+    add_all(&mut lines, defs)?;
+    add_all(&mut lines, uses)?;
+    add_all(&mut lines, exprs)?;
     Ok(lines)
+}
+
+// Moves all of these lines to the end of a list.
+fn add_all(lines: &mut Vec<Line>, more: Vec<Line>) -> Result<(), NoMemory>
+    ensures { OnOk result (lines.new.items ≡ lines.old.items ++ more.items) }
+{
+    let mut more = more;
+    lines.append(&mut more)?;
+    Ok(())
+}
+
+// The lines of declared names, file after file.
+fn all_defs(
+    alloc: Global,
+    outline: &Outline,
+    files: &[OwnFile],
+    around: &Around,
+    table: &[Option<i128>],
+) -> Result<Vec<Line>, NoMemory>
+    ensures { IfOk result (λ lines. AreInOrder (map (def_lines (outline_view outline.now) (means_by around.now)
+        (slot_of table.now)) (own_files_view files.now)) (map line_view lines.items)) }
+{
+    let mut lines = Vec::new(alloc);
+    for file in files {
+        add_in_order(found_defs(alloc, outline, file, around, table)?, &mut lines)?;
+    }
+    Ok(lines)
+}
+
+// The lines of uses, file after file.
+fn all_uses(
+    alloc: Global,
+    outline: &Outline,
+    files: &[OwnFile],
+    around: &Around,
+) -> Result<Vec<Line>, NoMemory>
+    ensures { IfOk result (λ lines. AreInOrder (map (use_lines (outline_view outline.now) (denotes_by around.now))
+        (own_files_view files.now)) (map line_view lines.items)) }
+{
+    let mut lines = Vec::new(alloc);
+    for file in files {
+        add_in_order(found_uses(alloc, outline, file, around)?, &mut lines)?;
+    }
+    Ok(lines)
+}
+
+// The lines of expressions, file after file.
+fn all_exprs(
+    alloc: Global,
+    files: &[OwnFile],
+    around: &Around,
+    table: &[Option<i128>],
+) -> Result<Vec<Line>, NoMemory>
+    ensures { IfOk result (λ lines. AreInOrder (map (expr_lines (means_by around.now) (slot_of table.now))
+        (own_files_view files.now)) (map line_view lines.items)) }
+{
+    let mut lines = Vec::new(alloc);
+    for file in files {
+        add_in_order(found_exprs(alloc, file, around, table)?, &mut lines)?;
+    }
+    Ok(lines)
+}
+
+// Adds the lines that were found in a file, in their order, behind those of the files before.
+fn add_in_order(found: Vec<Line>, lines: &mut Vec<Line>) -> Result<(), NoMemory>
+    ensures { OnOk result (AddsInOrder (map line_view found.items)
+        (map line_view lines.old.items) (map line_view lines.new.items)) }
+{
+    let mut found = found;
+    put_in_order(&mut found)?;
+    add_all(lines, found)
 }

@@ -1,88 +1,69 @@
 // The check of a package whose imports are accepted (Go specification, "Declarations and scope", "Constant
 // declarations").
-ghost use Rattle.std.specs.Prelude.{◌≡◌, ◌∷◌, ◌++◌, [], ℕ, true, IfOk, OnOk, Some, slice_get};
+ghost use Rattle.std.specs.Prelude.{◌≡◌, ◌∷◌, ◌++◌, ◌<◌, [], ℕ, true, IfOk, OnOk, Some, length, map, slice_get};
 ghost use Rattle.std.specs.Option.{option_map_or};
 ghost use Rattle.indexmap.specs.IndexMap.{insert_all};
-ghost use Rattle.go_model.specs.Values.Constants.{constants_of};
-ghost use Rattle.go_module.specs.Modules.Module.{ModuleData, package_view};
-ghost use Rattle.go_module.specs.Names.Imports.{known_in};
+ghost use Rattle.go_module.specs.Modules.Module.{ModuleData, PackageData, module_view, package_view};
+ghost use Rattle.std.specs.Map.{lookup};
+ghost use Rattle.go_model.specs.Values.Meaning.{place_among};
+ghost use Rattle.go_module.specs.Names.Declarations as names;
 ghost use Rattle.go_module.specs.Names.Tables.{IsScopesOf};
-ghost use Rattle.go_model.specs.PackageLines as lines;
-ghost use Rattle.go_model.specs.PackageLines.{outline_of};
-ghost use Rattle.go_model.specs.Phases as phases;
-ghost use Rattle.go_model.specs.Report.{verdict_view};
-ghost use Rattle.go_model.specs.Report as reports;
 ghost use Rattle.go_module.specs.Scopes.{same_object};
-ghost use Rattle.go_scope.specs.Collecting.{StandsIn};
-ghost use Rattle.go_scope.specs.Known.{names_of};
+ghost use Rattle.go_model.specs.Outline.{outline_of};
+ghost use Rattle.go_model.specs.PackageLines.{named_in};
+ghost use Rattle.go_model.specs.Phases as phases;
+ghost use Rattle.go_model.specs.Report.{line_view, named_view, verdict_view};
+ghost use Rattle.go_names.specs.Views.{declarations_view};
+ghost use Rattle.go_check.specs.Found.{own_files_in, own_files_view};
+ghost use Rattle.go_check.specs.Names.{AreNames, ImportsSound, sound_at};
 ghost use Rattle.go_check.specs.Table.{slot_of};
-ghost use Rattle.go_check.specs.LinedFileView.{outline_view};
-ghost use Rattle.go_check.specs.View.{IsAround, constants_view, denotes_by, means_by};
+ghost use Rattle.go_check.specs.Verdicts.{IsAccepting};
+ghost use Rattle.go_check.specs.View.{IsAround, denotes_by, means_by, outline_view};
 
 use crate::around::Around;
-use crate::constants::{Constant, constants_of, places_of};
 use crate::headers::headers;
 use crate::lines::lines_of;
+use crate::named::named_in;
+use crate::names::{Names, NamesVerdict};
 use crate::outline::Outline;
+use crate::own_file::{OwnFile, declarations_of, own_files};
 use crate::places::placed_list;
 use crate::record::value_over;
 use crate::values::broken_values;
-use crate::waits::cyclic_constants;
-use go_base::{Name, NoMemory};
+use crate::waits::cyclic_declarations;
+use go_base::NoMemory;
 use go_model::{Records, Verdict};
-use go_module::{ObjId, Package, Scopes, breaks_none};
-use go_scope::{KnownPackage, ScopeFault, collect};
+use go_module::{Module, ObjId, Package, Scopes, breaks_none};
+use go_names::Declaration;
 use indexmap::IndexMap;
 use std::alloc::Global;
 
-/// The verdict on a package, and what it is known by where it is accepted.
-#[derive(Drop)]
-pub struct Checked {
-    pub verdict: Verdict,
-    pub known: KnownPackage,
-}
-
-/// The verdict on a package whose imports are accepted, by its place in its module. `known` has what the packages
-/// before are known by; `before` has the values of the constants of accepted packages, and gets those of the package
-/// where it is accepted. An error is want of memory.
+/// The verdict on the package at a place of the module, whose imports are accepted. `before` has the values of the
+/// constants of accepted packages, and gets those of the package where it is accepted. An error is want of memory.
 pub fn check_package(
     alloc: Global,
+    module: &Module,
     place: usize,
-    own: &Package,
+    names: &Names,
     outline: &Outline,
-    known: &[KnownPackage],
     before: &mut IndexMap<ObjId, i128>,
-) -> Result<Checked, NoMemory>
-    ensures verdict { IfOk result (λ checked. (m : ModuleData) → StandsIn m place own.now known.now
-        → outline_view outline.now ≡ outline_of m → phases.IsVerdict m place (package_view own.now)
-        before.old.entries (verdict_view checked.verdict) before.new.entries) }
-    ensures known { IfOk result (λ checked. (m : ModuleData) → StandsIn m place own.now known.now
-        → phases.is_accepted (verdict_view checked.verdict) ≡ true → names_of checked.known ≡ known_in m place) }
+) -> Result<Verdict, NoMemory>
+    requires within { place < length «module».now.packages.items }
+    requires names { AreNames (module_view «module».now) (length «module».now.packages.items) names.now }
+    requires outline { outline_view outline.now ≡ outline_of (module_view «module».now) }
+    requires imports { (p : PackageData) → slice_get (module_view «module».now).packages place ≡ Some p
+        → ImportsSound names.now.verdicts.items place p }
+    ensures verdict { IfOk result (λ verdict. (p : PackageData)
+        → slice_get (module_view «module».now).packages place ≡ Some p → phases.IsVerdict (module_view «module».now)
+        place p before.old.entries (verdict_view verdict) before.new.entries) }
+    ensures sound { IfOk result (λ verdict. phases.is_accepted (verdict_view verdict) ≡ true
+        → sound_at names.now.verdicts.items place ≡ true) }
 {
-    match collect(alloc, place, own, known) {
-        Ok(scopes) => {
-            let verdict = check_values(alloc, own, outline, &scopes, before)?;
-            let Scopes { names, .. } = scopes;
-            let clause = own.name.clone()?;
-            let known = KnownPackage { clause, names };
-            Ok(Checked { verdict, known })
-        }
-        Err(ScopeFault::Broken(list)) => {
-            let verdict = Verdict::Refused(placed_list(alloc, own, &list)?);
-            let known = unknown(alloc);
-            Ok(Checked { verdict, known })
-        }
-        Err(ScopeFault::NoMemory) => Err(NoMemory),
-    }
-}
-
-/// What a package is known by that is not accepted: by nothing.
-pub fn unknown(alloc: Global) -> KnownPackage
-    ensures { names_of result ≡ record { clause = []; names = [] } }
-{
-    KnownPackage {
-        clause: Name::new(String::new(alloc)),
-        names: IndexMap::new(alloc),
+    let own = &module.packages[place];
+    match &names.verdicts[place] {
+        NamesVerdict::Sound => check_values(alloc, own, outline, &names.scopes[place], before),
+        NamesVerdict::Broken(list) => Ok(Verdict::Refused(placed_list(alloc, own, list)?)),
+        NamesVerdict::Unasked => Ok(Verdict::Skipped),
     }
 }
 
@@ -98,16 +79,32 @@ fn check_values(
         → outline_view outline.now ≡ outline_of m → IsScopesOf m k scopes.now → phases.IsVerdict m k
         (package_view own.now) before.old.entries (verdict_view verdict) before.new.entries) }
 {
-    let constants = constants_of(alloc, &own.files)?;
-    let places = places_of(alloc, &constants)?;
+    let files = own_files(alloc, own)?;
+    let declarations = declarations_of(alloc, &files)?;
+    let places = places_of(alloc, &declarations)?;
     let around = Around {
         scopes,
         places: &places,
         before,
     };
-    let Judged { verdict, values } = judge(alloc, own, outline, &around, &constants)?;
+    let Judged { verdict, values } = judge(alloc, own, outline, &around, &files, &declarations)?;
     add_values(before, &values)?;
     Ok(verdict)
+}
+
+// The place of each declaration by its number: of declarations with one number that of the first.
+fn places_of(
+    alloc: Global,
+    declarations: &[Declaration],
+) -> Result<IndexMap<ObjId, usize>, NoMemory>
+    ensures { IfOk result (λ places. (d : ObjId) → lookup (same_object d) places.entries
+        ≡ place_among (names.numbers_of (declarations_view declarations.now)) d) }
+{
+    let mut places = IndexMap::new(alloc);
+    for place in (0..declarations.len()).rev() {
+        places.insert(declarations[place].number(), place)?;
+    }
+    Ok(places)
 }
 
 // A verdict, and the values that are known behind it.
@@ -117,26 +114,28 @@ struct Judged {
     values: Vec<(ObjId, i128)>,
 }
 
-// The verdict by the values of constants.
+// The verdict by the values of declarations.
 fn judge(
     alloc: Global,
     own: &Package,
     outline: &Outline,
     around: &Around,
-    constants: &[Constant],
+    files: &[OwnFile],
+    declarations: &[Declaration],
 ) -> Result<Judged, NoMemory>
-    requires constants { constants_view constants.now ≡ constants_of (package_view own.now) }
-    requires around { IsAround (constants_view constants.now) around.now }
+    requires files { own_files_view files.now ≡ own_files_in (package_view own.now) }
+    requires declarations { declarations_view declarations.now ≡ names.declarations_of (package_view own.now) }
+    requires around { IsAround (declarations_view declarations.now) around.now }
     ensures { IfOk result (λ judged. (m : ModuleData) (k : ℕ) → slice_get m.packages k ≡ Some (package_view own.now)
         → outline_view outline.now ≡ outline_of m → IsScopesOf m k around.now.scopes.now → phases.IsVerdict m k
         (package_view own.now) around.now.before.now.entries (verdict_view judged.verdict)
         (insert_all same_object around.now.before.now.entries judged.values.items)) }
 {
-    let table = headers(alloc, around, constants)?;
-    let cyclic = cyclic_constants(alloc, around, &table, constants)?;
-    let list = broken_values(alloc, around, &table, &cyclic, constants, own)?;
+    let table = headers(alloc, around, declarations)?;
+    let cyclic = cyclic_declarations(alloc, around, &table, declarations)?;
+    let list = broken_values(alloc, around, &table, &cyclic, files, declarations, own)?;
     if breaks_none(&list) {
-        accept(alloc, own, outline, around, &table, constants)
+        accept(alloc, outline, around, &table, files, declarations)
     } else {
         let verdict = Verdict::Refused(placed_list(alloc, own, &list)?);
         Ok(Judged {
@@ -146,46 +145,45 @@ fn judge(
     }
 }
 
-// The verdict on a package that breaks no rule.
+// The verdict on a package with these files and declarations that breaks no rule.
 fn accept(
     alloc: Global,
-    own: &Package,
     outline: &Outline,
     around: &Around,
     table: &[Option<i128>],
-    constants: &[Constant],
+    files: &[OwnFile],
+    declarations: &[Declaration],
 ) -> Result<Judged, NoMemory>
-    requires constants { constants_view constants.now ≡ constants_of (package_view own.now) }
-    ensures verdict { IfOk result (λ judged. (k : ℕ) → verdict_view judged.verdict
-        ≡ reports.accepted (lines.lines_of (outline_view outline.now) k (package_view own.now) (denotes_by around.now)
-        (means_by around.now) (slot_of table.now))) }
+    ensures verdict { IfOk result (λ judged. (k : ℕ) (p : PackageData) → own_files_view files.now ≡ own_files_in p
+        → IsAccepting (outline_view outline.now) k p (denotes_by around.now) (means_by around.now)
+        (slot_of table.now) (verdict_view judged.verdict)) }
     ensures values { IfOk result (λ judged. judged.values.items
-        ≡ phases.values_of (means_by around.now) (slot_of table.now) (constants_view constants.now)) }
+        ≡ phases.values_of (means_by around.now) (slot_of table.now) (declarations_view declarations.now)) }
 {
-    let lines = lines_of(alloc, own, outline, around, table, constants)?;
-    let values = values_of(alloc, around, table, constants)?;
-    let named = Vec::new(alloc);
+    let lines = lines_of(alloc, outline, files, around, table)?;
+    let named = named_in(alloc, outline, &lines)?;
+    let values = values_of(alloc, around, table, declarations)?;
     Ok(Judged {
         verdict: Verdict::Accepted(Records { lines, named }),
         values,
     })
 }
 
-// The values of constants, by their numbers.
+// The values of declarations, by their numbers.
 fn values_of(
     alloc: Global,
     around: &Around,
     table: &[Option<i128>],
-    constants: &[Constant],
+    declarations: &[Declaration],
 ) -> Result<Vec<(ObjId, i128)>, NoMemory>
     ensures { IfOk result (λ values. values.items
-        ≡ phases.values_of (means_by around.now) (slot_of table.now) (constants_view constants.now)) }
+        ≡ phases.values_of (means_by around.now) (slot_of table.now) (declarations_view declarations.now)) }
 {
     let mut values = Vec::new(alloc);
-    for constant in constants {
+    for declaration in declarations {
         push_value(
-            constant.number(),
-            value_over(around, table, constant),
+            declaration.number(),
+            value_over(around, table, declaration),
             &mut values,
         )?;
     }

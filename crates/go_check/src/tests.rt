@@ -6,12 +6,12 @@ use go_base::{Bytes, Name, NoMemory, Steps};
 use go_model::{Report, Verdict};
 use go_module::{Module, Package, SourceFile};
 use go_tree::{File, Node, NodeId, NodeKind};
-use std::alloc::{AllocError, Global};
+use std::alloc::Global;
 use std::marker::Brand;
 use std::sync::ledger::{Blank, Ledger};
 use std::test::Fail;
 
-fn name(alloc: Global, text: &str) -> Result<Name, AllocError> {
+fn name(alloc: Global, text: &str) -> Result<Name, NoMemory> {
     Ok(Name::new(String::from_str(alloc, text)?))
 }
 
@@ -21,7 +21,7 @@ fn node(
     span: (usize, usize),
     kind: NodeKind,
     parts: Vec<Node>,
-) -> Result<Node, AllocError> {
+) -> Result<Node, NoMemory> {
     Ok(Node {
         id: NodeId(id),
         start: span.0,
@@ -38,7 +38,7 @@ fn leaf(
     span: (usize, usize),
     kind: NodeKind,
     text: &[u8],
-) -> Result<Node, AllocError> {
+) -> Result<Node, NoMemory> {
     let mut leaf = node(alloc, id, span, kind, Vec::new(alloc))?;
     leaf.text = Bytes::new(text.to_vec(alloc)?);
     Ok(leaf)
@@ -51,7 +51,7 @@ fn file(
     bytes: &[u8],
     kinds: (NodeKind, NodeKind),
     parts: Vec<Node>,
-) -> Result<SourceFile, AllocError> {
+) -> Result<SourceFile, NoMemory> {
     let start = parts.first().map_or(0, |part| part.start);
     let end = bytes.len().saturating_sub(1);
     let number = first.saturating_add(6);
@@ -62,15 +62,13 @@ fn file(
     let parts = vec![in alloc; clause, declaration]?;
     let number = first.saturating_add(8);
     let root = node(alloc, number, (0, end), NodeKind::File, parts)?;
-    Ok(SourceFile {
-        name: name(alloc, "a.go")?,
-        bytes: Bytes::new(bytes.to_vec(alloc)?),
-        tree: File { number: 0, root },
-    })
+    let bytes = Bytes::new(bytes.to_vec(alloc)?);
+    let tree = File { number: 0, root };
+    SourceFile::new(alloc, name(alloc, "a.go")?, bytes, tree)
 }
 
 // `const A = 1`, or the name B for 1.
-fn constant(alloc: Global, first: usize, is_declared: bool) -> Result<SourceFile, AllocError> {
+fn constant(alloc: Global, first: usize, is_declared: bool) -> Result<SourceFile, NoMemory> {
     let kinds = (NodeKind::ConstDecl, NodeKind::ConstSpec);
     let (kind, text, bytes) = if is_declared {
         (
@@ -113,7 +111,7 @@ fn constant(alloc: Global, first: usize, is_declared: bool) -> Result<SourceFile
 }
 
 // `import _ "m"`.
-fn importing(alloc: Global, first: usize) -> Result<SourceFile, AllocError> {
+fn importing(alloc: Global, first: usize) -> Result<SourceFile, NoMemory> {
     let kinds = (NodeKind::ImportDecl, NodeKind::ImportSpec);
     let name = leaf(
         alloc,
@@ -143,7 +141,7 @@ fn package(
     number: usize,
     file: SourceFile,
     imports: Vec<usize>,
-) -> Result<Package, AllocError> {
+) -> Result<Package, NoMemory> {
     Ok(Package {
         path: Name::new(format!(in alloc; "m/{number}")?),
         name: name(alloc, "p")?,
@@ -154,7 +152,7 @@ fn package(
 }
 
 // A package with a constant, and 999 packages of which each imports the one before.
-fn chain(alloc: Global, is_declared: bool) -> Result<Module, AllocError> {
+fn chain(alloc: Global, is_declared: bool) -> Result<Module, NoMemory> {
     let first = package(alloc, 0, constant(alloc, 50, is_declared)?, Vec::new(alloc))?;
     let mut packages = vec![in alloc; first]?;
     for before in 0..999usize {
@@ -175,7 +173,7 @@ fn counted<L: Ledger>(alloc: Global, blank: Blank, module: Module) -> Result<Rep
     requires some { blank.parts ≡ 1 }
 {
     let mut steps = Steps::<L>::new(blank);
-    check_module(alloc, module, &mut steps)
+    check_module(alloc, &module, &mut steps)
 }
 
 fn checked(alloc: Global, module: Module) -> Result<Report, NoMemory> {

@@ -1,137 +1,148 @@
 // The lines of uses: of each identifier that denotes an object, its name and where the object is declared
 // (Go specification, "Declarations and scope").
-ghost use Rattle.std.specs.Prelude.{◌≡◌, ◌++◌, IfOk, OnOk};
+ghost use Rattle.std.specs.Prelude.{◌≡◌, ◌++◌, IfOk, OnOk, map, is_none, filter};
 ghost use Rattle.std.specs.List.{flat_map};
-ghost use Rattle.go_model.specs.declared.lines.Line.{Line};
-ghost use Rattle.go_model.specs.declared.lines.What.TheVariants as what;
-ghost use Rattle.go_model.specs.PackageLines as spec;
-ghost use Rattle.go_module.specs.Places.{at_offset};
-ghost use Rattle.go_check.specs.LinedFiles.{uses_by};
-ghost use Rattle.go_check.specs.LinedFileView.{file_of, outline_view, lined_files_view};
-ghost use Rattle.go_check.specs.View.{denotes_by};
+ghost use Rattle.go_module.specs.Modules.Module.{file_view};
+ghost use Rattle.go_module.specs.Names.Occurrences.{names_in_parts};
+ghost use Rattle.go_model.specs.Outline as outlines;
+ghost use Rattle.go_model.specs.PackageLines as rule;
+ghost use Rattle.go_model.specs.Report.{line_view, used};
+ghost use Rattle.go_names.specs.Views.{specs_view};
+ghost use Rattle.go_check.specs.Found.{own_file_view, use_lines};
+ghost use Rattle.go_check.specs.View.{denotes_by, outline_view};
 
 use crate::around::Around;
-use crate::lined_file::LinedFile;
 use crate::outline::Outline;
+use crate::own_file::OwnFile;
 use go_base::{Name, NoMemory};
 use go_model::{Line, What};
 use go_module::{ObjId, Occurrence, Selected};
-use go_scope::occurrences_in_file;
+use go_names::{Spec, names_in_specs};
 use go_tree::NodeId;
 use std::alloc::Global;
 
-/// Pushes the line of each use in the files of a package. An error is want of memory.
-pub fn push_uses(
+/// The line of each use in a file. An error is want of memory.
+pub fn found_uses(
     alloc: Global,
     outline: &Outline,
-    texts: &[LinedFile],
+    file: &OwnFile,
     around: &Around,
-    lines: &mut Vec<Line>,
-) -> Result<(), NoMemory>
-    ensures { OnOk result (lines.new.items
-        ≡ lines.old.items ++ uses_by (outline_view outline.now) (denotes_by around.now) 0 (lined_files_view texts.now)) }
+) -> Result<Vec<Line>, NoMemory>
+    ensures { IfOk result (λ lines. map line_view lines.items
+        ≡ use_lines (outline_view outline.now) (denotes_by around.now) (own_file_view file.now)) }
 {
-    for (file, text) in texts.iter().enumerate() {
-        let found = occurrences_in_file(alloc, file, text.root())?;
-        push_occurrences(outline, text, around, &found, lines)?;
-    }
-    Ok(())
+    let written = written(alloc, &file.specs)?;
+    let found = names_in_specs(alloc, &written)?;
+    let mut lines = Vec::new(alloc);
+    push_occurrences(alloc, outline, file, around, &found, &mut lines)?;
+    Ok(lines)
 }
 
-// Pushes the lines of the uses that occur in a file.
+/// The specs that are written, and no copies. An error is want of memory.
+pub fn written<'a>(alloc: Global, specs: &[Spec<'a>]) -> Result<Vec<Spec<'a>>, NoMemory>
+    ensures { IfOk result (λ list. specs_view list.items ≡ rule.written (specs_view specs.now)) }
+{
+    let mut list = Vec::new(alloc);
+    for spec in specs {
+        if spec.told_at.is_none() {
+            list.push(*spec)?;
+        }
+    }
+    Ok(list)
+}
+
+// Pushes the lines of the uses that occur.
 fn push_occurrences(
+    alloc: Global,
     outline: &Outline,
-    text: &LinedFile,
+    file: &OwnFile,
     around: &Around,
     found: &[Occurrence],
     lines: &mut Vec<Line>,
 ) -> Result<(), NoMemory>
-    ensures { OnOk result (lines.new.items ≡ lines.old.items
-        ++ flat_map (spec.occurrence_uses (outline_view outline.now)
-        text.now.stub (file_of text.now) (denotes_by around.now)) found.now) }
+    ensures { OnOk result (map line_view lines.new.items ≡ map line_view lines.old.items
+        ++ flat_map (rule.occurrence_uses (outline_view outline.now)
+        file.now.stub (file_view file.now.file.now) (denotes_by around.now)) found.now) }
 {
     for occurrence in found {
-        push_occurrence(outline, text, around, occurrence, lines)?;
+        push_occurrence(alloc, outline, file, around, occurrence, lines)?;
     }
     Ok(())
 }
 
 // Pushes the line of an identifier, and that of the name behind its `.`.
 fn push_occurrence(
+    alloc: Global,
     outline: &Outline,
-    text: &LinedFile,
+    file: &OwnFile,
     around: &Around,
     occurrence: &Occurrence,
     lines: &mut Vec<Line>,
 ) -> Result<(), NoMemory>
-    ensures { OnOk result (lines.new.items ≡ lines.old.items
-        ++ spec.occurrence_uses (outline_view outline.now)
-        text.now.stub (file_of text.now) (denotes_by around.now) occurrence.now) }
+    ensures { OnOk result (map line_view lines.new.items ≡ map line_view lines.old.items
+        ++ rule.occurrence_uses (outline_view outline.now)
+        file.now.stub (file_view file.now.file.now) (denotes_by around.now) occurrence.now) }
 {
-    push_use(
-        outline,
-        text,
-        around,
-        occurrence.id,
-        occurrence.at,
-        &occurrence.name,
-        lines,
-    )?;
-    push_selected(outline, text, around, &occurrence.selected, lines)
+    let Occurrence { id, at, name, .. } = occurrence;
+    push_use(alloc, outline, file, around, *id, *at, name, lines)?;
+    push_selected(alloc, outline, file, around, &occurrence.selected, lines)
 }
 
 fn push_selected(
+    alloc: Global,
     outline: &Outline,
-    text: &LinedFile,
+    file: &OwnFile,
     around: &Around,
     selected: &Option<Selected>,
     lines: &mut Vec<Line>,
 ) -> Result<(), NoMemory>
-    ensures { OnOk result (lines.new.items ≡ lines.old.items
-        ++ spec.selected_use (outline_view outline.now)
-        text.now.stub (file_of text.now) (denotes_by around.now) selected.now) }
+    ensures { OnOk result (map line_view lines.new.items ≡ map line_view lines.old.items
+        ++ rule.selected_use (outline_view outline.now)
+        file.now.stub (file_view file.now.file.now) (denotes_by around.now) selected.now) }
 {
     match selected {
-        Some(name) => push_use(outline, text, around, name.id, name.at, &name.name, lines),
+        Some(name) => push_use(
+            alloc, outline, file, around, name.id, name.at, &name.name, lines,
+        ),
         None => Ok(()),
     }
 }
 
 // Pushes the line of an identifier, where it denotes an object.
 fn push_use(
+    alloc: Global,
     outline: &Outline,
-    text: &LinedFile,
+    file: &OwnFile,
     around: &Around,
     id: NodeId,
     from: usize,
     name: &Name,
     lines: &mut Vec<Line>,
 ) -> Result<(), NoMemory>
-    ensures { OnOk result (lines.new.items ≡ lines.old.items
-        ++ spec.use_at (outline_view outline.now)
-        text.now.stub (file_of text.now) (denotes_by around.now) id from name.now) }
+    ensures { OnOk result (map line_view lines.new.items ≡ map line_view lines.old.items
+        ++ rule.use_at (outline_view outline.now)
+        file.now.stub (file_view file.now.file.now) (denotes_by around.now) id from name.now) }
 {
     if let Some(d) = around.scopes.resolve(id) {
-        lines.push(use_line(outline, text, d, from, name)?)?;
+        lines.push(use_line(alloc, outline, file, d, from, name)?)?;
     }
     Ok(())
 }
 
 // The line of a name that denotes this object.
 fn use_line(
+    alloc: Global,
     outline: &Outline,
-    text: &LinedFile,
+    file: &OwnFile,
     d: ObjId,
     from: usize,
     name: &Name,
 ) -> Result<Line, NoMemory>
-    ensures { IfOk result (λ line. line ≡ record {
-      at = at_offset text.now.stub (file_of text.now) from;
-      what = what.Used name.now (spec.declared_at (outline_view outline.now) d);
-    }) }
+    ensures { IfOk result (λ line. line_view line ≡ rule.line_at file.now.stub (file_view file.now.file.now) from
+        (used name.now (outlines.declared_at (outline_view outline.now) d))) }
 {
     Ok(Line {
-        at: text.at(from)?,
-        what: What::Used(name.clone()?, outline.at(d)?),
+        at: file.file.at(file.stub, from)?,
+        what: What::Used(name.clone()?, outline.declared_at(alloc, d)?),
     })
 }

@@ -1,66 +1,113 @@
-// What the values of a package break.
-ghost use Rattle.std.specs.Prelude.{◌≡◌, ◌++◌, IfOk, OnOk};
+// What the values of a package break (Go specification, "Constants", "Constant expressions", "Constant declarations",
+// "Qualified identifiers").
+ghost use Rattle.std.specs.Prelude.{◌≡◌, ◌++◌, IfOk, OnOk, map};
+ghost use Rattle.std.specs.List.{flat_map};
 ghost use Rattle.go_graph.specs.Graph as marking;
 ghost use Rattle.go_module.specs.Order.{IsListOf};
 ghost use Rattle.go_module.specs.Modules.Module.{package_view};
+ghost use Rattle.go_module.specs.Names.Declarations.{declarations_of};
 ghost use Rattle.go_model.specs.Values.Rules as rules;
-ghost use Rattle.go_model.specs.Values.Constants.{constants_of};
+ghost use Rattle.go_names.specs.Views.{declaration_view, declarations_view, specs_view};
+ghost use Rattle.go_check.specs.Found.{all_specs_in, own_files_in, own_files_view};
 ghost use Rattle.go_check.specs.Table.{slot_of};
-ghost use Rattle.go_check.specs.View.{constant_view, constants_view, means_by};
+ghost use Rattle.go_check.specs.View.{means_by};
 
 use crate::around::Around;
-use crate::constants::Constant;
+use crate::broken::push_spec;
+use crate::own_file::OwnFile;
 use crate::rules::CYCLIC_DECLARATION;
-use crate::unequal::push_specs;
 use go_base::{Broken, NoMemory};
 use go_graph::is_marked;
 use go_module::{Package, add_if, broken_at, ordered, with_numbers};
+use go_names::{Declaration, Spec};
 use std::alloc::Global;
 
-/// What the values of a package break, as the list of a report: C1 at each constant that is marked as cyclic, and
-/// what its specs break, each told by the number of its file. An error is want of memory.
+/// What the values of a package with these files and declarations break, as the list of a report: C1 at each
+/// declaration that is marked as cyclic, and what its specs break, each told by the number of its file. An error is
+/// want of memory.
 pub fn broken_values(
     alloc: Global,
     around: &Around,
     table: &[Option<i128>],
     cyclic: &[bool],
-    constants: &[Constant],
+    files: &[OwnFile],
+    declarations: &[Declaration],
     own: &Package,
 ) -> Result<Vec<Broken>, NoMemory>
-    requires { constants_view constants.now ≡ constants_of (package_view own.now) }
+    requires files { own_files_view files.now ≡ own_files_in (package_view own.now) }
+    requires declarations { declarations_view declarations.now ≡ declarations_of (package_view own.now) }
     ensures { IfOk result (λ list. IsListOf (rules.broken_values (means_by around.now) (slot_of table.now)
         (marking.is_marked cyclic.now) (package_view own.now)) list.items) }
 {
     let mut found = Vec::new(alloc);
-    push_cycles(cyclic, constants, &mut found)?;
-    push_specs(alloc, around, table, &own.files, &mut found)?;
+    push_cycles(cyclic, declarations, &mut found)?;
+    push_files(alloc, around, table, files, &mut found)?;
     Ok(ordered(with_numbers(alloc, &own.files, &found)?))
 }
 
-// Pushes C1 at the name of each constant that is marked as cyclic.
+// Pushes C1 at the name of each declaration that is marked as cyclic.
 fn push_cycles(
     cyclic: &[bool],
-    constants: &[Constant],
+    declarations: &[Declaration],
     list: &mut Vec<Broken>,
 ) -> Result<(), NoMemory>
     ensures { OnOk result (list.new.items ≡ list.old.items
-        ++ rules.broken_cycles (marking.is_marked cyclic.now) 0 (constants_view constants.now)) }
+        ++ rules.broken_cycles (marking.is_marked cyclic.now) 0 (declarations_view declarations.now)) }
 {
-    for (place, constant) in constants.iter().enumerate() {
-        push_cyclic(is_marked(cyclic, place), constant, list)?;
+    for (place, declaration) in declarations.iter().enumerate() {
+        push_cyclic(is_marked(cyclic, place), declaration, list)?;
     }
     Ok(())
 }
 
-// Pushes C1 at the name of a constant that is cyclic.
-fn push_cyclic(cyclic: bool, constant: &Constant, list: &mut Vec<Broken>) -> Result<(), NoMemory>
+// Pushes C1 at the name of a declaration that is cyclic.
+fn push_cyclic(
+    cyclic: bool,
+    declaration: &Declaration,
+    list: &mut Vec<Broken>,
+) -> Result<(), NoMemory>
     ensures { OnOk result (list.new.items
-        ≡ list.old.items ++ rules.cyclic_at cyclic (constant_view constant.now)) }
+        ≡ list.old.items ++ rules.cyclic_at cyclic (declaration_view declaration.now)) }
 {
-    let start = constant.name.start();
+    let start = declaration.name.start();
     add_if(
         list,
         cyclic,
-        broken_at(constant.file, start, CYCLIC_DECLARATION),
+        broken_at(declaration.file, start, CYCLIC_DECLARATION),
     )
+}
+
+// Pushes what the specs of each file break.
+fn push_files(
+    alloc: Global,
+    around: &Around,
+    table: &[Option<i128>],
+    files: &[OwnFile],
+    found: &mut Vec<Broken>,
+) -> Result<(), NoMemory>
+    ensures { OnOk result (found.new.items ≡ found.old.items
+        ++ flat_map (rules.broken_spec (means_by around.now) (slot_of table.now))
+        (all_specs_in (own_files_view files.now))) }
+{
+    for file in files {
+        push_specs(alloc, around, table, &file.specs, found)?;
+    }
+    Ok(())
+}
+
+// Pushes what these specs break.
+fn push_specs(
+    alloc: Global,
+    around: &Around,
+    table: &[Option<i128>],
+    specs: &[Spec],
+    found: &mut Vec<Broken>,
+) -> Result<(), NoMemory>
+    ensures { OnOk result (found.new.items ≡ found.old.items
+        ++ flat_map (rules.broken_spec (means_by around.now) (slot_of table.now)) (specs_view specs.now)) }
+{
+    for spec in specs {
+        push_spec(alloc, around, table, spec, found)?;
+    }
+    Ok(())
 }

@@ -1,4 +1,1 @@
-pub mod FieldLemmas
 pub mod RunLemmas
-pub mod TextLemmas
-pub mod VerdictLemmas

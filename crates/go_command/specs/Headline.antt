@@ -1,47 +1,19 @@
 -- What a run writes.
 -- Decides, for the roots that the words name and for a tree, the text that a run adds to its sink and the status
 -- that it ends with.
-use Rattle.std.specs.Prelude.{◌≡◌, ℕ, ◌⊎◌, Bool, true, false, if◌then◌else◌, List, [], ◌++◌, Option}
-use Rattle.std.specs.List.{list_all, list_any}
-use Rattle.go_base.specs.declared.rule.Family.{Family}
-use Rattle.go_base.specs.declared.rule.Family.TheVariants.{U, L}
+use Rattle.std.specs.Prelude.{◌≡◌, ℕ, ◌⊎◌, List, [], ◌++◌, Option}
 use Rattle.go_base.specs.declared.status.Status.{Status}
-use Rattle.go_base.specs.declared.status.Status.TheVariants.{Accepted, Refused, Beyond}
 use Rattle.go_base.specs.declared.tree.MemFile.{MemFile}
 use Rattle.go_base.specs.Status.{IsReport}
 use Rattle.go_base.specs.Sink.{Adds}
 use Rattle.go_module.specs.declared.places.Placed.{Placed}
 use Rattle.go_load.specs.Loading.{LoadsBroken, LoadsModule}
 use Rattle.go_module.specs.Modules.Module.{ModuleData}
-use Rattle.go_model.specs.Phases.{ReportOf, is_accepted}
-use Rattle.go_model.specs.Report.{VerdictData, accepted, refused, skipped, ReportData}
+use Rattle.go_model.specs.Phases.{ReportOf}
+use Rattle.go_model.specs.Report.{ReportData}
+use Rattle.go_model.specs.Status.{refusal_of, verdict_of}
 use Rattle.go_model.specs.Text.Lines.{first_text, report_text}
 use Rattle.go_command.specs.Words.{Roots}
-
--- a rule on forms outside the language that is checked, or a limit
-abbrev pub is_beyond : Family → Bool
-is_beyond U = true
-is_beyond L = true
-is_beyond _ = false
-
-abbrev pub has_beyond : List Placed → Bool
-has_beyond list = list_any (λ placed. is_beyond placed.rule.family) list
-
--- the status that rules end a run with which are broken before packages are checked
-abbrev pub refusal_of : List Placed → Status
-refusal_of list = if has_beyond list then Beyond else Refused
-
--- the rules that a package breaks
-abbrev pub broken_in : VerdictData → List Placed
-broken_in (accepted lines) = []
-broken_in (refused list) = list
-broken_in skipped = []
-
--- the status that the report of a module ends a run with
-abbrev pub verdict_of : ReportData → Status
-verdict_of report =
-    if list_any (λ p. has_beyond (broken_in p.verdict)) report.packages then Beyond
-    else if list_all (λ p. is_accepted p.verdict) report.packages then Accepted else Refused
 
 -- the text and the status of a run: those of the rules of the first phase of loading that breaks any, or else
 -- those of the report of the module that is loaded

@@ -7,7 +7,7 @@ use Rattle.go_module.specs.Modules.Module.{ModuleData}
 use Rattle.go_model.specs.Phases.{ReportOf}
 use Rattle.go_model.specs.Report.{ReportData}
 use Rattle.go_model.specs.Text.Lines.{first_text, report_text}
-use Rattle.go_command.specs.Headline.{refusal_of, verdict_of}
+use Rattle.go_model.specs.Status.{refusal_of, verdict_of}
 
 -- the text and the status of rules that are broken before packages are checked
 pub record IsFirst (list : List Placed) (text : List ℕ) (status : Status) : Type 0 where

@@ -5,13 +5,7 @@
 //! ends with.
 #![tactic(auto)]
 
-mod fields;
-mod lines;
-mod places;
 mod run;
-mod text;
-mod values;
-mod verdict;
 mod words;
 
 pub use run::gocheck;

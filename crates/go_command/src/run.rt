@@ -9,13 +9,12 @@ ghost use Rattle.go_command.specs.Headline.{IsRunText, WritesReport, WritesFront
 ghost use Rattle.go_command.specs.Runs.{IsFirst, IsWhole};
 ghost use Rattle.go_command.specs.Words.{roots_of};
 
-use crate::text::{first_text, report_text};
-use crate::verdict::{refusal, verdict};
 use crate::words::root_words;
 use go_base::{NoMemory, Sink, SinkFault, Status, Steps, Tree, TreeFault, Word};
 use go_check::check_module;
 use go_load::{LoadFault, load};
 use go_module::{Module, Placed};
+use go_records::{first_text, refusal, report_text, verdict};
 use std::alloc::Global;
 use std::sync::ledger::Ledger;
 
@@ -77,7 +76,7 @@ fn text_and_verdict<T: Tree, L: Ledger>(
     ensures stays { (IsErrOf result TreeFault.Failed → ⊥) → T.faults tree.new ≡ T.faults tree.old }
 {
     match load(alloc, tree, root, stubs) {
-        Ok(module) => Ok(whole(alloc, module, steps)?),
+        Ok(module) => Ok(whole(alloc, &module, steps)?),
         Err(LoadFault::Broken(list)) => Ok(first(alloc, &list)?),
         Err(LoadFault::ReadFault) => Err(TreeFault::Failed),
         Err(LoadFault::NoMemory) => Err(TreeFault::NoMemory),
@@ -87,10 +86,10 @@ fn text_and_verdict<T: Tree, L: Ledger>(
 // The text of the report of a module, and its verdict.
 fn whole<L: Ledger>(
     alloc: Global,
-    module: Module,
+    module: &Module,
     steps: &mut Steps<L>,
 ) -> Result<(Vec<u8>, Status), NoMemory>
-    ensures { IfOk result (λ made. IsWhole (module_view «module») made.0.items made.1) }
+    ensures { IfOk result (λ made. IsWhole (module_view «module».now) made.0.items made.1) }
 {
     let report = check_module(alloc, module, steps)?;
     let text = report_text(alloc, &report)?;

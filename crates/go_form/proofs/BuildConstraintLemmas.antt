@@ -6,7 +6,7 @@ use Rattle.std.proofs.lemmas.List.{append-nil, length_push, get_or_push, get_or_
 use Rattle.std.proofs.lemmas.List.Elements.{Contains-push, Contains-push_cases, Contains-append_left, Contains-get_or}
 use Rattle.go_tree.specs.Lexical.Characters.{decoded_at, is_white_space, is_allowed, Run, none as run_none, more as run_more}
 use Rattle.go_tree.specs.Lexical.Comments.{Closes, IsLineComment, IsGeneralComment, in_line_comment}
-use Rattle.go_tree.specs.Lexical.Scan.{Space, blank, line, general, mark, Gap, none, more}
+use Rattle.go_tree.specs.Lexical.Scan.{Space, white, line, general, mark, Gap, none, more}
 use Rattle.go_tree.proofs.ByteLemmas.{byte_char}
 use Rattle.go_tree.proofs.ContinuationLemmas.{behind_first}
 use Rattle.go_tree.proofs.SpaceLemmas.{some_same, slash_no_blank, closes_within, space_lies, one_space, no_mark}
@@ -66,19 +66,19 @@ gap_more bytes at to g s = more g (s, λ e. absurd (false≢true e))
 
 -- a mark, or the comment that the bytes open, is the space that stands there
 pub mark_there : (bytes : List ℕ) (at to : ℕ) → Space bytes at to → is_white_space (slice_index bytes at) ≡ false → slice_index bytes at ≢ 47 → Space bytes at (at + (decoded_at bytes at).size) × (at + (decoded_at bytes at).size ≤ length bytes)
-mark_there bytes at to (blank b) other slash = absurd (false≢true (sym other ∙ b))
+mark_there bytes at to (white b) other slash = absurd (false≢true (sym other ∙ b))
 mark_there bytes at to (line c) other slash = absurd (slash c.opens.0)
 mark_there bytes at to (general c) other slash = absurd (slash c.opens.0)
 mark_there bytes at to (mark start char) other slash = let s = mark start char in (s, (space_lies bytes at _ s).within)
 
 pub line_there : (bytes : List ℕ) (at to : ℕ) → Space bytes at to → slice_index bytes at ≡ 47 → slice_index bytes (at + 1) ≡ 47 → IsLineComment bytes at to
-line_there bytes at to (blank b) slash next = absurd (slash_no_blank _ slash b)
+line_there bytes at to (white b) slash next = absurd (slash_no_blank _ slash b)
 line_there bytes at to (line c) slash next = c
 line_there bytes at to (general c) slash next = absurd (omega (arith, next, c.opens.1))
 line_there bytes at to (mark start char) slash next = absurd (no_mark bytes at 46 slash (omega arith) char)
 
 pub general_there : (bytes : List ℕ) (at to : ℕ) → Space bytes at to → slice_index bytes at ≡ 47 → slice_index bytes (at + 1) ≢ 47 → IsGeneralComment bytes at to
-general_there bytes at to (blank b) slash next = absurd (slash_no_blank _ slash b)
+general_there bytes at to (white b) slash next = absurd (slash_no_blank _ slash b)
 general_there bytes at to (line c) slash next = absurd (next c.opens.1)
 general_there bytes at to (general c) slash next = c
 general_there bytes at to (mark start char) slash next = absurd (no_mark bytes at 46 slash (omega arith) char)

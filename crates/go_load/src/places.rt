@@ -1,10 +1,11 @@
 // Broken rules with their places written out.
 ghost use Rattle.std.specs.Prelude.{◌≡◌, ◌≤◌, ◌++◌, IfOk, OnOk, length, map};
 ghost use Rattle.std.specs.List.{prefix_len};
+ghost use Rattle.go_base.specs.Lines.{AreLineStarts};
 ghost use Rattle.go_module.specs.Places.{empty_text, placed_among, placed_in};
 ghost use Rattle.go_load.specs.Packages.Placing.{is_in, text_at};
 
-use go_base::{Broken, Bytes, Lines, Name, NoMemory};
+use go_base::{Broken, Bytes, LineStarts, Name, NoMemory};
 use go_module::{At, Placed, Text};
 use std::alloc::Global;
 
@@ -90,18 +91,18 @@ fn add_placed(
     if let [] = list {
         return Ok(());
     }
-    let lines = Lines::new(alloc, text.bytes())?;
+    let lines = LineStarts::of(alloc, text.bytes())?;
     add_each(text, &lines, list, placed)
 }
 
 // Adds each of these, by the table of the text's lines.
 fn add_each(
     text: &Text,
-    lines: &Lines<'_>,
+    lines: &LineStarts,
     list: &[Broken],
     placed: &mut Vec<Placed>,
 ) -> Result<(), NoMemory>
-    requires { lines.now ≡ text.now.bytes }
+    requires { AreLineStarts text.now.bytes lines.now }
     ensures { OnOk result (placed.new.items
         ≡ placed.old.items ++ map (placed_in text.now) list.now) }
 {
@@ -112,11 +113,11 @@ fn add_each(
 }
 
 // A broken rule at its line and column; a place past the end is the end.
-fn placed_by(text: &Text, lines: &Lines<'_>, broken: Broken) -> Result<Placed, NoMemory>
-    requires { lines.now ≡ text.now.bytes }
+fn placed_by(text: &Text, lines: &LineStarts, broken: Broken) -> Result<Placed, NoMemory>
+    requires { AreLineStarts text.now.bytes lines.now }
     ensures { IfOk result (λ placed. placed ≡ placed_in text.now broken) }
 {
-    let place = lines.place(broken.pos.offset.min(lines.bytes().len()));
+    let place = lines.place(text.bytes(), broken.pos.offset);
     let at = At {
         stub: text.is_stub(),
         file: text.path().clone()?,

@@ -36,26 +36,31 @@ fn files_joined(
     let mut trees = trees;
     let mut files = Vec::new(alloc);
     while let Some(tree) = trees.pop() {
-        push_file(texts.pop(), tree, &mut files)?;
+        push_file(alloc, texts.pop(), tree, &mut files)?;
     }
     files.reverse();
     Ok(files)
 }
 
 // Pushes the file with that text, if there is one, and that tree.
-fn push_file(text: Option<Text>, tree: File, files: &mut Vec<SourceFile>) -> Result<(), NoMemory>
+fn push_file(
+    alloc: Global,
+    text: Option<Text>,
+    tree: File,
+    files: &mut Vec<SourceFile>,
+) -> Result<(), NoMemory>
     ensures { OnOk result (map file_view files.new.items ≡ map file_view files.old.items ++ file_if text tree) }
 {
     if let Some(text) = text {
-        files.push(source_file(text, tree))?;
+        files.push(source_file(alloc, text, tree)?)?;
     }
     Ok(())
 }
 
-// The file with that text and tree.
-fn source_file(text: Text, tree: File) -> SourceFile
-    ensures { file_view result ≡ file_with text tree }
+// The file with that text and tree, and the table of its lines.
+fn source_file(alloc: Global, text: Text, tree: File) -> Result<SourceFile, NoMemory>
+    ensures { IfOk result (λ file. file_view file ≡ file_with text tree) }
 {
     let (name, bytes) = text.into_parts();
-    SourceFile { name, bytes, tree }
+    SourceFile::new(alloc, name, bytes, tree)
 }

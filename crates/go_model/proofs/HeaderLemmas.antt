@@ -1,4 +1,4 @@
--- What stays of records and headers as the map of headers grows: a constant has at most one header.
+-- What stays of records and headers as the map of headers grows: a declaration has at most one header.
 use Rattle.std.proofs.Common.{◌≡◌, ℕ, ℤ, Option, Some, None, List, [], ◌∷◌, ◌++◌, refl, sym, ap, ◌∙◌, subst, inl, inr, ⊎_elim}
 use Rattle.std.specs.Prelude.{option_and_then}
 use Rattle.std.proofs.lemmas.Bool.{cases_eq, eq-eqb, ne_eqb}
@@ -6,8 +6,8 @@ use Rattle.go_tree.specs.declared.node_kind.NodeKind.TheVariants.{AddExpr, Paren
 use Rattle.go_tree.specs.Tree.{Tree, branch, no_trees, more_trees, id_of}
 use Rattle.go_model.specs.declared.meaning.Meaning.{Meaning}
 use Rattle.go_model.specs.declared.meaning.Meaning.TheVariants.{Own, Outer, Predeclared, Other}
-use Rattle.go_model.specs.Values.Constants.{Constant}
-use Rattle.go_model.specs.Values.Records.{Headers, meant_value, sum_of, record_of, value_over}
+use Rattle.go_module.specs.Names.Declarations.{Declaration}
+use Rattle.go_model.specs.Values.Records.{Headers, bound_value, meant_value, sum_of, record_of, value_over}
 use Rattle.go_model.specs.Values.Headers.{headers_of, Follows, Justified, Holds, Known}
 use Rattle.go_model.specs.Values.Quests.{IsPart}
 
@@ -36,29 +36,29 @@ value-part : (means : ℕ → Meaning) (known more : Headers) → IsPart known m
 value-part means known more part None v e = e
 value-part means known more part (Some t) v e = record_of-part means known more part t v e
 
-pub value_over-part : (means : ℕ → Meaning) (known more : Headers) → IsPart known more → (constant : Constant) (v : ℤ) → value_over means known constant ≡ Some v → value_over means more constant ≡ Some v
-value_over-part means known more part constant v e = value-part means known more part constant.value v e
+pub value_over-part : (means : ℕ → Meaning) (known more : Headers) → IsPart known more → (d : Declaration) (v : ℤ) → value_over means known d ≡ Some v → value_over means more d ≡ Some v
+value_over-part means known more part d v e = value-part means known more part (bound_value d.built d.values) v e
 
-module _ (means : ℕ → Meaning) (constants : List Constant) where
-  pub Follows-part : (known more : Headers) → IsPart known more → (d : ℕ) (h : ℤ) → Follows means constants known d h → Follows means constants more d h
+module _ (means : ℕ → Meaning) (declarations : List Declaration) where
+  pub Follows-part : (known more : Headers) → IsPart known more → (d : ℕ) (h : ℤ) → Follows means declarations known d h → Follows means declarations more d h
   Follows-part known more part d h f =
-      record { constant = f.constant; declared = f.declared; value = value_over-part means known more part f.constant h f.value }
+      record { declaration = f.declaration; declared = f.declared; value = value_over-part means known more part f.declaration h f.value }
 
-  -- over one map a constant has one header
-  pub Follows-same : (known : Headers) (d : ℕ) (h h' : ℤ) → Follows means constants known d h → Follows means constants known d h' → h ≡ h'
+  -- over one map a declaration has one header
+  pub Follows-same : (known : Headers) (d : ℕ) (h h' : ℤ) → Follows means declarations known d h → Follows means declarations known d h' → h ≡ h'
   Follows-same known d h h' f g =
-      let same : f.constant ≡ g.constant = cc (f.declared, g.declared) in
-      let at : value_over means known f.constant ≡ value_over means known g.constant = ap (value_over means known) same in
+      let same : f.declaration ≡ g.declaration = cc (f.declared, g.declared) in
+      let at : value_over means known f.declaration ≡ value_over means known g.declaration = ap (value_over means known) same in
       cc (f.value, g.value)
 
--- what a longer list has for a constant
+-- what a longer list has for a declaration
 pub headers_of-here : (p : ℕ × ℤ) (before : List (ℕ × ℤ)) (d : ℕ) → p.0 ≡ d → headers_of (p ∷ before) d ≡ Some p.1
 headers_of-here p before d e = rw (eq-eqb p.0 d e) refl
 
 pub headers_of-there : (p : ℕ × ℤ) (before : List (ℕ × ℤ)) (d : ℕ) → (p.0 ≡ d → ⊥) → headers_of (p ∷ before) d ≡ headers_of before d
 headers_of-there p before d ne = rw (ne_eqb p.0 d ne) refl
 
--- what the list has for a constant stands in it
+-- what the list has for a declaration stands in it
 pub headers_of-holds : (list : List (ℕ × ℤ)) (d : ℕ) (h : ℤ) → headers_of list d ≡ Some h → Holds list d h
 headers_of-holds [] d h e = cc
 headers_of-holds (p ∷ before) d h e =
@@ -67,30 +67,30 @@ headers_of-holds (p ∷ before) d h e =
     (λ ne. inr (headers_of-holds before d h (sym (headers_of-there p before d ne) ∙ e)))
     (cases_eq p.0 d)
 
-module _ (means : ℕ → Meaning) (constants : List Constant) where
+module _ (means : ℕ → Meaning) (declarations : List Declaration) where
   -- a list stays a part of itself with one more pair
-  grows : (p : ℕ × ℤ) (before : List (ℕ × ℤ)) → Follows means constants (headers_of before) p.0 p.1 → ((d : ℕ) (h : ℤ) → headers_of before d ≡ Some h → Follows means constants (headers_of before) d h) → IsPart (headers_of before) (headers_of (p ∷ before))
+  grows : (p : ℕ × ℤ) (before : List (ℕ × ℤ)) → Follows means declarations (headers_of before) p.0 p.1 → ((d : ℕ) (h : ℤ) → headers_of before d ≡ Some h → Follows means declarations (headers_of before) d h) → IsPart (headers_of before) (headers_of (p ∷ before))
   grows p before f stay d h e =
       ⊎_elim
-      (λ here. let g = subst (λ n. Follows means constants (headers_of before) n p.1) here f in
-      headers_of-here p before d here ∙ ap Some (Follows-same means constants (headers_of before) d p.1 h g (stay d h e)))
+      (λ here. let g = subst (λ n. Follows means declarations (headers_of before) n p.1) here f in
+      headers_of-here p before d here ∙ ap Some (Follows-same means declarations (headers_of before) d p.1 h g (stay d h e)))
       (λ ne. headers_of-there p before d ne ∙ e)
       (cases_eq p.0 d)
 
   -- each header of a justified list follows from the whole list too
-  pub stays : (list : List (ℕ × ℤ)) → Justified means constants list → (d : ℕ) (h : ℤ) → headers_of list d ≡ Some h → Follows means constants (headers_of list) d h
+  pub stays : (list : List (ℕ × ℤ)) → Justified means declarations list → (d : ℕ) (h : ℤ) → headers_of list d ≡ Some h → Follows means declarations (headers_of list) d h
   stays [] j d h e = cc
   stays (p ∷ before) j d h e =
       let part = grows p before j.1 (stays before j.0) in
       ⊎_elim
       (λ here. let same : p.1 ≡ h = cc (headers_of-here p before d here, e) in
-      let g = subst (λ n. Follows means constants (headers_of before) n p.1) here j.1 in
-      Follows-part means constants (headers_of before) (headers_of (p ∷ before)) part d h (subst (λ v. Follows means constants (headers_of before) d v) same g))
+      let g = subst (λ n. Follows means declarations (headers_of before) n p.1) here j.1 in
+      Follows-part means declarations (headers_of before) (headers_of (p ∷ before)) part d h (subst (λ v. Follows means declarations (headers_of before) d v) same g))
       (λ ne. let e' = sym (headers_of-there p before d ne) ∙ e in
-      Follows-part means constants (headers_of before) (headers_of (p ∷ before)) part d h (stays before j.0 d h e'))
+      Follows-part means declarations (headers_of before) (headers_of (p ∷ before)) part d h (stays before j.0 d h e'))
       (cases_eq p.0 d)
 
-module _ (means : ℕ → Meaning) (constants : List Constant) where
+module _ (means : ℕ → Meaning) (declarations : List Declaration) where
   -- two justified lists, one after the other, are justified
   headers_of-append : (list before : List (ℕ × ℤ)) → IsPart (headers_of list) (headers_of (list ++ before))
   headers_of-append [] before d h e = cc
@@ -100,11 +100,11 @@ module _ (means : ℕ → Meaning) (constants : List Constant) where
       (λ ne. headers_of-there p (list ++ before) d ne ∙ headers_of-append list before d h (sym (headers_of-there p list d ne) ∙ e))
       (cases_eq p.0 d)
 
-  Justified-append : (list before : List (ℕ × ℤ)) → Justified means constants list → Justified means constants before → Justified means constants (list ++ before)
+  Justified-append : (list before : List (ℕ × ℤ)) → Justified means declarations list → Justified means declarations before → Justified means declarations (list ++ before)
   Justified-append [] before j k = k
   Justified-append (p ∷ list) before j k = (
     Justified-append list before j.0 k,
-    Follows-part means constants (headers_of list) (headers_of (list ++ before)) (headers_of-append list before) p.0 p.1 j.1,
+    Follows-part means declarations (headers_of list) (headers_of (list ++ before)) (headers_of-append list before) p.0 p.1 j.1,
   )
 
   Holds-before : (list before : List (ℕ × ℤ)) (d : ℕ) (h : ℤ) → Holds before d h → Holds (list ++ before) d h
@@ -116,14 +116,14 @@ module _ (means : ℕ → Meaning) (constants : List Constant) where
   Holds-after (p ∷ list) before d h (inl x) = inl x
   Holds-after (p ∷ list) before d h (inr x) = inr (Holds-after list before d h x)
 
-  -- a justified list has one header for a constant
-  headers_of-held : (list : List (ℕ × ℤ)) → Justified means constants list → (d : ℕ) (h : ℤ) → Holds list d h → headers_of list d ≡ Some h
+  -- a justified list has one header for a declaration
+  headers_of-held : (list : List (ℕ × ℤ)) → Justified means declarations list → (d : ℕ) (h : ℤ) → Holds list d h → headers_of list d ≡ Some h
   headers_of-held [] j d h x = absurd x
   headers_of-held (p ∷ before) j d h (inl x) = headers_of-here p before d x.0 ∙ ap Some x.1
-  headers_of-held (p ∷ before) j d h (inr x) = grows means constants p before j.1 (stays means constants before j.0) d h (headers_of-held before j.0 d h x)
+  headers_of-held (p ∷ before) j d h (inr x) = grows means declarations p before j.1 (stays means declarations before j.0) d h (headers_of-held before j.0 d h x)
 
-  -- a constant has at most one header
-  pub Known-same : (d : ℕ) (h h' : ℤ) → Known means constants d h → Known means constants d h' → h ≡ h'
+  -- a declaration has at most one header
+  pub Known-same : (d : ℕ) (h h' : ℤ) → Known means declarations d h → Known means declarations d h' → h ≡ h'
   Known-same d h h' k k' =
       let both = Justified-append k.list k'.list k.justified k'.justified in
       let one = headers_of-held (k.list ++ k'.list) both d h (Holds-after k.list k'.list d h k.holds) in

@@ -4,18 +4,21 @@ use Rattle.std.specs.Prelude.{◌↔◌}
 use Rattle.std.proofs.Math.Path.{fun_ext}
 use Rattle.go_base.specs.declared.rule.Broken.{Broken}
 use Rattle.go_model.specs.declared.meaning.Meaning.{Meaning}
-use Rattle.go_model.specs.Values.Constants.{Constant, constants_of}
+use Rattle.go_module.specs.Names.Declarations.{Declaration, declarations_of}
 use Rattle.go_module.specs.Order.{IsListOf}
 use Rattle.go_model.specs.Values.Meaning.{KnownValues, meaning_in}
 use Rattle.go_module.specs.Modules.Module.{ModuleData, PackageData}
 use Rattle.go_module.specs.Places.{placed_by}
 use Rattle.go_model.specs.Values.Records.{Headers}
-use Rattle.go_model.specs.Report.{VerdictData, refused, skipped, accepted, PackageReportData, ReportData}
+use Rattle.go_model.specs.Outline.{outline_of}
+use Rattle.go_model.specs.PackageLines.{named_in}
+use Rattle.go_model.specs.Report.{LineData, VerdictData, refused, skipped, accepted, PackageReportData, ReportData}
 use Rattle.go_model.specs.Values.Rules.{broken_values}
 use Rattle.go_model.specs.Values.Waiting.{Chain}
 use Rattle.go_module.specs.Names.Rules.BrokenNames.{broken_names}
 use Rattle.go_module.specs.Names.Imports.{known_in}
-use Rattle.go_model.specs.Phases.{HasHeaders, BreaksValues, IsVerdict, by_names, by_values, sound, is_accepted, package_report, package_lines, known_after, AreReports, all_told, skips, checks, ReportOf}
+use Rattle.go_model.specs.Phases.{HasHeaders, BreaksValues, IsVerdict, by_names, by_values, sound, is_accepted, package_report, ArePackageLines, known_after, AreReports, all_told, skips, checks, ReportOf}
+use Rattle.go_model.proofs.LineOrderLemmas.{one_list_in_order}
 use Rattle.go_module.proofs.BrokenListLemmas.{one_list, none_of_none}
 
 same_option : (x y : Option ℤ) → ((h : ℤ) → x ≡ Some h → y ≡ Some h) → ((h : ℤ) → y ≡ Some h → x ≡ Some h) → x ≡ y
@@ -32,27 +35,38 @@ same_bool false false f g = refl
 no_list : (found : List Broken) (b : Broken) (bs : List Broken) → found ≡ [] → IsListOf found (b ∷ bs) → ⊥
 no_list found b bs e i = let none = none_of_none (b ∷ bs) (subst (λ (f : List Broken). IsListOf f (b ∷ bs)) e i) in cc none
 
-module _ (means : ℕ → Meaning) (constants : List Constant) where
+module _ (means : ℕ → Meaning) (declarations : List Declaration) where
   -- there is one map of headers at most
-  one_map : (v w : Headers) (c d : ℕ → Bool) → HasHeaders means constants v c → HasHeaders means constants w d → v ≡ w
+  one_map : (v w : Headers) (c d : ℕ → Bool) → HasHeaders means declarations v c → HasHeaders means declarations w d → v ≡ w
   one_map v w c d has other = fun_ext (λ n. same_option (v n) (w n) (λ h e. (other.known n h).1 ((has.known n h).0 e)) (λ h e. (has.known n h).1 ((other.known n h).0 e)))
 
-  one_mark : (v w : Headers) (c d : ℕ → Bool) → HasHeaders means constants v c → HasHeaders means constants w d → c ≡ d
+  one_mark : (v w : Headers) (c d : ℕ → Bool) → HasHeaders means declarations v c → HasHeaders means declarations w d → c ≡ d
   one_mark v w c d has other =
-      let over = subst (λ (hs : Headers). (n : ℕ) → (d n ≡ true) ↔ Chain means constants hs n n) (sym (one_map v w c d has other)) other.is_cyclic in
+      let over = subst (λ (hs : Headers). (n : ℕ) → (d n ≡ true) ↔ Chain means declarations hs n n) (sym (one_map v w c d has other)) other.is_cyclic in
       fun_ext (λ n. same_bool (c n) (d n) (λ e. (over n).1 ((has.is_cyclic n).0 e)) (λ e. (has.is_cyclic n).1 ((over n).0 e)))
 
 module _ (m : ModuleData) (k : ℕ) (p : PackageData) (before : KnownValues) where
   same_headers : (v w : Headers) (xs ys : List Broken) → BreaksValues m k p before v xs → BreaksValues m k p before w ys → v ≡ w
-  same_headers v w xs ys a b = one_map (meaning_in m k p before) (constants_of p) v w a.cyclic b.cyclic a.has_headers b.has_headers
+  same_headers v w xs ys a b = one_map (meaning_in m k p before) (declarations_of p) v w a.cyclic b.cyclic a.has_headers b.has_headers
 
   same_values : (v w : Headers) (xs ys : List Broken) → BreaksValues m k p before v xs → BreaksValues m k p before w ys → xs ≡ ys
   same_values v w xs ys a b =
       let means = meaning_in m k p before in
       let headers = same_headers v w xs ys a b in
-      let marks = one_mark means (constants_of p) v w a.cyclic b.cyclic a.has_headers b.has_headers in
+      let marks = one_mark means (declarations_of p) v w a.cyclic b.cyclic a.has_headers b.has_headers in
       let there : IsListOf (broken_values means v a.cyclic p) ys = subst (λ (c : ℕ → Bool). IsListOf (broken_values means v c p) ys) (sym marks) (subst (λ (hs : Headers). IsListOf (broken_values means hs b.cyclic p) ys) (sym headers) b.is_list) in
       one_list (broken_values means v a.cyclic p) xs ys a.is_list there
+
+  -- a package has one list of lines at most
+  one_lines : (headers : Headers) (xs ys : List LineData) → ArePackageLines m k p before headers xs → ArePackageLines m k p before headers ys → xs ≡ ys
+  one_lines headers xs ys a b =
+      let defs : a.defs ≡ b.defs = one_list_in_order _ a.defs b.defs a.are_defs b.are_defs in
+      let uses : a.uses ≡ b.uses = one_list_in_order _ a.uses b.uses a.are_uses b.are_uses in
+      let exprs : a.exprs ≡ b.exprs = one_list_in_order _ a.exprs b.exprs a.are_exprs b.are_exprs in
+      a.all ∙ (λ i. defs i ++ (uses i ++ exprs i)) ∙ sym b.all
+
+  same_lines : (v w : Headers) (xs ys : List LineData) → v ≡ w → ArePackageLines m k p before v xs → ArePackageLines m k p before w ys → xs ≡ ys
+  same_lines v w xs ys same a b = one_lines v xs ys a (subst (λ (hs : Headers). ArePackageLines m k p before hs ys) (sym same) b)
 
   -- a verdict and what is known behind it
   record Given : Type 0 where
@@ -62,19 +76,22 @@ module _ (m : ModuleData) (k : ℕ) (p : PackageData) (before : KnownValues) whe
   abbrev given : VerdictData → KnownValues → Given
   given x after = record { verdict = x; known = after }
 
-  abbrev sound_by : Headers → Given
-  sound_by v = given (accepted (package_lines m k p before v)) (known_after before (meaning_in m k p before) v (constants_of p))
+  abbrev sound_by : Headers → List LineData → Given
+  sound_by v lines = given (accepted lines (named_in (outline_of m) lines)) (known_after before (meaning_in m k p before) v (declarations_of p))
 
   one_verdict : (x y : VerdictData) (after later : KnownValues) → IsVerdict m k p before x after → IsVerdict m k p before y later → given x after ≡ given y later
   one_verdict x y after later (by_names b bs i) (by_names c cs j) = ap (λ list. given (refused (map (placed_by p) list)) before) (one_list (broken_names (known_in m) k p) (b ∷ bs) (c ∷ cs) i j)
   one_verdict x y after later (by_names b bs i) (by_values w c cs j) = absurd (no_list (broken_names (known_in m) k p) b bs j.sound_names i)
-  one_verdict x y after later (by_names b bs i) (sound w j) = absurd (no_list (broken_names (known_in m) k p) b bs j.sound_names i)
+  one_verdict x y after later (by_names b bs i) (sound w ys j there) = absurd (no_list (broken_names (known_in m) k p) b bs j.sound_names i)
   one_verdict x y after later (by_values v b bs i) (by_names c cs j) = absurd (no_list (broken_names (known_in m) k p) c cs i.sound_names j)
   one_verdict x y after later (by_values v b bs i) (by_values w c cs j) = ap (λ list. given (refused (map (placed_by p) list)) before) (same_values v w (b ∷ bs) (c ∷ cs) i j)
-  one_verdict x y after later (by_values v b bs i) (sound w j) = absurd (let same = same_values v w (b ∷ bs) [] i j in cc same)
-  one_verdict x y after later (sound v i) (by_names c cs j) = absurd (no_list (broken_names (known_in m) k p) c cs i.sound_names j)
-  one_verdict x y after later (sound v i) (by_values w c cs j) = absurd (let same = same_values v w [] (c ∷ cs) i j in cc same)
-  one_verdict x y after later (sound v i) (sound w j) = ap sound_by (same_headers v w [] [] i j)
+  one_verdict x y after later (by_values v b bs i) (sound w ys j there) = absurd (let same = same_values v w (b ∷ bs) [] i j in cc same)
+  one_verdict x y after later (sound v xs i here) (by_names c cs j) = absurd (no_list (broken_names (known_in m) k p) c cs i.sound_names j)
+  one_verdict x y after later (sound v xs i here) (by_values w c cs j) = absurd (let same = same_values v w [] (c ∷ cs) i j in cc same)
+  one_verdict x y after later (sound v xs i here) (sound w ys j there) =
+      let headers : v ≡ w = same_headers v w [] [] i j in
+      let lines : xs ≡ ys = same_lines v w xs ys headers here there in
+      λ n. sound_by (headers n) (lines n)
 
 -- packages have one list of reports at most
 one_list_of_reports : (m : ModuleData) (k : ℕ) (marks : List Bool) (before : KnownValues) (ps : List PackageData) (left right : List PackageReportData) → AreReports m k marks before ps left → AreReports m k marks before ps right → left ≡ right

@@ -2,9 +2,11 @@
 pub mod Phases
 pub mod Report
 pub mod PackageLines
-pub mod Declarations
+pub mod LineOrder
+pub mod Outline
+pub mod Status
 pub mod Text
--- the constants of a package, their values, and the rules on them
+-- the values of a package's declarations, and the rules on them
 pub mod Values
 pub mod Laws
 -- what these rest on

@@ -10,46 +10,46 @@ use Rattle.std.specs.Option.{option_map_or}
 use Rattle.go_module.specs.IndexMap.{insert_all}
 use Rattle.go_base.specs.declared.rule.Broken.{Broken}
 use Rattle.go_model.specs.declared.meaning.Meaning.{Meaning}
-use Rattle.go_module.specs.declared.object.ObjId.{ObjId}
-use Rattle.go_model.specs.declared.lines.Line.{Line}
-use Rattle.go_model.specs.Values.Constants.{Constant, constants_of, number_of}
+use Rattle.go_base.specs.declared.ids.ObjId.{ObjId}
+use Rattle.go_module.specs.Names.Declarations.{Declaration, declarations_of, number_of}
 use Rattle.go_module.specs.Order.{IsListOf}
 use Rattle.go_model.specs.Values.Headers.{Known}
 use Rattle.go_model.specs.Values.Meaning.{KnownValues, meaning_in, uses_table}
 use Rattle.go_module.specs.Modules.Module.{ModuleData, PackageData}
-use Rattle.go_model.specs.PackageLines.{lines_of, outline_of}
+use Rattle.go_model.specs.Outline.{outline_of}
+use Rattle.go_model.specs.PackageLines.{AreLines, named_in}
 use Rattle.go_module.specs.Graph.{is_marked}
 use Rattle.go_module.specs.Places.{placed_by}
 use Rattle.go_model.specs.Values.Records.{Headers, value_over}
-use Rattle.go_model.specs.Report.{VerdictData, accepted, refused, skipped, PackageReportData, ReportData}
+use Rattle.go_model.specs.Report.{LineData, VerdictData, accepted, refused, skipped, PackageReportData, ReportData}
 use Rattle.go_model.specs.Values.Rules.{broken_values}
 use Rattle.go_module.specs.Scopes.{same_node, same_object}
 use Rattle.go_model.specs.Values.Waiting.{Chain}
 use Rattle.go_module.specs.Names.Rules.BrokenNames.{broken_names}
 use Rattle.go_module.specs.Names.Imports.{known_in}
 
--- the headers of a package's constants, and which of them wait for themselves
-pub record HasHeaders (means : ℕ → Meaning) (constants : List Constant) (headers : Headers) (cyclic : ℕ → Bool) : Type 0 where
-  pub known : (d : ℕ) (h : ℤ) → (headers d ≡ Some h) ↔ Known means constants d h
-  pub is_cyclic : (d : ℕ) → (cyclic d ≡ true) ↔ Chain means constants headers d d
+-- the headers of a package's declarations, and which of these wait for themselves
+pub record HasHeaders (means : ℕ → Meaning) (declarations : List Declaration) (headers : Headers) (cyclic : ℕ → Bool) : Type 0 where
+  pub known : (d : ℕ) (h : ℤ) → (headers d ≡ Some h) ↔ Known means declarations d h
+  pub is_cyclic : (d : ℕ) → (cyclic d ≡ true) ↔ Chain means declarations headers d d
 
--- the values of a package's constants, behind those that were known before
-abbrev pub values_of : (ℕ → Meaning) → Headers → List Constant → List (ObjId × ℤ)
-values_of means headers constants = flat_map (λ constant. option_map_or (λ v. (number_of constant, v) ∷ []) (value_over means headers constant) []) constants
+-- the values of a package's declarations, behind those that were known before
+abbrev pub values_of : (ℕ → Meaning) → Headers → List Declaration → List (ObjId × ℤ)
+values_of means headers declarations = flat_map (λ d. option_map_or (λ v. (number_of d, v) ∷ []) (value_over means headers d) []) declarations
 
-abbrev pub known_after : KnownValues → (ℕ → Meaning) → Headers → List Constant → KnownValues
-known_after before means headers constants = insert_all same_object before (values_of means headers constants)
+abbrev pub known_after : KnownValues → (ℕ → Meaning) → Headers → List Declaration → KnownValues
+known_after before means headers declarations = insert_all same_object before (values_of means headers declarations)
 
 -- what the values of a package break, as one list
 pub record BreaksValues (m : ModuleData) (k : ℕ) (p : PackageData) (before : KnownValues) (headers : Headers) (list : List Broken) : Type 0 where
   pub sound_names : broken_names (known_in m) k p ≡ []
   pub cyclic : ℕ → Bool
-  pub has_headers : HasHeaders (meaning_in m k p before) (constants_of p) headers cyclic
+  pub has_headers : HasHeaders (meaning_in m k p before) (declarations_of p) headers cyclic
   pub is_list : IsListOf (broken_values (meaning_in m k p before) headers cyclic p) list
 
 -- the lines of the package at a place, over these headers
-abbrev pub package_lines : ModuleData → ℕ → PackageData → KnownValues → Headers → List Line
-package_lines m k p before headers = lines_of (outline_of m) k p (λ id. lookup (same_node id) (uses_table m k p)) (meaning_in m k p before) headers
+abbrev pub ArePackageLines : ModuleData → ℕ → PackageData → KnownValues → Headers → List LineData → Type 0
+ArePackageLines m k p before headers lines = AreLines (outline_of m) k p (λ id. lookup (same_node id) (uses_table m k p)) (meaning_in m k p before) headers lines
 
 -- the verdict on the package at a place, whose imports are accepted, and what is known behind it
 pub data IsVerdict (m : ModuleData) (k : ℕ) (p : PackageData) (before : KnownValues) : VerdictData → KnownValues → Type 0 where
@@ -57,11 +57,11 @@ pub data IsVerdict (m : ModuleData) (k : ℕ) (p : PackageData) (before : KnownV
       → IsVerdict m k p before (refused (map (placed_by p) (b ∷ bs))) before
   by_values : (headers : Headers) (b : Broken) (bs : List Broken) → BreaksValues m k p before headers (b ∷ bs)
       → IsVerdict m k p before (refused (map (placed_by p) (b ∷ bs))) before
-  sound : (headers : Headers) → BreaksValues m k p before headers []
-      → IsVerdict m k p before (accepted (package_lines m k p before headers)) (known_after before (meaning_in m k p before) headers (constants_of p))
+  sound : (headers : Headers) (lines : List LineData) → BreaksValues m k p before headers [] → ArePackageLines m k p before headers lines
+      → IsVerdict m k p before (accepted lines (named_in (outline_of m) lines)) (known_after before (meaning_in m k p before) headers (declarations_of p))
 
 abbrev pub is_accepted : VerdictData → Bool
-is_accepted (accepted lines) = true
+is_accepted (accepted lines named) = true
 is_accepted (refused list) = false
 is_accepted skipped = false
 

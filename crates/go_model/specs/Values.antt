@@ -1,5 +1,4 @@
--- The values of constants: what is declared, what is known of it, and which rules it breaks.
-pub mod Constants
+-- The values of declarations: what is known of them, and which rules they break.
 pub mod Meaning
 pub mod Records
 pub mod Headers

@@ -1,9 +1,10 @@
 //! What the checker is held against: headers, records, tests, the rules on values, reports and their text.
 //!
-//! The definitions stand in specs/: which constants a package declares and which headers they have
-//! (`Constants`, `Records`, `Headers`), which rules they break (`Tests`, `Waiting`, `Rules`), and which
-//! report a module has (`Phases`, `Report`). A law is the contract of a function that does nothing. What
-//! modules and scopes are stands in go_module, whose types are named here again.
+//! The definitions stand in specs/: which headers the declarations of a package have (`Records`,
+//! `Headers`), which rules they break (`Tests`, `Waiting`, `Rules`), where objects are declared
+//! (`Outline`), which report a module has (`Phases`, `PackageLines`, `LineOrder`, `Report`), and its status
+//! (`Status`). A law is the contract of a function that does nothing. What modules, declarations and
+//! scopes are stands in go_module, whose types are named here again.
 #![tactic(auto)]
 
 // Laws.
@@ -16,6 +17,7 @@ mod outcome;
 mod rec;
 
 // Reports.
+mod declared_object;
 mod lines;
 mod report;
 
@@ -23,12 +25,15 @@ mod report;
 #[cfg(test)]
 mod law_tests;
 
+pub use declared_object::DeclaredObject;
 pub use go_module::{
     At, Block, Import, Method, Module, ObjId, ObjKind, Object, Occurrence, Package, Placed, Region,
     Scopes, Selected, SourceFile,
 };
 pub use header::Header;
-pub use laws::{decided_stays, one_header, one_report, records_stay, tests_stay};
+pub use laws::{
+    decided_stays, declared_everywhere, one_header, one_report, records_stay, tests_stay,
+};
 pub use lines::{DefKind, Line, NamedObject, Records, What};
 pub use meaning::Meaning;
 pub use outcome::{Answer, Outcome, Spot};

@@ -4,7 +4,7 @@
 /// What an identifier means in a package that is checked.
 #[derive(Clone, Copy, Debug, PartialEq, Eq)]
 pub enum Meaning {
-    /// a constant of the package, by its place among them
+    /// a declaration of the package, by its place among them
     Own(usize),
     /// a constant of a package that stands before, by its value
     Outer(i128),

@@ -2,7 +2,9 @@
 pub mod Blocks
 pub mod Exported
 pub mod Universe
-pub mod Constants
+pub mod Inner
+pub mod Declarations
+pub mod PackageBlock
 pub mod Imports
 pub mod Occurrences
 pub mod Regions

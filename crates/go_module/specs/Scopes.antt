@@ -3,7 +3,7 @@
 -- tables of scopes are read.
 use Rattle.std.specs.Prelude.{Bool, nat_eq}
 use Rattle.go_tree.specs.declared.node.NodeId.{NodeId}
-use Rattle.go_module.specs.declared.object.ObjId.{ObjId}
+use Rattle.go_base.specs.declared.ids.ObjId.{ObjId}
 
 abbrev pub same_node : NodeId → NodeId → Bool
 same_node a b = nat_eq a.0 b.0

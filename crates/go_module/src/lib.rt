@@ -21,6 +21,8 @@ mod parts;
 
 // Names.
 mod block;
+mod declaration;
+mod inner;
 mod object;
 mod object_table;
 mod predeclared;
@@ -43,10 +45,13 @@ mod scopes_tests;
 pub use block::{Block, Import, Occurrence, Region, Selected};
 pub use broken::{add_if, broken_at};
 pub use broken_list::breaks_none;
+pub use declaration::Built;
+pub use go_base::ObjId;
+pub use inner::Inner;
 pub use laws::one_list;
 pub use module::{Module, Package, SourceFile};
 pub use node_parts::{all_but_first, part_list, three_parts};
-pub use object::{Method, ObjId, ObjKind, Object};
+pub use object::{Method, ObjKind, Object};
 pub use object_table::{add_objects, copy_object, object_id};
 pub use order::ordered;
 pub use parts::{first_part, last_part};

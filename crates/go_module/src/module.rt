@@ -1,6 +1,9 @@
 // Modules: packages of files, each with its tree (Go specification, "Packages").
-use go_base::{Bytes, Name};
+ghost use Rattle.go_base.specs.Lines.{AreLineStarts};
+
+use go_base::{Bytes, LineStarts, Name, NoMemory};
 use go_tree::File;
+use std::alloc::Global;
 
 /// A module: its path, the second number of the version of Go that its go.mod names, 21 for `go 1.21`,
 /// and its packages in import order.
@@ -23,10 +26,36 @@ pub struct Package {
     pub imports: Vec<usize>,
 }
 
-/// A file: its path below its root, its bytes, and its tree.
+/// A file: its path below its root, its bytes, where their lines start, and its tree.
 #[derive(Debug, Drop)]
 pub struct SourceFile {
     pub name: Name,
     pub bytes: Bytes,
+    pub lines: LineStarts,
     pub tree: File,
+    ghost lines_of_bytes: { AreLineStarts bytes lines },
+}
+
+impl SourceFile {
+    ghost use Rattle.std.specs.Prelude.{◌≡◌, IfOk};
+    ghost use Rattle.go_tree.specs.Tree.{tree_of};
+    ghost use Rattle.go_module.specs.Modules.Module.{file_view};
+
+    /// The file at a path below its root with these bytes and their tree. An error is want of memory.
+    pub fn new(alloc: Global, name: Name, bytes: Bytes, tree: File) -> Result<SourceFile, NoMemory>
+        ensures { IfOk result (λ file. file_view file ≡ record {
+          path = name;
+          bytes = bytes;
+          number = tree.number;
+          tree = tree_of tree.root;
+        }) }
+    {
+        let lines = LineStarts::of(alloc, bytes.as_slice())?;
+        Ok(SourceFile {
+            name,
+            bytes,
+            lines,
+            tree,
+        })
+    }
 }

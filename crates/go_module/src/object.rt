@@ -1,11 +1,6 @@
 // Objects: what names denote (Go specification, "Declarations and scope").
-use go_base::Name;
+use go_base::{Name, ObjId};
 use go_tree::NodeId;
-
-/// The number of an object. Universe names have 0 to 43, the method of `error` has 44, and any other
-/// object has the number of the node that declares it.
-#[derive(Clone, Copy, Debug, PartialEq, Eq, Hash)]
-pub struct ObjId(pub usize);
 
 /// What an object is.
 #[derive(Clone, Copy, Debug, PartialEq, Eq)]

@@ -1,13 +1,12 @@
 // Tables of objects by their numbers (Go specification, "Declarations and scope").
 ghost use Rattle.std.specs.Prelude.{◌≡◌, IfOk, OnOk, map};
 ghost use Rattle.indexmap.specs.IndexMap.{insert_all, insert_entry};
-ghost use Rattle.go_module.specs.Names.Constants.{object_id};
-ghost use Rattle.go_module.specs.Names.Tables.{region_entries};
+ghost use Rattle.go_module.specs.Names.PackageBlock.{object_id, region_entries};
 ghost use Rattle.go_module.specs.Scopes.{same_object};
 
 use crate::block::Region;
-use crate::object::{ObjId, Object};
-use go_base::NoMemory;
+use crate::object::Object;
+use go_base::{NoMemory, ObjId};
 use indexmap::IndexMap;
 
 /// Adds the object of each region by its number. An error is want of memory.

@@ -2,17 +2,18 @@
 ghost use Rattle.std.specs.Prelude.{◌≡◌, ℕ, [], IfOk, IfSome, IsSome, Some, Contains};
 ghost use Rattle.std.specs.Option.{option_map_or};
 ghost use Rattle.indexmap.specs.IndexMap.{ContainsKey, IsEmpty, get, insert_all};
-ghost use Rattle.go_module.specs.declared.object.ObjId.{ObjId};
+ghost use Rattle.go_base.specs.declared.ids.ObjId.{ObjId};
 ghost use Rattle.go_module.specs.Modules.Module.{ModuleData, PackageData};
 ghost use Rattle.go_module.specs.Names.Imports.{known_in};
-ghost use Rattle.go_module.specs.Names.Tables.{HasTables, objects_of, region_entries, uses_of};
+ghost use Rattle.go_module.specs.Names.PackageBlock.{region_entries};
+ghost use Rattle.go_module.specs.Names.Tables.{HasTables, objects_in, uses_of};
 ghost use Rattle.go_module.specs.Names.Universe.{universe};
 ghost use Rattle.go_module.specs.Scopes.{same_node, same_object};
 
-use crate::object::{Method, ObjId, Object};
+use crate::object::{Method, Object};
 use crate::object_table::add_objects;
 use crate::predeclared::universe;
-use go_base::{Name, NoMemory};
+use go_base::{Name, NoMemory, ObjId};
 use go_tree::NodeId;
 use indexmap::IndexMap;
 use std::alloc::Global;
@@ -63,7 +64,7 @@ impl Scopes {
         requires { ContainsKey same_object self.now.objects d }
         ensures table { get same_object self.now.objects d ≡ Some result.now }
         ensures declared { (m : ModuleData) (k : ℕ) (p : PackageData) → HasTables m k p self.now
-            → Contains (objects_of (known_in m) k p) (d, result.now) }
+            → Contains (objects_in (known_in m) k p) (d, result.now) }
     {
         &self.objects[&d]
     }

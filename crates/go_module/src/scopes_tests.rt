@@ -1,7 +1,7 @@
 // Tables of scopes: those of the universe, and tables with one entry.
-use crate::object::{Method, ObjId, ObjKind, Object};
+use crate::object::{Method, ObjKind, Object};
 use crate::scopes::Scopes;
-use go_base::{Name, NoMemory};
+use go_base::{Name, NoMemory, ObjId};
 use go_tree::NodeId;
 use std::alloc::Global;
 use std::test::Fail;

@@ -3,7 +3,7 @@ use crate::head::Root;
 use crate::marks::{Mark, Marked};
 use crate::plan::RowFile;
 use crate::row::RowFault;
-use go_base::Lines;
+use go_base::LineStarts;
 use std::alloc::{AllocError, Global};
 
 const MARKS: &[u8] = b"marks";
@@ -128,12 +128,13 @@ fn put_places(
     path: &str,
     text: &Marked,
 ) -> Result<(), AllocError> {
-    let Ok(lines) = Lines::new(alloc, &text.bytes) else {
+    let bytes = text.bytes.as_slice();
+    let Ok(lines) = LineStarts::of(alloc, bytes) else {
         return Err(AllocError);
     };
     for mark in &text.marks {
-        if mark.offset <= text.bytes.len() {
-            let place = lines.place(mark.offset);
+        if mark.offset <= bytes.len() {
+            let place = lines.place(bytes, mark.offset);
             let line = place.line;
             let col = place.col;
             let front = format!(in alloc; "broken\t{path}:{line}:{col}\t")?;

@@ -3,31 +3,31 @@ use Rattle.std.proofs.Common.{◌≡◌, ◌≢◌, ℕ, ◌+◌, ◌<◌, Bool,
 use Rattle.std.proofs.lemmas.Bool.{false≢true}
 use Rattle.go_tree.specs.Lexical.Characters.{decoded_at, is_white_space, byte_order_mark}
 use Rattle.go_tree.specs.Lexical.Comments.{OpensLine, OpensGeneral, IsLineComment, IsGeneralComment}
-use Rattle.go_tree.specs.Lexical.Scan.{Space, blank, line, general, mark, IsFirstNewline, Gap, none, more}
+use Rattle.go_tree.specs.Lexical.Scan.{Space, white, line, general, mark, IsFirstNewline, Gap, none, more}
 use Rattle.go_scan.specs.Gaps.{HasNoSpace}
 use Rattle.go_tree.proofs.SpaceLemmas.{some_same, slash_no_blank, no_mark}
 
 -- what opens a comment is no space but the comment
 pub line_alone : (bytes : List ℕ) (at : ℕ) → OpensLine bytes at → ((to : ℕ) → IsLineComment bytes at to → ⊥) → HasNoSpace bytes at
-line_alone bytes at o no_line to (blank b) = slash_no_blank _ o.0 b
+line_alone bytes at o no_line to (white b) = slash_no_blank _ o.0 b
 line_alone bytes at o no_line to (line c) = no_line to c
 line_alone bytes at o no_line to (general c) = omega (arith, o.1, c.opens.1)
 line_alone bytes at o no_line to (mark start char) = no_mark bytes at 46 o.0 (omega arith) char
 
 pub general_alone : (bytes : List ℕ) (at : ℕ) → OpensGeneral bytes at → ((to : ℕ) → IsGeneralComment bytes at to → ⊥) → HasNoSpace bytes at
-general_alone bytes at o no_general to (blank b) = slash_no_blank _ o.0 b
+general_alone bytes at o no_general to (white b) = slash_no_blank _ o.0 b
 general_alone bytes at o no_general to (line c) = omega (arith, o.1, c.opens.1)
 general_alone bytes at o no_general to (general c) = no_general to c
 general_alone bytes at o no_general to (mark start char) = no_mark bytes at 46 o.0 (omega arith) char
 
 pub slash_alone : (bytes : List ℕ) (at : ℕ) → slice_index bytes at ≡ 47 → (slice_index bytes (at + 1) ≡ 47 → ⊥) → (slice_index bytes (at + 1) ≡ 42 → ⊥) → HasNoSpace bytes at
-slash_alone bytes at o a b to (blank h) = slash_no_blank _ o h
+slash_alone bytes at o a b to (white h) = slash_no_blank _ o h
 slash_alone bytes at o a b to (line c) = a c.opens.1
 slash_alone bytes at o a b to (general c) = b c.opens.1
 slash_alone bytes at o a b to (mark start char) = no_mark bytes at 46 o (omega arith) char
 
 pub no_space : (bytes : List ℕ) (at : ℕ) → is_white_space (slice_index bytes at) ≡ false → (slice_index bytes at ≡ 47 → ⊥) → (at ≡ 0 → (decoded_at bytes at).char ≡ Some byte_order_mark → ⊥) → HasNoSpace bytes at
-no_space bytes at b slash no_mark to (blank h) = false≢true (sym b ∙ h)
+no_space bytes at b slash no_mark to (white h) = false≢true (sym b ∙ h)
 no_space bytes at b slash no_mark to (line c) = slash c.opens.0
 no_space bytes at b slash no_mark to (general c) = slash c.opens.0
 no_space bytes at b slash no_mark to (mark start char) = no_mark start char

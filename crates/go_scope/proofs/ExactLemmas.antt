@@ -15,7 +15,8 @@ use Rattle.go_module.specs.Numbers.{numbered}
 use Rattle.go_module.specs.declared.block.Occurrence.{Occurrence}
 use Rattle.go_module.specs.declared.block.Region.{Region}
 use Rattle.go_module.specs.declared.block.Selected.{Selected}
-use Rattle.go_module.specs.declared.object.ObjId.{ObjId}
+use Rattle.go_base.specs.declared.ids.ObjId.{ObjId}
+use Rattle.go_module.specs.declared.object.Object.{Object}
 use Rattle.go_module.specs.declared.scopes.Scopes.{Scopes}
 use Rattle.go_module.specs.Modules.Texts.{SourceText}
 use Rattle.go_module.specs.Modules.Module.{FileData, PackageData, ModuleData, IsLoaded, AreTrees, files_from, first_number, in_order, package_at}
@@ -23,8 +24,8 @@ use Rattle.go_graph.specs.Graph.{row_at}
 use Rattle.go_module.specs.Modules.Paths.{homes, own_paths}
 use Rattle.go_module.specs.Modules.Packages.{files_of, is_home}
 use Rattle.go_module.specs.Scopes.{same_node}
-use Rattle.go_module.specs.Names.Constants.{object_id}
-use Rattle.go_module.specs.Names.Imports.{PackageNames, exported, known_in}
+use Rattle.go_module.specs.Names.Imports.{PackageNames, known_in}
+use Rattle.go_module.specs.Names.PackageBlock.{object_id}
 use Rattle.go_module.specs.Names.Rules.OccurrenceRules.{denoted_package}
 use Rattle.go_module.specs.Names.Occurrences.{occurrences_in_file}
 use Rattle.go_module.specs.Names.Regions.{resolution, regions_of}
@@ -47,22 +48,25 @@ use_before : (o : Occurrence) (r : Option Region) (rest : List (NodeId × ObjId)
 use_before o None rest a = ascends_lower (suc o.id.0) o.id.0 rest (omega arith) a
 use_before o (Some x) rest a = (omega arith, a)
 
-member_before : (id : ℕ) (s : Selected) (home : ℕ) (d : Option ObjId) (rest : List (NodeId × ObjId)) → id < s.id.0 → Ascends (suc s.id.0) rest → Ascends (suc id) (map (λ (m : Member). (m.id, m.object)) (option_map_or {U = List Member} (λ (object : ObjId). record { id = s.id; name = s.name; home = home; object = object } ∷ []) d []) ++ rest)
-member_before id s home None rest behind a = ascends_lower (suc s.id.0) (suc id) rest (omega (arith, behind)) a
-member_before id s home (Some object) rest behind a = (omega (arith, behind), a)
+abbrev member_uses : List Member → List (NodeId × ObjId)
+member_uses members = map (λ (m : Member). (m.id, object_id m.object)) members
 
-members_before : (known : ℕ → PackageNames) (id : ℕ) (place : Option ℕ) (selected : Option Selected) (rest : List (NodeId × ObjId)) → IsBehind id selected → Ascends (suc (last_of id selected)) rest → Ascends (suc id) (map (λ (m : Member). (m.id, m.object)) (member_of known place selected) ++ rest)
+member_before : (id : ℕ) (s : Selected) (d : Option Object) (rest : List (NodeId × ObjId)) → id < s.id.0 → Ascends (suc s.id.0) rest → Ascends (suc id) (member_uses (option_map_or {U = List Member} (λ (object : Object). record { id = s.id; object = object } ∷ []) d []) ++ rest)
+member_before id s None rest behind a = ascends_lower (suc s.id.0) (suc id) rest (omega (arith, behind)) a
+member_before id s (Some object) rest behind a = (omega (arith, behind), a)
+
+members_before : (known : ℕ → PackageNames) (id : ℕ) (place : Option ℕ) (selected : Option Selected) (rest : List (NodeId × ObjId)) → IsBehind id selected → Ascends (suc (last_of id selected)) rest → Ascends (suc id) (member_uses (member_of known place selected) ++ rest)
 members_before known id None None rest behind a = a
 members_before known id None (Some s) rest behind a = ascends_lower (suc s.id.0) (suc id) rest (omega (arith, behind)) a
 members_before known id (Some q) None rest behind a = a
-members_before known id (Some q) (Some s) rest behind a = member_before id s q (exported (known q) s.name) rest behind a
+members_before known id (Some q) (Some s) rest behind a = member_before id s ((known q).exported s.name) rest behind a
 
 uses_ascend : (known : ℕ → PackageNames) (regions : List Region) (low high : ℕ) (xs : List Occurrence) → Rises low high xs → Ascends low (flat_map (uses_at known regions) xs)
 uses_ascend known regions low high [] r = tt
 uses_ascend known regions low high (o ∷ xs) r =
     let rest = flat_map (uses_at known regions) xs in
     let own = option_map_or {U = List (NodeId × ObjId)} (λ (x : Region). (o.id, object_id x.object) ∷ []) (resolution regions o) [] in
-    let members = map (λ (m : Member). (m.id, m.object)) (members_at known regions o) in
+    let members = member_uses (members_at known regions o) in
     let later = uses_ascend known regions (suc (last_of o.id.0 o.selected)) high xs r.2 in
     let behind = members_before known o.id.0 (denoted_package regions o) o.selected rest r.1 later in
     let all = use_before o (resolution regions o) (members ++ rest) behind in

@@ -1,22 +1,23 @@
 -- What imports declare, name after name and import after import.
-use Rattle.std.proofs.Common.{◌≡◌, ℕ, ◌≤◌, min, Bool, Bor, List, [], ◌∷◌, ◌++◌, map, filter, length, drop, inl, inr, refl, sym, ap, ◌∙◌, arith}
-use Rattle.std.specs.List.{flat_map, zip}
+use Rattle.std.proofs.Common.{◌≡◌, ℕ, ◌≤◌, min, Bool, Bor, Option, List, [], ◌∷◌, ◌++◌, map, filter, length, drop, inl, inr, refl, sym, ap, ◌∙◌, arith}
+use Rattle.std.specs.List.{filter_map, flat_map, zip}
 use Rattle.std.proofs.lemmas.Bool.{cases_lt}
 use Rattle.std.proofs.lemmas.List.{append_assoc, append-nil, drop_all, map-append}
-use Rattle.std.proofs.lemmas.List.Elements.{filter-append}
+use Rattle.std.proofs.lemmas.List.Elements.{filter-append, filter_map-append}
 use Rattle.go_tree.specs.declared.node.Node.{Node}
 use Rattle.go_tree.specs.Tree.{tree_of}
 use Rattle.go_module.specs.Names.Imports.{Importing, imports_in}
-use Rattle.go_scope.specs.Blocks.{trees_at}
+use Rattle.go_names.specs.Views.{trees_at}
 
--- behind one more entry of a table, of which those that pass are pushed
-pub export_more : {A B : Type 0} (f : A → B) (p : A → Bool) (x : A) (left rest : List A) (old new whole : List B) → left ≡ x ∷ rest → old ++ map f (filter p left) ≡ whole → new ≡ old ++ map f (filter p (x ∷ [])) → new ++ map f (filter p rest) ≡ whole
-export_more f p x left rest old new whole at so_far pushed =
-    ap (λ l. l ++ map f (filter p rest)) pushed
-    ∙ append_assoc old (map f (filter p (x ∷ []))) (map f (filter p rest))
-    ∙ ap (λ l. old ++ l) (sym (map-append f (filter p (x ∷ [])) (filter p rest)))
-    ∙ ap (λ l. old ++ map f l) (sym (filter-append p (x ∷ []) rest))
-    ∙ ap (λ l. old ++ map f (filter p l)) (sym at)
+-- behind one more entry of a table, of which what is read at those that pass is pushed
+pub export_more : {A B C : Type 0} (f : B → C) (g : A → Option B) (p : A → Bool) (x : A) (left rest : List A) (old new whole : List C) → left ≡ x ∷ rest → old ++ map f (filter_map g (filter p left)) ≡ whole → new ≡ old ++ map f (filter_map g (filter p (x ∷ []))) → new ++ map f (filter_map g (filter p rest)) ≡ whole
+export_more f g p x left rest old new whole at so_far pushed =
+    ap (λ l. l ++ map f (filter_map g (filter p rest))) pushed
+    ∙ append_assoc old (map f (filter_map g (filter p (x ∷ [])))) (map f (filter_map g (filter p rest)))
+    ∙ ap (λ l. old ++ l) (sym (map-append f (filter_map g (filter p (x ∷ []))) (filter_map g (filter p rest))))
+    ∙ ap (λ l. old ++ map f l) (sym (filter_map-append g (filter p (x ∷ [])) (filter p rest)))
+    ∙ ap (λ l. old ++ map f (filter_map g l)) (sym (filter-append p (x ∷ []) rest))
+    ∙ ap (λ l. old ++ map f (filter_map g (filter p l))) (sym at)
     ∙ so_far
 
 -- nothing is paired with an empty list

@@ -1,7 +1,6 @@
 -- What packages are known by: two ways of knowing that agree on all imported packages tell the same.
-use Rattle.std.proofs.Common.{◌≡◌, ℕ, ◌+◌, Bool, true, false, cond, Option, Some, None, List, [], ◌∷◌, ◌++◌, map, filter, find, take, drop, length, not, refl, subst, ap, ◌∙◌}
+use Rattle.std.proofs.Common.{◌≡◌, ℕ, ◌+◌, Bool, true, false, cond, Option, Some, None, List, [], ◌∷◌, ◌++◌, map, filter, find, take, drop, length, refl, subst, ap, ◌∙◌}
 use Rattle.std.specs.Prelude.{if◌then◌else◌, option_and_then}
-use Rattle.go_module.specs.declared.object.ObjId.{ObjId}
 use Rattle.std.specs.Option.{is_none, option_map_or}
 use Rattle.std.specs.List.{Contains, flat_map}
 use Rattle.std.proofs.lemmas.List.{take-append-drop}
@@ -10,20 +9,22 @@ use Rattle.go_tree.specs.Tree.{Tree, Trees, no_trees, more_trees, parts_of}
 use Rattle.go_module.specs.declared.block.Region.{Region}
 use Rattle.go_module.specs.declared.block.Occurrence.{Occurrence}
 use Rattle.go_module.specs.declared.block.Selected.{Selected}
+use Rattle.go_module.specs.declared.object.Object.{Object}
 use Rattle.go_module.specs.Broken.{broken_at, told_if}
 use Rattle.go_module.specs.Names.Universe.{Predeclared, predeclared, universe, universe_from}
 use Rattle.go_module.specs.Modules.Heads.{import_specs}
 use Rattle.go_module.specs.Modules.Module.{FileData, PackageData}
 use Rattle.go_module.specs.Names.Rules.BlockRules.{missing_main_at, reserved, repeated, is_main_name}
 use Rattle.go_module.specs.Names.Rules.BrokenNames.{broken_block, broken_file, broken_files, broken_in_files}
-use Rattle.go_module.specs.Names.Constants.{constant_object, name_text, object_id, package_block, constants_in_file, constants_in_spec, const_specs, constant_region, names_in_spec}
+use Rattle.go_module.specs.Names.Declarations.{Declaration, declarations_of, name_text}
+use Rattle.go_module.specs.Names.PackageBlock.{binds, declared_region, object_id, package_block, region_entries}
 use Rattle.go_module.specs.Names.Exported.{is_blank_identifier}
 use Rattle.go_module.specs.Names.Rules.ImportRules.{conflicting, unused}
-use Rattle.go_module.specs.Names.Imports.{PackageNames, Importing, import_region, dot_region, is_dot, import_parts, import_regions, file_block, import_of, imports_in, imports_from, imports_of, exports_of, exported}
+use Rattle.go_module.specs.Names.Imports.{PackageNames, Importing, import_region, dot_region, is_dot, import_parts, import_regions, file_block, import_of, imports_in, imports_from, imports_of}
 use Rattle.go_module.specs.Names.Rules.OccurrenceRules.{missing_member, denoted_package, missing_in, broken_occurrence, broken_occurrences, undeclared_at, blank_at, misplaced_at, complex_at}
 use Rattle.go_module.specs.Names.Occurrences.{occurrences_in_file}
 use Rattle.go_module.specs.Names.Regions.{regions_of, resolution, holds, lies_inside_others}
-use Rattle.go_module.specs.Names.Tables.{region_entries, members_at, member_of, uses_at, uses_of, objects_of, occurrences_from}
+use Rattle.go_module.specs.Names.Tables.{Member, members_at, member_of, members_of, uses_at, uses_of, objects_in, occurrences_from}
 use Rattle.go_module.proofs.MemberLemmas.{contains_head, contains_tail}
 
 -- parts of a list have no other elements
@@ -67,7 +68,7 @@ module _ (f g : ℕ → PackageNames) where
   blocks_alike (imports ∷ others) same = (λ at. block_alike imports same.0 at ++ blocks_alike others same.1 at)
 
   pub regions_alike : (k : ℕ) (p : PackageData) → AllAlike (imports_of k p) → regions_of f k p ≡ regions_of g k p
-  regions_alike k p same = ap (λ rest. universe ++ (package_block k 0 p.files ++ rest)) (blocks_alike (imports_of k p) same)
+  regions_alike k p same = ap (λ rest. universe ++ (package_block k p ++ rest)) (blocks_alike (imports_of k p) same)
 
   -- both know alike what a region denotes
   abbrev KnowsDenoted : Region → Type 0
@@ -85,17 +86,12 @@ module _ (f g : ℕ → PackageNames) where
   universe_denotes i [] = tt
   universe_denotes i (name ∷ names) = ((λ q e. cc), universe_denotes (i + 1) names)
 
-  constants_denote : (k file : ℕ) (names : List Tree) → AllDenoted (map (constant_region k file) names)
-  constants_denote k file [] = tt
-  constants_denote k file (name ∷ names) = ((λ q e. cc), constants_denote k file names)
+  declared_denote : (k : ℕ) (declarations : List Declaration) → AllDenoted (map (declared_region k) declarations)
+  declared_denote k [] = tt
+  declared_denote k (d ∷ declarations) = ((λ q e. cc), declared_denote k declarations)
 
-  specs_denote : (k file : ℕ) (specs : List Tree) → AllDenoted (flat_map (constants_in_spec k file) specs)
-  specs_denote k file [] = tt
-  specs_denote k file (spec ∷ specs) = denoted_append (constants_in_spec k file spec) (flat_map (constants_in_spec k file) specs) (constants_denote k file (filter (λ name. not (is_blank_identifier (name_text name))) (names_in_spec spec))) (specs_denote k file specs)
-
-  package_denotes : (k file : ℕ) (files : List FileData) → AllDenoted (package_block k file files)
-  package_denotes k file [] = tt
-  package_denotes k file (x ∷ files) = denoted_append (constants_in_file k file x.tree) (package_block k (file + 1) files) (specs_denote k file (const_specs x.tree)) (package_denotes k (file + 1) files)
+  package_denotes : (k : ℕ) (p : PackageData) → AllDenoted (package_block k p)
+  package_denotes k p = declared_denote k (filter binds (declarations_of p))
 
   -- the names of an import
   import_denotes : (i : Importing) (name : List ℕ) (node : Tree) → f i.imported ≡ g i.imported → KnowsDenoted (import_region i name node)
@@ -103,12 +99,12 @@ module _ (f g : ℕ → PackageNames) where
       let at : i.imported ≡ q = cc in
       subst (λ (n : ℕ). f n ≡ g n) at same
 
-  exports_denote : (i : Importing) (string : Tree) (entries : List (List ℕ × ObjId)) → AllDenoted (map (dot_region i string) entries)
+  exports_denote : (i : Importing) (string : Tree) (objects : List Object) → AllDenoted (map (dot_region i string) objects)
   exports_denote i string [] = tt
-  exports_denote i string (e ∷ entries) = ((λ q none. cc), exports_denote i string entries)
+  exports_denote i string (object ∷ objects) = ((λ q none. cc), exports_denote i string objects)
 
-  named_denote : (i : Importing) (name string : Tree) (dot blank : Bool) → f i.imported ≡ g i.imported → AllDenoted (if dot then map (dot_region i string) (exports_of (g i.imported)) else if blank then [] else import_region i (name_text name) name ∷ [])
-  named_denote i name string true blank same = exports_denote i string (exports_of (g i.imported))
+  named_denote : (i : Importing) (name string : Tree) (dot blank : Bool) → f i.imported ≡ g i.imported → AllDenoted (if dot then map (dot_region i string) (g i.imported).exports else if blank then [] else import_region i (name_text name) name ∷ [])
+  named_denote i name string true blank same = exports_denote i string (g i.imported).exports
   named_denote i name string false true same = tt
   named_denote i name string false false same = (import_denotes i (name_text name) name same, tt)
 
@@ -131,7 +127,7 @@ module _ (f g : ℕ → PackageNames) where
   universe_is_denoted = universe_denotes 0 predeclared
 
   regions_denote : (k : ℕ) (p : PackageData) → AllAlike (imports_of k p) → AllDenoted (regions_of g k p)
-  regions_denote k p same = denoted_append universe (package_block k 0 p.files ++ flat_map (file_block g) (imports_of k p)) universe_is_denoted (denoted_append (package_block k 0 p.files) (flat_map (file_block g) (imports_of k p)) (package_denotes k 0 p.files) (blocks_denote (imports_of k p) same))
+  regions_denote k p same = denoted_append universe (package_block k p ++ flat_map (file_block g) (imports_of k p)) universe_is_denoted (denoted_append (package_block k p) (flat_map (file_block g) (imports_of k p)) (package_denotes k p) (blocks_denote (imports_of k p) same))
 
   -- what is filtered and found is among them
   filter_denotes : (test : Region → Bool) (regions : List Region) → AllDenoted regions → AllDenoted (filter test regions)
@@ -159,12 +155,12 @@ module _ (f g : ℕ → PackageNames) where
   missing_alike : (file : ℕ) (denoted : Option ℕ) (selected : Option Selected) → ((q : ℕ) → denoted ≡ Some q → f q ≡ g q) → missing_in f file denoted selected ≡ missing_in g file denoted selected
   missing_alike file None selected same = refl
   missing_alike file (Some q) None same = refl
-  missing_alike file (Some q) (Some s) same = ap (λ known. told_if (is_none (exported known s.name)) (broken_at file s.at missing_member)) (same q refl)
+  missing_alike file (Some q) (Some s) same = ap (λ known. told_if (is_none (known.exported s.name)) (broken_at file s.at missing_member)) (same q refl)
 
   members_alike : (denoted : Option ℕ) (selected : Option Selected) → ((q : ℕ) → denoted ≡ Some q → f q ≡ g q) → member_of f denoted selected ≡ member_of g denoted selected
   members_alike None selected same = refl
   members_alike (Some q) None same = refl
-  members_alike (Some q) (Some s) same = ap (λ known. option_map_or (λ d. record { id = s.id; name = s.name; home = q; object = d } ∷ []) (exported known s.name) []) (same q refl)
+  members_alike (Some q) (Some s) same = ap (λ known. option_map_or (λ object. record { id = s.id; object = object } ∷ []) (known.exported s.name) []) (same q refl)
 
   module _ (regions : List Region) (all : AllDenoted regions) where
     occurrence_alike : (o : Occurrence) → broken_occurrence f regions o ≡ broken_occurrence g regions o
@@ -183,7 +179,7 @@ module _ (f g : ℕ → PackageNames) where
 
     all_uses_alike : (occurrences : List Occurrence) → flat_map (uses_at f regions) occurrences ≡ flat_map (uses_at g regions) occurrences
     all_uses_alike [] = refl
-    all_uses_alike (o ∷ occurrences) = (λ at. (option_map_or (λ r. (o.id, object_id r.object) ∷ []) (resolution regions o) [] ++ map (λ member. (member.id, member.object)) (at_alike o at)) ++ all_uses_alike occurrences at)
+    all_uses_alike (o ∷ occurrences) = (λ at. (option_map_or (λ r. (o.id, object_id r.object) ∷ []) (resolution regions o) [] ++ map (λ (member : Member). (member.id, object_id member.object)) (at_alike o at)) ++ all_uses_alike occurrences at)
 
     file_alike : (is_main : Bool) (block : List Region) (file : ℕ) (x : FileData) (imports : List Importing) → Alike imports → broken_file f is_main regions block file x imports ≡ broken_file g is_main regions block file x imports
     file_alike is_main block file x imports same =
@@ -198,7 +194,7 @@ module _ (f g : ℕ → PackageNames) where
   pub names_alike : (k : ℕ) (p : PackageData) → ((q : ℕ) → Contains p.imports q → f q ≡ g q) → broken_in_files f k p ≡ broken_in_files g k p
   names_alike k p same =
       let all : AllAlike (imports_of k p) = alike_from k 0 p.files p.imports same in
-      let block = package_block k 0 p.files in
+      let block = package_block k p in
       ap (λ rest. broken_block (is_main_name p.name) block ++ rest)
       (ap (λ regions. broken_files f (is_main_name p.name) regions block 0 p.files (imports_of k p)) (regions_alike k p all)
       ∙ files_alike (regions_of g k p) (regions_denote k p all) (is_main_name p.name) block 0 p.files (imports_of k p) all)
@@ -209,8 +205,10 @@ module _ (f g : ℕ → PackageNames) where
       ap (λ regions. flat_map (uses_at f regions) (occurrences_from 0 p.files)) (regions_alike k p all)
       ∙ all_uses_alike (regions_of g k p) (regions_denote k p all) (occurrences_from 0 p.files)
 
-  pub objects_alike : (k : ℕ) (p : PackageData) → ((q : ℕ) → Contains p.imports q → f q ≡ g q) → objects_of f k p ≡ objects_of g k p
+  pub objects_alike : (k : ℕ) (p : PackageData) → ((q : ℕ) → Contains p.imports q → f q ≡ g q) → objects_in f k p ≡ objects_in g k p
   objects_alike k p same =
       let all : AllAlike (imports_of k p) = alike_from k 0 p.files p.imports same in
-      ap (λ regions. region_entries regions ++ map (λ member. (member.object, constant_object member.home member.name member.object.0)) (flat_map (members_at f regions) (occurrences_from 0 p.files))) (regions_alike k p all)
-      ∙ ap (λ members. region_entries (regions_of g k p) ++ map (λ member. (member.object, constant_object member.home member.name member.object.0)) members) (all_members_alike (regions_of g k p) (regions_denote k p all) (occurrences_from 0 p.files))
+      let members : members_of f k p ≡ members_of g k p =
+      ap (λ regions. flat_map (members_at f regions) (occurrences_from 0 p.files)) (regions_alike k p all)
+      ∙ all_members_alike (regions_of g k p) (regions_denote k p all) (occurrences_from 0 p.files) in
+      (λ at. region_entries (universe ++ blocks_alike (imports_of k p) all at) ++ (map (λ (member : Member). (object_id member.object, member.object)) (members at) ++ region_entries (package_block k p)))

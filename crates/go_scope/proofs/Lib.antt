@@ -1,10 +1,11 @@
+pub mod BeforeLemmas
 pub mod CheckedLemmas
 pub mod HeldLemmas
 pub mod ImportLemmas
+pub mod InnerLemmas
 pub mod KnownLemmas
 pub mod ListLemmas
 pub mod MarkLemmas
-pub mod OccurrenceLemmas
 pub mod ResolutionLemmas
 pub mod CollectLemmas
 pub mod LawLemmas

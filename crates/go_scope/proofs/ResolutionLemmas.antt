@@ -17,9 +17,10 @@ use Rattle.go_module.specs.Names.Universe.{Predeclared, predeclared, universe, u
 use Rattle.go_module.specs.Modules.Heads.{import_specs}
 use Rattle.go_module.specs.Modules.Module.{FileData, PackageData}
 use Rattle.go_module.specs.Names.Blocks.{holds_file, lies_inside}
-use Rattle.go_module.specs.Names.Constants.{name_text, package_block, constants_in_file, constants_in_spec, const_specs}
+use Rattle.go_module.specs.Names.Declarations.{declarations_of, name_text}
 use Rattle.go_module.specs.Names.Exported.{is_blank_identifier}
-use Rattle.go_module.specs.Names.Imports.{PackageNames, Importing, file_block, imports_in, imports_from, imports_of, import_parts, import_regions, import_region, named_regions, dot_region, exports_of, is_dot}
+use Rattle.go_module.specs.Names.Imports.{PackageNames, Importing, file_block, imports_in, imports_from, imports_of, import_parts, import_regions, import_region, named_regions, dot_region, is_dot}
+use Rattle.go_module.specs.Names.PackageBlock.{binds, declared_region, package_block}
 use Rattle.go_module.specs.Names.Regions.{regions_of, has_name, holds, lies_inside_others, resolution, is_held}
 use Rattle.go_scope.specs.Held.{innermost, is_declared, only_of}
 
@@ -35,10 +36,6 @@ of_both b (x ∷ xs) ys front back = (front.0, of_both b xs ys front.1 back)
 of_map : {X : Type 0} (b : Block) (f : X → Region) → ((x : X) → (f x).block ≡ b) → (xs : List X) → OfBlock b (map f xs)
 of_map b f each [] = tt
 of_map b f each (x ∷ xs) = (each x, of_map b f each xs)
-
-of_flat_map : {X : Type 0} (b : Block) (f : X → List Region) → ((x : X) → OfBlock b (f x)) → (xs : List X) → OfBlock b (flat_map f xs)
-of_flat_map b f each [] = tt
-of_flat_map b f each (x ∷ xs) = of_both b (f x) (flat_map f xs) (each x) (of_flat_map b f each xs)
 
 of_kept : (b : Block) (r : Region) (rs : List Region) (kept : Bool) → r.block ≡ b → OfBlock b rs → OfBlock b (cond kept (r ∷ rs) rs)
 of_kept b r rs true here rest = (here, rest)
@@ -62,17 +59,13 @@ universe_own : OfBlock Universe universe
 unfolding universe
 universe_own = universe_from_own 0 predeclared
 
-package_own : (k file : ℕ) (files : List FileData) → OfBlock Package (package_block k file files)
-package_own k file [] = tt
-package_own k file (f ∷ files) =
-    of_both Package (constants_in_file k file f.tree) (package_block k (file + 1) files)
-    (of_flat_map Package (constants_in_spec k file) (λ spec. of_map Package _ (λ name. refl) _) (const_specs f.tree))
-    (package_own k (file + 1) files)
+package_own : (k : ℕ) (p : PackageData) → OfBlock Package (package_block k p)
+package_own k p = of_map Package (declared_region k) (λ d. refl) (filter binds (declarations_of p))
 
 named_own : (known : PackageNames) (i : Importing) (name string : Tree) → OfBlock (File i.file) (named_regions known i name string)
 named_own known i name string =
-    of_if (File i.file) (is_dot name) (map (dot_region i string) (exports_of known)) _
-    (of_map (File i.file) (dot_region i string) (λ entry. refl) (exports_of known))
+    of_if (File i.file) (is_dot name) (map (dot_region i string) known.exports) _
+    (of_map (File i.file) (dot_region i string) (λ object. refl) known.exports)
     (of_if (File i.file) (is_blank_identifier (name_text name)) [] (import_region i (name_text name) name ∷ []) tt (refl, tt))
 
 import_own : (known : PackageNames) (i : Importing) (parts : Trees) → OfBlock (File i.file) (import_parts known i parts)
@@ -175,15 +168,15 @@ file_there known o k n (suc i) (f ∷ files) packages imports at found =
 
 -- all regions that hold an occurrence, block by block
 
-all_held : (known : ℕ → PackageNames) (k : ℕ) (p : PackageData) (o : Occurrence) (imports : List Importing) → slice_get (imports_of k p) o.file ≡ Some imports → filter (holds o) (regions_of known k p) ≡ filter (has_name o.name) universe ++ (filter (has_name o.name) (package_block k 0 p.files) ++ filter (has_name o.name) (file_block known imports))
+all_held : (known : ℕ → PackageNames) (k : ℕ) (p : PackageData) (o : Occurrence) (imports : List Importing) → slice_get (imports_of k p) o.file ≡ Some imports → filter (holds o) (regions_of known k p) ≡ filter (has_name o.name) universe ++ (filter (has_name o.name) (package_block k p) ++ filter (has_name o.name) (file_block known imports))
 all_held known k p o imports found =
-    let block = package_block k 0 p.files in
+    let block = package_block k p in
     let rest = flat_map (file_block known) (imports_of k p) in
     let there : IsThere known o (imports_of k p) imports = file_there known o k 0 o.file p.files p.imports imports (omega arith) found in
     filter-append (holds o) universe (block ++ rest)
     ∙ ap (λ xs. xs ++ filter (holds o) (block ++ rest)) (held_in o Universe universe refl universe_own)
     ∙ ap (λ xs. filter (has_name o.name) universe ++ xs) (filter-append (holds o) block rest
-    ∙ ap (λ xs. xs ++ filter (holds o) rest) (held_in o Package block refl (package_own k 0 p.files))
+    ∙ ap (λ xs. xs ++ filter (holds o) rest) (held_in o Package block refl (package_own k p))
     ∙ ap (λ xs. filter (has_name o.name) block ++ xs) there.1)
 
 -- of regions of the three blocks, that which lies inside all others
@@ -301,17 +294,17 @@ any_is p (x ∷ xs) = any_by (p x) x (list_any p xs) (filter p xs) (any_is p xs)
 innermost_chosen : (u p f : List Region) (name : List ℕ) → innermost u p f name ≡ chosen (filter (has_name name) u) (filter (has_name name) p) (filter (has_name name) f)
 innermost_chosen u p f name = rw (any_is (has_name name) f, any_is (has_name name) p, only_is f name, only_is p name, only_is u name) refl
 
-pub innermost_is : (known : ℕ → PackageNames) (k : ℕ) (p : PackageData) (o : Occurrence) (imports : List Importing) → slice_get (imports_of k p) o.file ≡ Some imports → innermost universe (package_block k 0 p.files) (file_block known imports) o.name ≡ resolution (regions_of known k p) o
+pub innermost_is : (known : ℕ → PackageNames) (k : ℕ) (p : PackageData) (o : Occurrence) (imports : List Importing) → slice_get (imports_of k p) o.file ≡ Some imports → innermost universe (package_block k p) (file_block known imports) o.name ≡ resolution (regions_of known k p) o
 innermost_is known k p o imports found =
     let test = has_name o.name in
-    let block = package_block k 0 p.files in
+    let block = package_block k p in
     let own = file_block known imports in
     let there : IsThere known o (imports_of k p) imports = file_there known o k 0 o.file p.files p.imports imports (omega arith) found in
     innermost_chosen universe block own o.name
     ∙ sym (choose (filter test universe) (filter test block) (filter test own))
     ∙ sym (find_innermost o.file (filter test universe) (filter test block) (filter test own)
     (of_filter Universe test universe universe_own)
-    (of_filter Package test block (package_own k 0 p.files))
+    (of_filter Package test block (package_own k p))
     (of_filter (File o.file) test own there.0))
     ∙ ap (λ regions. find (lies_inside_others regions) regions) (sym (all_held known k p o imports found))
 
@@ -329,10 +322,10 @@ turned false true false = refl
 turned false false true = refl
 turned false false false = refl
 
-pub declared_is : (known : ℕ → PackageNames) (k : ℕ) (p : PackageData) (o : Occurrence) (imports : List Importing) → slice_get (imports_of k p) o.file ≡ Some imports → is_declared universe (package_block k 0 p.files) (file_block known imports) o.name ≡ is_held (regions_of known k p) o
+pub declared_is : (known : ℕ → PackageNames) (k : ℕ) (p : PackageData) (o : Occurrence) (imports : List Importing) → slice_get (imports_of k p) o.file ≡ Some imports → is_declared universe (package_block k p) (file_block known imports) o.name ≡ is_held (regions_of known k p) o
 declared_is known k p o imports found =
     let test = has_name o.name in
-    let block = package_block k 0 p.files in
+    let block = package_block k p in
     let own = file_block known imports in
     let u = filter test universe in
     let b = filter test block in

@@ -1,14 +1,17 @@
 -- The numbers of the nodes of a file rise in source order, so each identifier has a number of its own.
-use Rattle.std.proofs.Common.{◌≡◌, ℕ, suc, ◌+◌, ◌<◌, ◌≤◌, Option, Some, None, List, [], ◌∷◌, ◌++◌, refl, sym, ap, subst, arith}
+use Rattle.std.proofs.Common.{◌≡◌, ℕ, suc, ◌+◌, ◌<◌, ◌≤◌, Option, Some, None, List, [], ◌∷◌, ◌++◌, map, sym, subst, arith}
 use Rattle.std.specs.List.{flat_map}
 use Rattle.std.proofs.lemmas.Grind.{flat_map-append}
-use Rattle.go_tree.specs.declared.node_kind.NodeKind.TheVariants.{Name, SelectorExpr, ConstDecl, ConstGroup}
+use Rattle.go_tree.specs.declared.node_kind.NodeKind.{NodeKind}
+use Rattle.go_tree.specs.declared.node_kind.NodeKind.TheVariants.{Name, SelectorExpr, ConstDecl, ConstGroup, ConstCopy}
 use Rattle.go_tree.specs.Tree.{Tree, branch, Trees, no_trees, more_trees, list_of, node_count, node_count_of_all}
 use Rattle.go_module.specs.Numbers.{numbered, all_numbered}
 use Rattle.go_module.specs.declared.block.Occurrence.{Occurrence}
 use Rattle.go_module.specs.declared.block.Selected.{Selected}
-use Rattle.go_module.specs.Names.Constants.{const_specs_in}
-use Rattle.go_module.specs.Names.Occurrences.{with_selected, occurrences_in, occurrences_among, occurrences_in_spec, occurrences_in_file}
+use Rattle.go_module.specs.Names.Declarations.{behind_names, const_spec, specs_in, types_behind, values_behind}
+use Rattle.go_module.specs.Names.Inner.{inner_by, inner_of}
+use Rattle.go_module.specs.Names.Occurrences.{found_in, with_selected, names_in, names_of_each, names_in_parts, occurrences_in_file}
+use Rattle.go_scope.proofs.InnerLemmas.{holds_inner}
 
 -- the last number of an occurrence: that of the name behind its `.`, if one stands there
 abbrev pub last_of : ℕ → Option Selected → ℕ
@@ -37,58 +40,136 @@ pub rises_append : (low mid high : ℕ) (xs ys : List Occurrence) → Rises low 
 rises_append low mid high [] ys r s = rises_lower mid low high ys r s
 rises_append low mid high (o ∷ xs) ys r s = (r.0, r.1, rises_append (suc (last_of o.id.0 o.selected)) mid high xs ys r.2 s)
 
--- an identifier before a `.`
-rises_selected : (file first : ℕ) (operand name : Tree) → Rises first (first + node_count operand) (occurrences_in file (numbered first operand)) → Rises first (first + (1 + (node_count operand + (node_count name + 0)))) (with_selected (numbered first operand) (numbered (first + node_count operand) name) (occurrences_in file (numbered first operand)))
-rises_selected file first (branch id from to Name text parts) (branch id2 from2 to2 kind2 text2 parts2) r = (omega arith, omega arith, omega arith)
-rises_selected file first (branch id from to kind text parts) name r = rises_higher first (first + node_count (branch id from to kind text parts)) (first + (1 + (node_count (branch id from to kind text parts) + (node_count name + 0)))) (occurrences_in file (numbered first (branch id from to kind text parts))) (omega arith) r
+-- the numbers are none, or the first is below the bound
+rises_within : (low high : ℕ) (xs : List Occurrence) → Rises low high xs → low ≤ high
+rises_within low high [] r = r
+rises_within low high (o ∷ xs) r = within_by o.selected r.1 (rises_within (suc (last_of o.id.0 o.selected)) high xs r.2) where
+  within_by : (selected : Option Selected) → IsBehind o.id.0 selected → suc (last_of o.id.0 selected) ≤ high → low ≤ high
+  within_by None behind rest = let first = r.0 in omega (arith, first, rest)
+  within_by (Some s) behind rest = let first = r.0 in omega (arith, first, behind, rest)
 
-mutual
-  tree_rises : (file first : ℕ) (t : Tree) → Rises first (first + node_count t) (occurrences_in file (numbered first t))
-  tree_rises file first (branch id from to Name text parts) = (omega arith, tt, omega arith)
-  tree_rises file first (branch id from to SelectorExpr text (more_trees operand (more_trees name no_trees))) = rises_selected file first operand name (tree_rises file first operand)
-  tree_rises file first (branch id from to kind text parts) = rises_higher first (first + node_count_of_all parts) (first + (1 + node_count_of_all parts)) (occurrences_among file (all_numbered first parts)) (omega arith) (trees_rise file first parts)
+-- what occurs in parts, each beside what occurs in it, rises from part to part
+record RisesTo (low : ℕ) (xs : List Occurrence) (Rest : ℕ → Type 0) : Type 0 where
+  mid : ℕ
+  here : Rises low mid xs
+  rest : Rest mid
 
-  trees_rise : (file first : ℕ) (ts : Trees) → Rises first (first + node_count_of_all ts) (occurrences_among file (all_numbered first ts))
-  trees_rise file first no_trees = omega arith
-  trees_rise file first (more_trees t ts) =
-      let rest = trees_rise file (first + node_count t) ts in
-      let same : (first + node_count t) + node_count_of_all ts ≡ first + (node_count t + node_count_of_all ts) = omega arith in
-      rises_append first (first + node_count t) (first + (node_count t + node_count_of_all ts)) (occurrences_in file (numbered first t)) (occurrences_among file (all_numbered (first + node_count t) ts)) (tree_rises file first t) (subst (λ (n : ℕ). Rises (first + node_count t) n (occurrences_among file (all_numbered (first + node_count t) ts))) same rest)
+abbrev PartsRise : ℕ → ℕ → List (Tree × List Occurrence) → Type 0
+PartsRise high low [] = low ≤ high
+PartsRise high low (part ∷ parts) = RisesTo low part.1 (λ mid. PartsRise high mid parts)
 
--- occurrences in a list of nodes
-among_list : (file : ℕ) (ts : Trees) → flat_map (occurrences_in file) (list_of ts) ≡ occurrences_among file ts
-among_list file no_trees = refl
-among_list file (more_trees t ts) = ap (λ rest. occurrences_in file t ++ rest) (among_list file ts)
+parts_lower : (high low lower : ℕ) (parts : List (Tree × List Occurrence)) → lower ≤ low → PartsRise high low parts → PartsRise high lower parts
+parts_lower high low lower [] le has = omega (arith, le, has)
+parts_lower high low lower (part ∷ parts) le has = record { mid = has.mid; here = rises_lower low lower has.mid part.1 le has.here; rest = has.rest }
 
-spec_rises : (file first : ℕ) (spec : Tree) → Rises first (first + node_count spec) (occurrences_in_spec file (numbered first spec))
+parts_within : (high low : ℕ) (parts : List (Tree × List Occurrence)) → PartsRise high low parts → low ≤ high
+parts_within high low [] has = has
+parts_within high low (part ∷ parts) has =
+    let first = rises_within low has.mid part.1 has.here in
+    let rest = parts_within high has.mid parts has.rest in
+    omega (arith, first, rest)
+
+parts_later : (high low : ℕ) (part : Tree × List Occurrence) (parts : List (Tree × List Occurrence)) → PartsRise high low (part ∷ parts) → PartsRise high low parts
+parts_later high low part parts has = parts_lower high has.mid low parts (rises_within low has.mid part.1 has.here) has.rest
+
+parts_keep : (high low : ℕ) (part : Tree × List Occurrence) (xs ys : List (Tree × List Occurrence)) → ((next : ℕ) → PartsRise high next xs → PartsRise high next ys) → PartsRise high low (part ∷ xs) → PartsRise high low (part ∷ ys)
+parts_keep high low part xs ys go_on has = record { mid = has.mid; here = has.here; rest = go_on has.mid has.rest }
+
+all_rise : (high low : ℕ) (parts : List (Tree × List Occurrence)) → PartsRise high low parts → Rises low high (flat_map (λ part. part.1) parts)
+all_rise high low [] has = has
+all_rise high low (part ∷ parts) has = rises_append low has.mid high part.1 (flat_map (λ part. part.1) parts) has.here (all_rise high has.mid parts has.rest)
+
+found_rises : (high low : ℕ) (kind : NodeKind) (parts : List (Tree × List Occurrence)) → PartsRise high low parts → Rises low high (found_in kind parts)
+found_rises high low kind parts has =
+    let inner = holds_inner (λ (part : Tree × List Occurrence). part.0) (PartsRise high) (parts_within high) (parts_later high) (parts_keep high) in
+    all_rise high low (inner_by (λ part. part.0) (inner_of kind) parts) (inner (inner_of kind) low parts has)
+
+module _ (file : ℕ) (told_at : Option ℕ) where
+  -- an identifier before a `.`
+  rises_selected : (first : ℕ) (operand name : Tree) → Rises first (first + node_count operand) (names_in file told_at (numbered first operand)) → Rises first (first + (1 + (node_count operand + (node_count name + 0)))) (with_selected file told_at (numbered first operand) (numbered (first + node_count operand) name) (names_in file told_at (numbered first operand)))
+  rises_selected first (branch id from to Name text parts) (branch id2 from2 to2 kind2 text2 parts2) r = (omega arith, omega arith, omega arith)
+  rises_selected first (branch id from to kind text parts) name r = rises_higher first (first + node_count (branch id from to kind text parts)) (first + (1 + (node_count (branch id from to kind text parts) + (node_count name + 0)))) (names_in file told_at (numbered first (branch id from to kind text parts))) (omega arith) r
+
+  mutual
+    tree_rises : (first : ℕ) (t : Tree) → Rises first (first + node_count t) (names_in file told_at (numbered first t))
+    tree_rises first (branch id from to Name text parts) = (omega arith, tt, omega arith)
+    tree_rises first (branch id from to SelectorExpr text (more_trees operand (more_trees name no_trees))) = rises_selected first operand name (tree_rises first operand)
+    tree_rises first (branch id from to kind text parts) =
+        found_rises (first + (1 + node_count_of_all parts)) first kind (names_of_each file told_at (all_numbered first parts)) (parts_rise first (first + (1 + node_count_of_all parts)) parts (omega arith))
+
+    parts_rise : (first high : ℕ) (ts : Trees) → first + node_count_of_all ts ≤ high → PartsRise high first (names_of_each file told_at (all_numbered first ts))
+    parts_rise first high no_trees le = omega (arith, le)
+    parts_rise first high (more_trees t ts) le = record {
+      mid = first + node_count t;
+      here = tree_rises first t;
+      rest = parts_rise (first + node_count t) high ts (omega (arith, le));
+    }
+
+  -- a list of nodes
+  list_rises : (first : ℕ) (ts : Trees) → Rises first (first + node_count_of_all ts) (flat_map (names_in file told_at) (list_of (all_numbered first ts)))
+  list_rises first no_trees = omega arith
+  list_rises first (more_trees t ts) =
+      let next = first + node_count t in
+      let same : next + node_count_of_all ts ≡ first + (node_count t + node_count_of_all ts) = omega arith in
+      let rest = list_of (all_numbered next ts) in
+      rises_append first next (first + (node_count t + node_count_of_all ts)) (names_in file told_at (numbered first t)) (flat_map (names_in file told_at) rest) (tree_rises first t)
+      (subst (λ (n : ℕ). Rises next n (flat_map (names_in file told_at) rest)) same (list_rises next ts))
+
+  -- what stands behind the names of a spec: a type, where one stands, and a list
+  abbrev occurs_behind : List Tree → List Occurrence
+  occurs_behind parts = flat_map (names_in file told_at) (types_behind parts ++ values_behind parts)
+
+  behind_rises : (first : ℕ) (ts : Trees) → Rises first (first + node_count_of_all ts) (occurs_behind (list_of (all_numbered first ts)))
+  behind_rises first no_trees = omega arith
+  behind_rises first (more_trees (branch id from to kind text parts) no_trees) =
+      rises_higher first (first + node_count_of_all parts) (first + ((1 + node_count_of_all parts) + 0)) (flat_map (names_in file told_at) (list_of (all_numbered first parts))) (omega arith) (list_rises first parts)
+  behind_rises first (more_trees type (more_trees (branch id from to kind text parts) no_trees)) =
+      let next = first + node_count type in
+      let high = first + (node_count type + ((1 + node_count_of_all parts) + 0)) in
+      let values = flat_map (names_in file told_at) (list_of (all_numbered next parts)) in
+      rises_append first next high (names_in file told_at (numbered first type)) values (tree_rises first type)
+      (rises_higher next (next + node_count_of_all parts) high values (omega arith) (list_rises next parts))
+  behind_rises first (more_trees a (more_trees b (more_trees c ts))) = omega arith
+
+  -- or the copy of these
+  names_rise : (first : ℕ) (ts : Trees) → Rises first (first + node_count_of_all ts) (occurs_behind (behind_names (list_of (all_numbered first ts))))
+  names_rise first no_trees = omega arith
+  names_rise first (more_trees (branch id from to ConstCopy text parts) no_trees) =
+      rises_higher first (first + node_count_of_all parts) (first + ((1 + node_count_of_all parts) + 0)) (occurs_behind (list_of (all_numbered first parts))) (omega arith) (behind_rises first parts)
+  names_rise first (more_trees (branch id from to ConstCopy text parts) (more_trees b ts)) = behind_rises first (more_trees (branch id from to ConstCopy text parts) (more_trees b ts))
+  names_rise first (more_trees (branch id from to kind text parts) ts) = behind_rises first (more_trees (branch id from to kind text parts) ts)
+
+spec_rises : (file first : ℕ) (spec : Tree) → Rises first (first + node_count spec) (names_in_parts (const_spec file (numbered first spec)))
 spec_rises file first (branch id from to kind text no_trees) = omega arith
 spec_rises file first (branch id from to kind text (more_trees names rest)) =
     let behind = first + node_count names in
-    let values : Rises behind (behind + node_count_of_all rest) (flat_map (occurrences_in file) (list_of (all_numbered behind rest))) = subst (Rises behind (behind + node_count_of_all rest)) (sym (among_list file (all_numbered behind rest))) (trees_rise file behind rest) in
-    rises_lower behind first (first + (1 + (node_count names + node_count_of_all rest))) (flat_map (occurrences_in file) (list_of (all_numbered behind rest))) (omega arith)
-    (rises_higher behind (behind + node_count_of_all rest) (first + (1 + (node_count names + node_count_of_all rest))) (flat_map (occurrences_in file) (list_of (all_numbered behind rest))) (omega arith) values)
+    let spec = const_spec file (numbered first (branch id from to kind text (more_trees names rest))) in
+    rises_lower behind first (first + (1 + (node_count names + node_count_of_all rest))) (names_in_parts spec) (omega arith)
+    (rises_higher behind (behind + node_count_of_all rest) (first + (1 + (node_count names + node_count_of_all rest))) (names_in_parts spec) (omega arith) (names_rise file spec.told_at behind rest))
 
-specs_rise : (file first : ℕ) (specs : Trees) → Rises first (first + node_count_of_all specs) (flat_map (occurrences_in_spec file) (list_of (all_numbered first specs)))
+specs_rise : (file first : ℕ) (specs : Trees) → Rises first (first + node_count_of_all specs) (flat_map names_in_parts (map (const_spec file) (list_of (all_numbered first specs))))
 specs_rise file first no_trees = omega arith
 specs_rise file first (more_trees spec specs) =
     let next = first + node_count spec in
     let same : next + node_count_of_all specs ≡ first + (node_count spec + node_count_of_all specs) = omega arith in
-    rises_append first next (first + (node_count spec + node_count_of_all specs)) (occurrences_in_spec file (numbered first spec)) (flat_map (occurrences_in_spec file) (list_of (all_numbered next specs))) (spec_rises file first spec) (subst (λ (n : ℕ). Rises next n (flat_map (occurrences_in_spec file) (list_of (all_numbered next specs)))) same (specs_rise file next specs))
+    let rest = map (const_spec file) (list_of (all_numbered next specs)) in
+    rises_append first next (first + (node_count spec + node_count_of_all specs)) (names_in_parts (const_spec file (numbered first spec))) (flat_map names_in_parts rest) (spec_rises file first spec)
+    (subst (λ (n : ℕ). Rises next n (flat_map names_in_parts rest)) same (specs_rise file next specs))
 
-declaration_rises : (file first : ℕ) (d : Tree) → Rises first (first + node_count d) (flat_map (occurrences_in_spec file) (const_specs_in (numbered first d)))
-declaration_rises file first (branch id from to ConstDecl text parts) = rises_higher first (first + node_count_of_all parts) (first + (1 + node_count_of_all parts)) (flat_map (occurrences_in_spec file) (list_of (all_numbered first parts))) (omega arith) (specs_rise file first parts)
-declaration_rises file first (branch id from to ConstGroup text parts) = rises_higher first (first + node_count_of_all parts) (first + (1 + node_count_of_all parts)) (flat_map (occurrences_in_spec file) (list_of (all_numbered first parts))) (omega arith) (specs_rise file first parts)
+declaration_rises : (file first : ℕ) (d : Tree) → Rises first (first + node_count d) (flat_map names_in_parts (specs_in file (numbered first d)))
+declaration_rises file first (branch id from to ConstDecl text parts) = rises_higher first (first + node_count_of_all parts) (first + (1 + node_count_of_all parts)) (flat_map names_in_parts (map (const_spec file) (list_of (all_numbered first parts)))) (omega arith) (specs_rise file first parts)
+declaration_rises file first (branch id from to ConstGroup text parts) = rises_higher first (first + node_count_of_all parts) (first + (1 + node_count_of_all parts)) (flat_map names_in_parts (map (const_spec file) (list_of (all_numbered first parts)))) (omega arith) (specs_rise file first parts)
 declaration_rises file first (branch id from to kind text parts) = omega arith
 
-declarations_rise : (file first : ℕ) (ds : Trees) → Rises first (first + node_count_of_all ds) (flat_map (occurrences_in_spec file) (flat_map const_specs_in (list_of (all_numbered first ds))))
+declarations_rise : (file first : ℕ) (ds : Trees) → Rises first (first + node_count_of_all ds) (flat_map names_in_parts (flat_map (specs_in file) (list_of (all_numbered first ds))))
 declarations_rise file first no_trees = omega arith
 declarations_rise file first (more_trees d ds) =
     let next = first + node_count d in
     let same : next + node_count_of_all ds ≡ first + (node_count d + node_count_of_all ds) = omega arith in
-    let rest = flat_map const_specs_in (list_of (all_numbered next ds)) in
-    let both = rises_append first next (first + (node_count d + node_count_of_all ds)) (flat_map (occurrences_in_spec file) (const_specs_in (numbered first d))) (flat_map (occurrences_in_spec file) rest) (declaration_rises file first d) (subst (λ (n : ℕ). Rises next n (flat_map (occurrences_in_spec file) rest)) same (declarations_rise file next ds)) in
-    subst (Rises first (first + (node_count d + node_count_of_all ds))) (sym (flat_map-append (occurrences_in_spec file) (const_specs_in (numbered first d)) rest)) both
+    let rest = flat_map (specs_in file) (list_of (all_numbered next ds)) in
+    let both = rises_append first next (first + (node_count d + node_count_of_all ds)) (flat_map names_in_parts (specs_in file (numbered first d))) (flat_map names_in_parts rest) (declaration_rises file first d) (subst (λ (n : ℕ). Rises next n (flat_map names_in_parts rest)) same (declarations_rise file next ds)) in
+    subst (Rises first (first + (node_count d + node_count_of_all ds))) (sym (flat_map-append names_in_parts (specs_in file (numbered first d)) rest)) both
 
 -- the occurrences of a file whose nodes are numbered from the first on
 pub file_rises : (file first : ℕ) (t : Tree) → Rises first (first + node_count t) (occurrences_in_file file (numbered first t))
-file_rises file first (branch id from to kind text parts) = rises_higher first (first + node_count_of_all parts) (first + (1 + node_count_of_all parts)) (flat_map (occurrences_in_spec file) (flat_map const_specs_in (list_of (all_numbered first parts)))) (omega arith) (declarations_rise file first parts)
+file_rises file first (branch id from to kind text parts) = rises_higher first (first + node_count_of_all parts) (first + (1 + node_count_of_all parts)) (flat_map names_in_parts (flat_map (specs_in file) (list_of (all_numbered first parts)))) (omega arith) (declarations_rise file first parts)

@@ -1,9 +1,6 @@
 -- The blocks of files, as the code has them.
-use Rattle.std.specs.Prelude.{ℕ, List, map}
+use Rattle.std.specs.Prelude.{ℕ, List}
 use Rattle.std.specs.List.{flat_map}
-use Rattle.std.specs.Borrow.{Bor}
-use Rattle.go_tree.specs.declared.node.Node.{Node}
-use Rattle.go_tree.specs.Tree.{Tree, tree_of}
 use Rattle.go_module.specs.declared.block.Import.{Import}
 use Rattle.go_module.specs.declared.block.Region.{Region}
 use Rattle.go_module.specs.Names.Imports.{PackageNames, Importing, file_block, import_of}
@@ -20,6 +17,3 @@ block_of b = record { regions = b.regions.items; imports = b.imports.items }
 -- the block that these imports make
 abbrev pub block_data : (ℕ → PackageNames) → List Importing → BlockData
 block_data known imports = record { regions = file_block known imports; imports = flat_map import_of imports }
-
-abbrev pub trees_at : List (Bor Node) → List Tree
-trees_at nodes = map (λ node. tree_of node.now) nodes

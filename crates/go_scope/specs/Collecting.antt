@@ -1,21 +1,25 @@
--- What is asked of what packages are known by, and what there is in the place of scopes.
-use Rattle.std.specs.Prelude.{◌≡◌, ◌≢◌, ℕ, List, [], Some, Contains, slice_get}
+-- What is asked of the scopes of the packages that stand before one, and what there is in the place of scopes.
+use Rattle.std.specs.Prelude.{◌≡◌, ◌≢◌, ◌<◌, ℕ, List, [], Some, Contains, length, slice_get}
 use Rattle.go_base.specs.declared.rule.Broken.{Broken as BrokenRule}
-use Rattle.go_module.specs.declared.module.Package.{Package}
+use Rattle.go_module.specs.declared.scopes.Scopes.{Scopes}
 use Rattle.go_module.specs.Order.{IsListOf}
-use Rattle.go_module.specs.Modules.Module.{PackageData, ModuleData, package_view}
+use Rattle.go_module.specs.Modules.Module.{PackageData, ModuleData}
 use Rattle.go_module.specs.Names.Rules.BrokenNames.{broken_names}
 use Rattle.go_module.specs.Names.Imports.{known_in}
-use Rattle.go_scope.specs.declared.known.KnownPackage.{KnownPackage}
+use Rattle.go_module.specs.Names.Tables.{IsScopesOf}
 use Rattle.go_scope.specs.declared.scope_fault.ScopeFault.{ScopeFault}
 use Rattle.go_scope.specs.declared.scope_fault.ScopeFault.TheVariants.{Broken, NoMemory}
-use Rattle.go_scope.specs.Known.{known_by}
 
--- the package stands at that place of the module, and each that it imports is known by its name and the names
--- of its block
-pub record StandsIn (m : ModuleData) (k : ℕ) (own : Package) (known : List KnownPackage) : Type 0 where
-  pub at : slice_get m.packages k ≡ Some (package_view own)
-  pub imported : (q : ℕ) → Contains own.imports.items q → known_by known q ≡ known_in m q
+-- the scopes of the package at a place of the module stand at that place
+pub record IsCollected (m : ModuleData) (q : ℕ) (before : List Scopes) : Type 0 where
+  pub scopes : Scopes
+  pub at : slice_get before q ≡ Some scopes
+  pub is : IsScopesOf m q scopes
+
+-- the module has a package at that place, and those that it imports have their scopes
+pub record AreBefore (m : ModuleData) (k : ℕ) (before : List Scopes) : Type 0 where
+  pub within : k < length m.packages
+  pub imported : (p : PackageData) → slice_get m.packages k ≡ Some p → (q : ℕ) → Contains p.imports q → IsCollected m q before
 
 -- all that the names of the package break, which is something
 pub record IsBrokenNames (m : ModuleData) (k : ℕ) (list : List BrokenRule) : Type 0 where

@@ -1,13 +1,13 @@
 -- Declarations and scope (Go specification).
 -- Says once more, as a relation, which region an occurrence denotes, and that it is the one of `resolution`;
--- and what stands in modules that are loaded: the scopes of a package answer exactly so for each identifier in a
--- constant spec; each import spec has a package that it names.
+-- and what stands in modules that are loaded: the scopes of a package answer exactly so for each identifier behind the
+-- names of a spec; each import spec has a package that it names.
 use Rattle.std.specs.Prelude.{◌≡◌, ◌↔◌, ℕ, true, Some, List, [], ◌∷◌, ◌++◌, filter, slice_get, Contains}
 use Rattle.std.specs.List.{flat_map}
 use Rattle.indexmap.specs.IndexMap.{get}
 use Rattle.go_tree.specs.declared.node.NodeId.{NodeId}
 use Rattle.go_tree.specs.Tree.{Tree, text_of}
-use Rattle.go_module.specs.declared.object.ObjId.{ObjId}
+use Rattle.go_base.specs.declared.ids.ObjId.{ObjId}
 use Rattle.go_module.specs.declared.scopes.Scopes.{Scopes}
 use Rattle.go_module.specs.Modules.Texts.{as_text}
 use Rattle.go_module.specs.Modules.Heads.{IsImportPath, import_specs, import_string}
@@ -35,7 +35,8 @@ pub record IsInnermost (regions : List Region) (o : Occurrence) (r : Region) : T
 abbrev pub DenotesInnermost : Type 0
 DenotesInnermost = (regions : List Region) (o : Occurrence) (r : Region) → (resolution regions o ≡ Some r) ↔ IsInnermost regions o r
 
--- each identifier that occurs in the constant specs of a package of a module has one use, and the table of uses has it
+-- each identifier that occurs behind the names of the specs of a package of a module has one use, and the table of uses
+-- has it
 abbrev pub ResolvesExactly : Type 0
 ResolvesExactly =
     (m : ModuleData) (k : ℕ) (p : PackageData) (scopes : Scopes)

@@ -7,13 +7,13 @@ use Rattle.go_tree.specs.declared.node.NodeId.{NodeId}
 use Rattle.go_module.specs.declared.block.Import.{Import}
 use Rattle.go_module.specs.declared.block.Occurrence.{Occurrence}
 use Rattle.go_module.specs.declared.block.Region.{Region}
-use Rattle.go_module.specs.declared.object.ObjId.{ObjId}
+use Rattle.go_base.specs.declared.ids.ObjId.{ObjId}
 use Rattle.go_module.specs.declared.object.Object.{Object}
 use Rattle.go_module.specs.Broken.{broken_at, told_if}
 use Rattle.go_module.specs.Modules.Module.{FileData}
 use Rattle.go_module.specs.Scopes.{same_node}
 use Rattle.go_module.specs.Names.Rules.BlockRules.{repeated, reserved, missing_main_at}
-use Rattle.go_module.specs.Names.Constants.{object_id, constant_object}
+use Rattle.go_module.specs.Names.PackageBlock.{object_id}
 use Rattle.go_module.specs.Names.Exported.{is_blank_identifier}
 use Rattle.go_module.specs.Names.Imports.{PackageNames}
 use Rattle.go_module.specs.Names.Rules.ImportRules.{unused_import, is_repeated_by, conflicting}
@@ -70,7 +70,7 @@ abbrev pub members_by : (ℕ → PackageNames) → Resolved → List Member
 members_by known r = member_of known (package_by r) r.occurrence.selected
 
 abbrev pub member_pair : Member → NodeId × ObjId
-member_pair member = (member.id, member.object)
+member_pair member = (member.id, object_id member.object)
 
 abbrev pub pairs_by : (ℕ → PackageNames) → Resolved → List (NodeId × ObjId)
 pairs_by known r =
@@ -78,4 +78,4 @@ pairs_by known r =
     ++ map member_pair (members_by known r)
 
 abbrev pub member_entry : Member → ObjId × Object
-member_entry member = (member.object, constant_object member.home member.name member.object.0)
+member_entry member = (object_id member.object, member.object)

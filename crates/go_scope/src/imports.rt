@@ -1,17 +1,20 @@
 // The names that imports declare in the block of their file (Go specification, "Import declarations").
-ghost use Rattle.std.specs.Prelude.{◌≡◌, ◌++◌, ◌∷◌, [], IfOk, OnOk, map, filter};
+ghost use Rattle.std.specs.Prelude.{◌≡◌, ◌++◌, ◌∷◌, [], ℕ, List, IfOk, OnOk, map, filter};
+ghost use Rattle.std.specs.List.{filter_map};
+ghost use Rattle.std.specs.Map.{lookup};
+ghost use Rattle.std.specs.Option.{option_map_or};
 ghost use Rattle.go_tree.specs.Tree.{tree_of, parts_of};
-ghost use Rattle.go_module.specs.Names.Constants.{name_text};
+ghost use Rattle.go_base.specs.declared.ids.ObjId.{ObjId};
 ghost use Rattle.go_module.specs.Names.Exported as exported;
 ghost use Rattle.go_module.specs.Names.Imports as rule;
+ghost use Rattle.go_module.specs.Scopes.{same_object};
 ghost use Rattle.go_scope.specs.Known.{known_by, importing};
 
-use crate::constants::constant_object;
-use crate::known::{KnownPackage, clause_name};
+use crate::known::{Before, clause_name};
 use crate::words::{is_blank_identifier, is_exported, name_of};
 use go_base::{Name, NoMemory};
-use go_module::{Block, Import, ObjId, ObjKind, Object, Region};
-use go_tree::{Node, NodeId, NodeKind};
+use go_module::{Block, Import, ObjId, ObjKind, Object, Region, Scopes, copy_object};
+use go_tree::{Node, NodeKind};
 use std::alloc::Global;
 
 /// An import: its spec, the place of its file among the files of its package, and the places in the module
@@ -27,18 +30,18 @@ pub struct ImportAt<'a> {
 /// Adds the regions of the names that an import declares.
 pub fn add_import_regions(
     alloc: Global,
-    known: &[KnownPackage],
+    before: &Before,
     import: &ImportAt,
     regions: &mut Vec<Region>,
 ) -> Result<(), NoMemory>
     ensures { OnOk result (regions.new.items
-        ≡ regions.old.items ++ rule.import_regions (known_by known.now) (importing import.now)) }
+        ≡ regions.old.items ++ rule.import_regions (known_by before.now) (importing import.now)) }
 {
     if let Some(string) = import.spec.only_part() {
-        let name = clause_name(alloc, known, import.imported)?;
+        let name = clause_name(alloc, before, import.imported)?;
         regions.push(import_region(import, name, string))?;
     } else if let Some((name, string)) = import.spec.both_parts() {
-        add_named(alloc, known, import, name, string, regions)?;
+        add_named(alloc, before, import, name, string, regions)?;
     }
     Ok(())
 }
@@ -46,18 +49,18 @@ pub fn add_import_regions(
 // Adds the regions of an import before whose string something stands.
 fn add_named(
     alloc: Global,
-    known: &[KnownPackage],
+    before: &Before,
     import: &ImportAt,
     name: &Node,
     string: &Node,
     regions: &mut Vec<Region>,
 ) -> Result<(), NoMemory>
     ensures { OnOk result (regions.new.items ≡ regions.old.items
-        ++ rule.named_regions (known_by known.now import.now.imported) (importing import.now)
+        ++ rule.named_regions (known_by before.now import.now.imported) (importing import.now)
         (tree_of name.now) (tree_of string.now)) }
 {
     if is_dot(name) {
-        return add_exports(known, import, string, regions);
+        return add_exports(before, import, string, regions);
     }
     let text = name_of(alloc, name)?;
     if !is_blank_identifier(&text) {
@@ -74,25 +77,26 @@ fn is_dot(name: &Node) -> bool
 
 // Adds the exported names of the imported package.
 fn add_exports(
-    known: &[KnownPackage],
+    before: &Before,
     import: &ImportAt,
     string: &Node,
     regions: &mut Vec<Region>,
 ) -> Result<(), NoMemory>
     ensures { OnOk result (regions.new.items ≡ regions.old.items
         ++ map (rule.dot_region (importing import.now) (tree_of string.now))
-        (rule.exports_of (known_by known.now import.now.imported))) }
+        (known_by before.now import.now.imported).exports) }
 {
-    if let Some(found) = known.get(import.imported) {
+    if let Some(found) = before.scopes.get(import.imported) {
         for (name, id) in found.names.iter() {
-            add_export(import, string, name, *id, regions)?;
+            add_export(found, import, string, name, *id, regions)?;
         }
     }
     Ok(())
 }
 
-// Adds a name of the imported package, if it is exported.
+// Adds the object of a name of the imported package, if the name is exported.
 fn add_export(
+    imported: &Scopes,
     import: &ImportAt,
     string: &Node,
     name: &Name,
@@ -101,11 +105,30 @@ fn add_export(
 ) -> Result<(), NoMemory>
     ensures { OnOk result (regions.new.items ≡ regions.old.items
         ++ map (rule.dot_region (importing import.now) (tree_of string.now))
-        (filter (λ entry. exported.is_exported entry.0) ((name.now, id) ∷ []))) }
+        (filter_map (λ (entry : List ℕ × ObjId). lookup (same_object entry.1) imported.now.objects.entries)
+        (filter (λ entry. exported.is_exported entry.0) ((name.now, id) ∷ [])))) }
 {
     if is_exported(name) {
-        let copy = name.clone()?;
-        regions.push(dot_region(import, string, copy, id))?;
+        add_object(imported, import, string, id, regions)?;
+    }
+    Ok(())
+}
+
+// Adds an object of the imported package.
+fn add_object(
+    imported: &Scopes,
+    import: &ImportAt,
+    string: &Node,
+    id: ObjId,
+    regions: &mut Vec<Region>,
+) -> Result<(), NoMemory>
+    ensures { OnOk result (regions.new.items ≡ regions.old.items
+        ++ option_map_or (λ object. rule.dot_region (importing import.now) (tree_of string.now) object ∷ [])
+        (lookup (same_object id) imported.now.objects.entries) []) }
+{
+    if let Some(object) = imported.objects.get(&id) {
+        let copy = copy_object(object)?;
+        regions.push(dot_region(import, string, copy))?;
     }
     Ok(())
 }
@@ -129,12 +152,12 @@ fn import_region(import: &ImportAt, name: Name, node: &Node) -> Region
     }
 }
 
-fn dot_region(import: &ImportAt, string: &Node, name: Name, id: ObjId) -> Region
-    ensures { result ≡ rule.dot_region (importing import.now) (tree_of string.now) (name, id) }
+fn dot_region(import: &ImportAt, string: &Node, object: Object) -> Region
+    ensures { result ≡ rule.dot_region (importing import.now) (tree_of string.now) object }
 {
     Region {
         block: Block::File(import.file),
-        object: constant_object(import.imported, name, NodeId(id.0)),
+        object,
         file: import.file,
         at: string.start(),
         import: Some(import.spec.id()),

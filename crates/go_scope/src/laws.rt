@@ -8,8 +8,8 @@ pub fn denotes_innermost()
     ensures { DenotesInnermost }
 {}
 
-/// In the scopes of a package of a module that is loaded, `Scopes::resolve` answers for each identifier in a
-/// constant spec exactly the object that it denotes (Go specification, "Declarations and scope").
+/// In the scopes of a package of a module that is loaded, `Scopes::resolve` answers for each identifier behind the
+/// names of a spec exactly the object that it denotes (Go specification, "Declarations and scope").
 pub fn resolves_exactly()
     ensures { ResolvesExactly }
 {}

@@ -1,7 +1,7 @@
 //! What the names of a package denote.
 //!
-//! `collect` finds the regions in which names denote objects: those of the universe, of the constants of
-//! the package, and of the imports of its files; what each identifier denotes by them; and each rule on
+//! `collect` finds the regions in which names denote objects: those of the universe, of the declarations
+//! of the package, and of the imports of its files; what each identifier denotes by them; and each rule on
 //! names that is broken. `Scopes` has the answers.
 #![tactic(auto)]
 
@@ -9,15 +9,13 @@ mod rules;
 mod words;
 
 // What is declared.
-mod constants;
 mod file_block;
 mod imports;
 mod known;
-mod spec_lists;
+mod package_block;
 
 // What occurs, and what it denotes.
 mod held;
-mod occurrences;
 mod resolved;
 
 // The rules on names.
@@ -34,12 +32,8 @@ mod tables;
 
 pub use collecting::collect;
 pub use file_block::{behind, front};
-pub use go_module::{ObjId, ObjKind, Object, Scopes};
-pub use known::KnownPackage;
 pub use laws::{denotes_innermost, each_spec_is_named, resolves_exactly};
-pub use occurrences::occurrences_in_file;
 pub use scope_fault::ScopeFault;
-pub use spec_lists::{const_specs, import_specs};
 
 #[cfg(test)]
 mod tests;

@@ -6,7 +6,7 @@ ghost use Rattle.go_module.specs.Names.Rules.OccurrenceRules as rule;
 ghost use Rattle.go_scope.specs.Known.{known_by};
 ghost use Rattle.go_scope.specs.Resolved as spec;
 
-use crate::known::{KnownPackage, exported};
+use crate::known::{Before, exported};
 use crate::resolved::Resolved;
 use crate::rules::{BLANK_VALUE, COMPLEX_NAME, MISPLACED_PACKAGE, MISSING_MEMBER, UNDECLARED_NAME};
 use crate::words::is_blank_identifier;
@@ -15,31 +15,31 @@ use go_module::{add_if, broken_at};
 
 /// Adds what these occurrences break, one after another.
 pub fn add_broken_occurrences(
-    known: &[KnownPackage],
+    before: &Before,
     resolved: &[Resolved],
     found: &mut Vec<Broken>,
 ) -> Result<(), NoMemory>
     ensures { OnOk result (found.new.items
-        ≡ found.old.items ++ flat_map (spec.broken_by (known_by known.now)) resolved.now) }
+        ≡ found.old.items ++ flat_map (spec.broken_by (known_by before.now)) resolved.now) }
 {
     for r in resolved {
-        add_broken_occurrence(known, r, found)?;
+        add_broken_occurrence(before, r, found)?;
     }
     Ok(())
 }
 
 // Adds what an occurrence breaks, in the order of the table.
 fn add_broken_occurrence(
-    known: &[KnownPackage],
+    before: &Before,
     r: &Resolved,
     found: &mut Vec<Broken>,
 ) -> Result<(), NoMemory>
-    ensures { OnOk result (found.new.items ≡ found.old.items ++ spec.broken_by (known_by known.now) r.now) }
+    ensures { OnOk result (found.new.items ≡ found.old.items ++ spec.broken_by (known_by before.now) r.now) }
 {
     add_undeclared(r, found)?;
     add_blank(r, found)?;
     add_misplaced(r, found)?;
-    add_missing(known, r, found)?;
+    add_missing(before, r, found)?;
     add_complex(r, found)
 }
 
@@ -80,19 +80,15 @@ fn add_misplaced(r: &Resolved, found: &mut Vec<Broken>) -> Result<(), NoMemory>
 }
 
 // P14
-fn add_missing(
-    known: &[KnownPackage],
-    r: &Resolved,
-    found: &mut Vec<Broken>,
-) -> Result<(), NoMemory>
-    ensures { OnOk result (found.new.items ≡ found.old.items ++ spec.missing_by (known_by known.now) r.now) }
+fn add_missing(before: &Before, r: &Resolved, found: &mut Vec<Broken>) -> Result<(), NoMemory>
+    ensures { OnOk result (found.new.items ≡ found.old.items ++ spec.missing_by (known_by before.now) r.now) }
 {
     let Some(package) = package_of(r) else {
         return Ok(());
     };
     match &r.occurrence.selected {
         Some(selected) => {
-            let missing = exported(known, package, &selected.name).is_none();
+            let missing = exported(before, package, &selected.name).is_none();
             let at = broken_at(r.occurrence.file, selected.at, MISSING_MEMBER);
             add_if(found, missing, at)
         }

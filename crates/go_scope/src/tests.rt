@@ -1,7 +1,11 @@
 // The scopes of a package whose tree is made by hand, each call on them once, where memory suffices.
+ghost use Rattle.std.specs.Prelude.{[], IfOk};
+ghost use Rattle.go_module.specs.Modules.Module.{module_view};
+ghost use Rattle.go_scope.specs.Collecting.{AreBefore};
+
 use crate::{ScopeFault, collect};
 use go_base::{Broken, Bytes, Name, Pos};
-use go_module::{ObjId, ObjKind, Package, SourceFile};
+use go_module::{Module, ObjId, ObjKind, Package, SourceFile};
 use go_tree::{File, Node, NodeId, NodeKind};
 use std::alloc::{AllocError, Global};
 use std::test::Fail;
@@ -60,32 +64,41 @@ fn constant(
     over(alloc, NodeKind::ConstDecl, vec![in alloc; spec]?)
 }
 
-// A package of one file of these bytes, with these constants behind its package name, which has the number 50.
-fn package(alloc: Global, bytes: &[u8], constants: Vec<Node>) -> Result<Package, Fail> {
+// A file of these bytes, with these constants behind its package name, which has the number 50.
+fn file(alloc: Global, bytes: &[u8], constants: Vec<Node>) -> Result<SourceFile, Fail> {
     let mut parts = vec![in alloc; leaf(alloc, 50, 8, NodeKind::Name, "p")?]?;
     for constant in constants {
         parts.push(constant)?;
     }
     let root = over(alloc, NodeKind::File, parts)?;
-    let file = SourceFile {
-        name: name(alloc, "a.go")?,
-        bytes: Bytes::new(bytes.to_vec(alloc)?),
-        tree: File { number: 0, root },
-    };
-    Ok(Package {
+    let bytes = Bytes::new(bytes.to_vec(alloc)?);
+    let tree = File { number: 0, root };
+    Ok(SourceFile::new(alloc, name(alloc, "a.go")?, bytes, tree)?)
+}
+
+// The module of one package that has this file.
+fn module_of(alloc: Global, file: SourceFile) -> Result<Module, Fail>
+    ensures { IfOk result (λ made. AreBefore (module_view made) 0 []) }
+{
+    let own = Package {
         path: name(alloc, "m")?,
         name: name(alloc, "p")?,
         stub: false,
         files: vec![in alloc; file]?,
         imports: Vec::new(alloc),
+    };
+    Ok(Module {
+        path: name(alloc, "m")?,
+        version: 21,
+        packages: vec![in alloc; own]?,
     })
 }
 
 // `A` has the number 51, its value 53, and `B` 57.
-fn two_constants(alloc: Global, value: &str) -> Result<Package, Fail> {
+fn two_constants(alloc: Global, value: &str) -> Result<SourceFile, Fail> {
     let first = constant(alloc, 51, 17, "A", (NodeKind::Name, value))?;
     let second = constant(alloc, 57, 29, "B", (NodeKind::IntLit, "1"))?;
-    package(alloc, SOURCE, vec![in alloc; first, second]?)
+    file(alloc, SOURCE, vec![in alloc; first, second]?)
 }
 
 fn name(alloc: Global, text: &str) -> Result<Name, AllocError> {
@@ -95,7 +108,8 @@ fn name(alloc: Global, text: &str) -> Result<Name, AllocError> {
 #[test]
 fn scopes_of_a_package_answer_each_call(rt: HostRuntime) -> Result<(), Fail> {
     let alloc = rt.alloc();
-    let Ok(scopes) = collect(alloc, 0, &two_constants(alloc, "B")?, &[]) else {
+    let made = module_of(alloc, two_constants(alloc, "B")?)?;
+    let Ok(scopes) = collect(alloc, 0, &made, &[]) else {
         return Err(Fail::from("no scopes"));
     };
     let object = ObjId(57);
@@ -118,7 +132,8 @@ fn scopes_of_a_package_answer_each_call(rt: HostRuntime) -> Result<(), Fail> {
 #[test]
 fn a_name_that_is_not_declared_breaks_a_rule(rt: HostRuntime) -> Result<(), Fail> {
     let alloc = rt.alloc();
-    let Err(ScopeFault::Broken(list)) = collect(alloc, 0, &two_constants(alloc, "C")?, &[]) else {
+    let made = module_of(alloc, two_constants(alloc, "C")?)?;
+    let Err(ScopeFault::Broken(list)) = collect(alloc, 0, &made, &[]) else {
         return Err(Fail::from("no list"));
     };
     let wanted = [Broken {
@@ -155,8 +170,8 @@ fn chain(alloc: Global, count: usize) -> Result<Vec<Node>, Fail> {
 #[test]
 fn each_of_many_constants_is_found(rt: HostRuntime) -> Result<(), Fail> {
     let alloc = rt.alloc();
-    let own = package(alloc, b"", chain(alloc, 50_000)?)?;
-    let Ok(scopes) = collect(alloc, 0, &own, &[]) else {
+    let made = module_of(alloc, file(alloc, b"", chain(alloc, 50_000)?)?)?;
+    let Ok(scopes) = collect(alloc, 0, &made, &[]) else {
         return Err(Fail::from("no scopes"));
     };
     assert_eq!(rt; scopes.names.len(), 50_001);

@@ -1,7 +1,7 @@
 // The text of identifiers (Go specification, "Exported identifiers", "Blank identifier").
 ghost use Rattle.std.specs.Prelude.{◌≡◌, IfOk, codes};
 ghost use Rattle.go_tree.specs.Tree.{tree_of};
-ghost use Rattle.go_module.specs.Names.Constants.{name_text};
+ghost use Rattle.go_module.specs.Names.Declarations.{name_text};
 ghost use Rattle.go_module.specs.Names.Exported as exported;
 ghost use Rattle.go_module.specs.Modules.Paths.{same_text};
 

@@ -4,7 +4,7 @@ use Rattle.std.proofs.lemmas.Bool.{cases_lt, cases_order, false≢true, and_part
 use Rattle.std.proofs.lemmas.Bool.Decides.{nat_tests}
 use Rattle.go_tree.specs.Lexical.Characters.{decoded_at, is_allowed, is_white_space, byte_order_mark, Ends}
 use Rattle.go_tree.specs.Lexical.Comments.{OpensLine, OpensGeneral, Closes, IsOpen, IsLineComment, IsGeneralComment, in_line_comment}
-use Rattle.go_tree.specs.Lexical.Scan.{Space, blank, line, general, mark, IsFirstNewline}
+use Rattle.go_tree.specs.Lexical.Scan.{Space, white, line, general, mark, IsFirstNewline}
 use Rattle.go_tree.proofs.ByteLemmas.{byte_within, byte_char}
 use Rattle.go_tree.proofs.CharacterRunLemmas.{run_from, run_within, run_one_end, char_lies}
 
@@ -73,7 +73,7 @@ pub blank_lies : (bytes : List ℕ) (at : ℕ) → is_white_space (slice_index b
 blank_lies bytes at h =
     let b = blank_byte (slice_index bytes at) h in
     let w = byte_within bytes at b.0 b.1 in
-    record { space = blank h; behind = omega arith; within = omega (arith, w) }
+    record { space = white h; behind = omega arith; within = omega (arith, w) }
 
 pub mark_lies : (bytes : List ℕ) (at to : ℕ) → at ≡ 0 → (decoded_at bytes at).char ≡ Some byte_order_mark → to ≡ at + (decoded_at bytes at).size → Lies bytes at to
 mark_lies bytes at to start char end =
@@ -82,19 +82,19 @@ mark_lies bytes at to start char end =
 
 -- one space stands at an offset
 pub one_space : (bytes : List ℕ) (at m n : ℕ) → Space bytes at m → Space bytes at n → m ≡ n
-one_space bytes at m n (blank a) (blank b) = refl
-one_space bytes at m n (blank a) (line b) = absurd (slash_no_blank _ b.opens.0 a)
-one_space bytes at m n (blank a) (general b) = absurd (slash_no_blank _ b.opens.0 a)
-one_space bytes at m n (blank a) (mark start char) = let b = blank_byte _ a in absurd (no_mark bytes at b.0 b.1 (let lt = b.2 in omega (arith, lt)) char)
-one_space bytes at m n (line a) (blank b) = absurd (slash_no_blank _ a.opens.0 b)
+one_space bytes at m n (white a) (white b) = refl
+one_space bytes at m n (white a) (line b) = absurd (slash_no_blank _ b.opens.0 a)
+one_space bytes at m n (white a) (general b) = absurd (slash_no_blank _ b.opens.0 a)
+one_space bytes at m n (white a) (mark start char) = let b = blank_byte _ a in absurd (no_mark bytes at b.0 b.1 (let lt = b.2 in omega (arith, lt)) char)
+one_space bytes at m n (line a) (white b) = absurd (slash_no_blank _ a.opens.0 b)
 one_space bytes at m n (line a) (line b) = one_line_comment bytes at m n a b
 one_space bytes at m n (line a) (general b) = absurd (omega (arith, a.opens.1, b.opens.1))
 one_space bytes at m n (line a) (mark start char) = absurd (no_mark bytes at 46 a.opens.0 (omega arith) char)
-one_space bytes at m n (general a) (blank b) = absurd (slash_no_blank _ a.opens.0 b)
+one_space bytes at m n (general a) (white b) = absurd (slash_no_blank _ a.opens.0 b)
 one_space bytes at m n (general a) (line b) = absurd (omega (arith, a.opens.1, b.opens.1))
 one_space bytes at m n (general a) (general b) = one_general_comment bytes at m n a b
 one_space bytes at m n (general a) (mark start char) = absurd (no_mark bytes at 46 a.opens.0 (omega arith) char)
-one_space bytes at m n (mark start char) (blank b) = let c = blank_byte _ b in absurd (no_mark bytes at c.0 c.1 (let lt = c.2 in omega (arith, lt)) char)
+one_space bytes at m n (mark start char) (white b) = let c = blank_byte _ b in absurd (no_mark bytes at c.0 c.1 (let lt = c.2 in omega (arith, lt)) char)
 one_space bytes at m n (mark start char) (line b) = absurd (no_mark bytes at 46 b.opens.0 (omega arith) char)
 one_space bytes at m n (mark start char) (general b) = absurd (no_mark bytes at 46 b.opens.0 (omega arith) char)
 one_space bytes at m n (mark start char) (mark start2 char2) = refl
@@ -111,7 +111,7 @@ one_newline bytes from to m n a b = ⊎_elim
 
 -- space lies within the text, and has a byte
 pub space_lies : (bytes : List ℕ) (at to : ℕ) → Space bytes at to → Lies bytes at to
-space_lies bytes at to (blank b) = blank_lies bytes at b
+space_lies bytes at to (white b) = blank_lies bytes at b
 space_lies bytes at to (line c) =
     let past = run_from c.inside in
     record { space = line c; behind = omega (arith, past); within = run_within (opens_within bytes at c.opens) c.inside }

@@ -4,25 +4,20 @@
 use Rattle.std.specs.Prelude.{ℕ, List, [], ◌∷◌, ◌++◌, map, codes, decimal, Option, Some, None}
 use Rattle.std.specs.List.{flat_map, join_with_byte}
 use Rattle.go_base.specs.Rule.{rule_text}
-use Rattle.go_term.specs.declared.term.Term.{Term}
+use Rattle.go_term.specs.Types.{TypeData}
 use Rattle.go_num.specs.declared.value.Value.{Value}
 use Rattle.go_model.specs.declared.rec.Mode.{Mode}
 use Rattle.go_model.specs.declared.rec.Mode.TheVariants.{Const as ConstMode}
-use Rattle.go_model.specs.declared.lines.DefKind.{DefKind}
-use Rattle.go_model.specs.declared.lines.DefKind.TheVariants.{Const, Package}
-use Rattle.go_model.specs.declared.lines.Line.{Line}
-use Rattle.go_model.specs.declared.lines.What.{What}
-use Rattle.go_model.specs.declared.lines.What.TheVariants.{Def, Used, Expr}
 use Rattle.go_module.specs.declared.places.At.{At}
 use Rattle.go_module.specs.declared.places.Placed.{Placed}
-use Rattle.go_model.specs.Report.{VerdictData, accepted, refused, skipped, PackageReportData, ReportData}
+use Rattle.go_model.specs.Report.{DefinedData, constant, imported, WhatData, defined, used, expression, LineData, NamedData, VerdictData, accepted, refused, skipped, PackageReportData, ReportData}
 use Rattle.go_model.specs.Text.Places.{place_text, end_text}
 use Rattle.go_model.specs.Text.Values.{type_text, value_text}
 
 -- what a name is declared as
-abbrev pub kind_fields : DefKind → List (List ℕ)
-kind_fields (Const type value) = codes "const" ∷ type_text type ∷ value_text value ∷ []
-kind_fields (Package path) = codes "package" ∷ path ∷ []
+abbrev pub kind_fields : List NamedData → DefinedData → List (List ℕ)
+kind_fields objects (constant type value) = codes "const" ∷ type_text objects type ∷ value_text value ∷ []
+kind_fields objects (imported path) = codes "package" ∷ path ∷ []
 
 -- where what a name denotes is declared
 abbrev pub declared_text : Option At → List ℕ
@@ -33,22 +28,22 @@ abbrev pub mode_text : Mode → List ℕ
 mode_text ConstMode = codes "const"
 
 -- a type and a value, where there are any
-abbrev pub type_fields : Option Term → List (List ℕ)
-type_fields None = []
-type_fields (Some type) = type_text type ∷ []
+abbrev pub type_fields : List NamedData → Option TypeData → List (List ℕ)
+type_fields objects None = []
+type_fields objects (Some type) = type_text objects type ∷ []
 
 abbrev pub value_fields : Option Value → List (List ℕ)
 value_fields None = []
 value_fields (Some value) = value_text value ∷ []
 
--- the fields of a line at a place
-abbrev pub what_fields : At → What → List (List ℕ)
-what_fields at (Def name kind) = codes "def" ∷ place_text at ∷ name ∷ kind_fields kind
-what_fields at (Used name declared) = codes "use" ∷ place_text at ∷ name ∷ declared_text declared ∷ []
-what_fields at (Expr end mode type value) = codes "expr" ∷ place_text at ∷ end_text end ∷ mode_text mode ∷ (type_fields type ++ value_fields value)
+-- the fields of a line at a place, where its types name these objects
+abbrev pub what_fields : List NamedData → At → WhatData → List (List ℕ)
+what_fields objects at (defined name kind) = codes "def" ∷ place_text at ∷ name ∷ kind_fields objects kind
+what_fields objects at (used name declared) = codes "use" ∷ place_text at ∷ name ∷ declared_text declared ∷ []
+what_fields objects at (expression end mode type value) = codes "expr" ∷ place_text at ∷ end_text end ∷ mode_text mode ∷ (type_fields objects type ++ value_fields value)
 
-abbrev pub line_fields : Line → List (List ℕ)
-line_fields line = what_fields line.at line.what
+abbrev pub line_fields : List NamedData → LineData → List (List ℕ)
+line_fields objects line = what_fields objects line.at line.what
 
 abbrev pub broken_fields : Placed → List (List ℕ)
 broken_fields placed = codes "broken" ∷ place_text placed.at ∷ rule_text placed.rule ∷ []
@@ -62,7 +57,7 @@ package_fields p verdict = codes "package" ∷ p.path ∷ p.name ∷ verdict ∷
 
 -- the lines of a package
 abbrev pub verdict_fields : PackageReportData → VerdictData → List (List (List ℕ))
-verdict_fields p (accepted lines) = package_fields p (codes "accepted") ∷ map line_fields lines
+verdict_fields p (accepted lines objects) = package_fields p (codes "accepted") ∷ map (line_fields objects) lines
 verdict_fields p (refused list) = package_fields p (codes "refused") ∷ map broken_fields list
 verdict_fields p skipped = package_fields p (codes "skipped") ∷ []
 

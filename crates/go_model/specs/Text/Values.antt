@@ -1,16 +1,27 @@
 -- The text of types and values.
--- Decides how the type and the value of a constant read.
-use Rattle.std.specs.Prelude.{ℕ, ◌+◌, ◌-◌, ◌/◌, ◌%◌, ◌==◌, nat_lt, ◌&&◌, ◌||◌, Bool, true, false, if◌then◌else◌, List, [], ◌∷◌, ◌++◌, length, take, codes, decimal}
+-- Decides how a type and the value of a constant read. A type that a declaration names reads by its object.
+use Rattle.std.specs.Prelude.{ℕ, ◌+◌, ◌-◌, ◌/◌, ◌%◌, ◌==◌, nat_lt, ◌&&◌, ◌||◌, Bool, true, false, if◌then◌else◌, List, [], ◌∷◌, ◌++◌, length, take, find, codes, decimal}
 use Rattle.std.specs.Fmt.{signed_decimal}
 use Rattle.std.specs.List.{flat_map}
+use Rattle.std.specs.Option.{option_map_or}
 use Rattle.go_num.specs.declared.value.Value.{Value}
 use Rattle.go_num.specs.declared.value.Value.TheVariants.{Bool as Truth, Int, Text}
-use Rattle.go_term.specs.Types.{basic_text}
-use Rattle.go_term.specs.declared.term.Term.{Term}
-use Rattle.go_term.specs.declared.term.Term.TheVariants.{Basic}
+use Rattle.go_module.specs.Scopes.{same_object}
+use Rattle.go_term.specs.Types.{TypeData, basic, named, basic_text}
+use Rattle.go_model.specs.Report.{NamedData}
 
-abbrev pub type_text : Term → List ℕ
-type_text (Basic basic) = basic_text basic
+-- `path.Name`; a universe name has no path
+abbrev pub path_text : List ℕ → List ℕ
+path_text [] = []
+path_text (b ∷ bs) = (b ∷ bs) ++ codes "."
+
+abbrev pub named_text : NamedData → List ℕ
+named_text n = path_text n.path ++ n.name
+
+-- by the objects that the types of the package's lines name
+abbrev pub type_text : List NamedData → TypeData → List ℕ
+type_text objects (basic b) = basic_text b
+type_text objects (named d) = option_map_or named_text (find (λ n. same_object d n.object) objects) []
 
 abbrev pub truth_text : Bool → List ℕ
 truth_text true = codes "true"

@@ -1,7 +1,7 @@
 -- Constants; Constant expressions; Operands; Qualified identifiers; Arithmetic operators (Go specification).
 -- Decides the record of an expression, which is its value, over a map of headers. Each constant here is an
 -- untyped integer constant, so that its header is its value.
-use Rattle.std.specs.Prelude.{ℕ, ℤ, pos, Option, Some, None, option_and_then}
+use Rattle.std.specs.Prelude.{ℕ, ℤ, pos, List, Option, Some, None, option_and_then, slice_get}
 use Rattle.go_tree.specs.declared.node_kind.NodeKind.TheVariants.{AddExpr, ParenExpr, SelectorExpr, Name, IntLit}
 use Rattle.go_tree.specs.Tree.{Tree, branch, no_trees, more_trees, id_of}
 use Rattle.go_num.specs.declared.arithmetic.IntOp.TheVariants.{Add}
@@ -9,9 +9,11 @@ use Rattle.go_num.specs.Arithmetic.{limited, binary_value}
 use Rattle.go_tree.specs.Lexical.LiteralValues.{int_lit_value}
 use Rattle.go_model.specs.declared.meaning.Meaning.{Meaning}
 use Rattle.go_model.specs.declared.meaning.Meaning.TheVariants.{Own, Outer, Predeclared, Other}
-use Rattle.go_model.specs.Values.Constants.{Constant}
+use Rattle.go_module.specs.declared.declaration.Built.{Built}
+use Rattle.go_module.specs.declared.declaration.Built.TheVariants.{Itself, Pair, WholeList}
+use Rattle.go_module.specs.Names.Declarations.{Declaration}
 
--- a map of headers: what it has for the constant of the package at each place
+-- a map of headers: what it has for the declaration of the package at each place
 abbrev pub Headers : Type 0
 Headers = ℕ → Option ℤ
 
@@ -38,6 +40,12 @@ record_of means headers (branch id from to ParenExpr text (more_trees x no_trees
 record_of means headers (branch id from to AddExpr text (more_trees x (more_trees y no_trees))) = sum_of (record_of means headers x) (record_of means headers y)
 record_of means headers t = None
 
--- the value of a constant over the headers
-abbrev pub value_over : (ℕ → Meaning) → Headers → Constant → Option ℤ
-value_over means headers constant = option_and_then (record_of means headers) constant.value
+-- the expression whose value a declaration has: that which stands for its name
+abbrev pub bound_value : Built → List Tree → Option Tree
+bound_value Pair values = slice_get values 0
+bound_value WholeList values = None
+bound_value Itself values = None
+
+-- the value of a declaration over the headers
+abbrev pub value_over : (ℕ → Meaning) → Headers → Declaration → Option ℤ
+value_over means headers d = option_and_then (record_of means headers) (bound_value d.built d.values)

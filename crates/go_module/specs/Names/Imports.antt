@@ -1,7 +1,7 @@
 -- Import declarations (Go specification).
 -- Decides which names the imports of a file declare in the block of the file.
-use Rattle.std.specs.Prelude.{ℕ, ◌+◌, Bool, true, false, if◌then◌else◌, List, [], ◌∷◌, map, filter, take, drop, length, slice_get, Option, Some, None}
-use Rattle.std.specs.List.{flat_map, zip}
+use Rattle.std.specs.Prelude.{ℕ, ◌+◌, Bool, true, false, if◌then◌else◌, List, [], ◌∷◌, map, filter, take, drop, length, slice_get, Option, Some, None, option_and_then}
+use Rattle.std.specs.List.{filter_map, flat_map, zip}
 use Rattle.std.specs.Map.{lookup}
 use Rattle.std.specs.Option.{option_map_or}
 use Rattle.go_tree.specs.declared.node_kind.NodeKind.TheVariants.{DotImport}
@@ -9,30 +9,35 @@ use Rattle.go_tree.specs.Tree.{Tree, branch, Trees, no_trees, more_trees, parts_
 use Rattle.go_module.specs.declared.block.Region.{Region}
 use Rattle.go_module.specs.declared.block.Import.{Import}
 use Rattle.go_module.specs.declared.block.Block.TheVariants.{File}
-use Rattle.go_module.specs.declared.object.ObjId.{ObjId}
+use Rattle.go_base.specs.declared.ids.ObjId.{ObjId}
+use Rattle.go_module.specs.declared.object.Object.{Object}
 use Rattle.go_module.specs.declared.object.ObjKind.TheVariants.{Package}
 use Rattle.go_module.specs.Modules.Heads.{import_specs}
 use Rattle.go_module.specs.Modules.Module.{FileData, PackageData, ModuleData}
 use Rattle.go_module.specs.Modules.Paths.{same_text}
-use Rattle.go_module.specs.Names.Constants.{name_text, constant_object, package_names}
+use Rattle.go_module.specs.Names.Declarations.{name_text}
 use Rattle.go_module.specs.Names.Exported.{is_blank_identifier, is_exported}
+use Rattle.go_module.specs.Names.PackageBlock.{names_of, objects_of, package_block}
+use Rattle.go_module.specs.Scopes.{same_object}
 
--- what a package is known by: the name in its package clauses, and the names of its package block
+-- what a package is known by to those that import it: the name in its package clauses, the objects of the exported names
+-- of its block, and the object that an exported name denotes
 pub record PackageNames : Type 0 where
   pub clause : List ℕ
-  pub names : List (List ℕ × ObjId)
+  pub exports : List Object
+  pub exported : List ℕ → Option Object
 
--- that of the package at each place of a module
+-- by the names of its block, each with a number, and by the objects that these numbers have
+abbrev pub known_by_tables : List ℕ → List (List ℕ × ObjId) → List (ObjId × Object) → PackageNames
+known_by_tables clause names objects = record {
+  clause = clause;
+  exports = filter_map (λ entry. lookup (same_object entry.1) objects) (filter (λ entry. is_exported entry.0) names);
+  exported = λ name. if is_exported name then option_and_then (λ d. lookup (same_object d) objects) (lookup (same_text name) names) else None;
+}
+
+-- what the package at each place of a module is known by
 abbrev pub known_in : ModuleData → ℕ → PackageNames
-known_in m k = record { clause = option_map_or (λ p. p.name) (slice_get m.packages k) []; names = option_map_or (package_names k) (slice_get m.packages k) [] }
-
--- those of its names that are exported
-abbrev pub exports_of : PackageNames → List (List ℕ × ObjId)
-exports_of known = filter (λ entry. is_exported entry.0) known.names
-
--- the object that an exported name of a package denotes
-abbrev pub exported : PackageNames → List ℕ → Option ObjId
-exported known name = if is_exported name then lookup (same_text name) known.names else None
+known_in m k = option_map_or (λ p. known_by_tables p.name (names_of (package_block k p)) (objects_of (package_block k p))) (slice_get m.packages k) (known_by_tables [] [] [])
 
 -- an import: its spec, the place of its file among the files of its package, and the packages that import
 -- and are imported, by their places in the module
@@ -53,11 +58,11 @@ import_region i name node = record {
   denotes = Some i.imported;
 }
 
--- an exported name of the imported package, declared by the string
-abbrev pub dot_region : Importing → Tree → List ℕ × ObjId → Region
-dot_region i string entry = record {
+-- an exported object of the imported package, declared by the string
+abbrev pub dot_region : Importing → Tree → Object → Region
+dot_region i string object = record {
   block = File i.file;
-  object = constant_object i.imported entry.0 entry.1.0;
+  object = object;
   file = i.file;
   at = start_of string;
   import = Some (record { 0 = id_of i.spec });
@@ -74,7 +79,7 @@ is_dot t = false
 -- block". The blank identifier declares none.
 abbrev pub named_regions : PackageNames → Importing → Tree → Tree → List Region
 named_regions known i name string =
-    if is_dot name then map (dot_region i string) (exports_of known)
+    if is_dot name then map (dot_region i string) known.exports
     else if is_blank_identifier (name_text name) then []
     else import_region i (name_text name) name ∷ []
 

@@ -8,14 +8,14 @@ use Rattle.go_module.specs.declared.block.Occurrence.{Occurrence}
 use Rattle.go_module.specs.Modules.Module.{PackageData}
 use Rattle.go_module.specs.Modules.Paths.{same_text}
 use Rattle.go_module.specs.Names.Blocks.{holds_file, lies_inside}
-use Rattle.go_module.specs.Names.Constants.{package_block}
+use Rattle.go_module.specs.Names.PackageBlock.{package_block}
 use Rattle.go_module.specs.Names.Imports.{PackageNames, file_block, imports_of}
 use Rattle.go_module.specs.Names.Universe.{universe}
 
 -- all regions of the package at a place: those of the universe block, of its own block, and of the blocks
 -- of its files
 abbrev pub regions_of : (ℕ → PackageNames) → ℕ → PackageData → List Region
-regions_of known k p = universe ++ (package_block k 0 p.files ++ flat_map (file_block known) (imports_of k p))
+regions_of known k p = universe ++ (package_block k p ++ flat_map (file_block known) (imports_of k p))
 
 abbrev pub has_name : List ℕ → Region → Bool
 has_name name r = same_text name r.object.name

@@ -9,14 +9,15 @@ use Rattle.go_tree.specs.declared.node.NodeId.{NodeId}
 use Rattle.go_module.specs.declared.block.Occurrence.{Occurrence}
 use Rattle.go_module.specs.declared.block.Region.{Region}
 use Rattle.go_module.specs.declared.block.Selected.{Selected}
-use Rattle.go_module.specs.declared.object.ObjId.{ObjId}
+use Rattle.go_base.specs.declared.ids.ObjId.{ObjId}
 use Rattle.go_module.specs.declared.object.Object.{Object}
 use Rattle.go_module.specs.declared.scopes.Scopes.{Scopes}
 use Rattle.go_module.specs.Modules.Module.{FileData, PackageData, ModuleData}
 use Rattle.go_module.specs.Scopes.{same_node, same_object}
 use Rattle.go_module.specs.Names.Rules.BrokenNames.{broken_names}
-use Rattle.go_module.specs.Names.Constants.{constant_object, object_id, package_names}
-use Rattle.go_module.specs.Names.Imports.{PackageNames, known_in, exported}
+use Rattle.go_module.specs.Names.Imports.{PackageNames, file_block, imports_of, known_in}
+use Rattle.go_module.specs.Names.PackageBlock.{names_of, object_id, package_block, region_entries}
+use Rattle.go_module.specs.Names.Universe.{universe}
 use Rattle.go_module.specs.Names.Rules.OccurrenceRules.{denoted_package}
 use Rattle.go_module.specs.Names.Occurrences.{occurrences_in_file}
 use Rattle.go_module.specs.Names.Regions.{regions_of, resolution}
@@ -26,15 +27,13 @@ abbrev pub occurrences_from : ℕ → List FileData → List Occurrence
 occurrences_from file [] = []
 occurrences_from file (f ∷ files) = occurrences_in_file file f.tree ++ occurrences_from (file + 1) files
 
--- the object of a qualified identifier, with the identifier's node and text
+-- the object of a qualified identifier, with the identifier's node
 pub record Member : Type 0 where
   pub id : NodeId
-  pub name : List ℕ
-  pub home : ℕ
-  pub object : ObjId
+  pub object : Object
 
 abbrev pub member_of : (ℕ → PackageNames) → Option ℕ → Option Selected → List Member
-member_of known (Some k) (Some s) = option_map_or (λ d. record { id = s.id; name = s.name; home = k; object = d } ∷ []) (exported (known k) s.name) []
+member_of known (Some k) (Some s) = option_map_or (λ object. record { id = s.id; object = object } ∷ []) ((known k).exported s.name) []
 member_of known (Some k) None = []
 member_of known None selected = []
 
@@ -47,28 +46,32 @@ members_at known regions o = member_of known (denoted_package regions o) o.selec
 abbrev pub uses_at : (ℕ → PackageNames) → List Region → Occurrence → List (NodeId × ObjId)
 uses_at known regions o =
     option_map_or (λ r. (o.id, object_id r.object) ∷ []) (resolution regions o) []
-    ++ map (λ member. (member.id, member.object)) (members_at known regions o)
+    ++ map (λ member. (member.id, object_id member.object)) (members_at known regions o)
 
 -- each identifier that denotes an object, by its node, with the object's number, in source order
 abbrev pub uses_of : (ℕ → PackageNames) → ℕ → PackageData → List (NodeId × ObjId)
 uses_of known k p = flat_map (uses_at known (regions_of known k p)) (occurrences_from 0 p.files)
 
--- the object of each region, by its number
-abbrev pub region_entries : List Region → List (ObjId × Object)
-region_entries regions = map (λ r. (object_id r.object, r.object)) regions
+-- the regions of the universe block and of the blocks of files
+abbrev pub outer_regions : (ℕ → PackageNames) → ℕ → PackageData → List Region
+outer_regions known k p = universe ++ flat_map (file_block known) (imports_of k p)
 
--- the objects of the regions, and then those of qualified identifiers
-abbrev pub objects_of : (ℕ → PackageNames) → ℕ → PackageData → List (ObjId × Object)
-objects_of known k p =
-    region_entries (regions_of known k p)
-    ++ map (λ member. (member.object, constant_object member.home member.name member.object.0)) (flat_map (members_at known (regions_of known k p)) (occurrences_from 0 p.files))
+abbrev pub members_of : (ℕ → PackageNames) → ℕ → PackageData → List Member
+members_of known k p = flat_map (members_at known (regions_of known k p)) (occurrences_from 0 p.files)
+
+-- the objects of the universe and of imports, those of qualified identifiers, and last those of the package: by its own
+-- numbers its own objects are found
+abbrev pub objects_in : (ℕ → PackageNames) → ℕ → PackageData → List (ObjId × Object)
+objects_in known k p =
+    region_entries (outer_regions known k p)
+    ++ (map (λ member. (object_id member.object, member.object)) (members_of known k p) ++ region_entries (package_block k p))
 
 -- the tables have each key once, in the order in which they are first seen
 pub record HasTables (m : ModuleData) (k : ℕ) (p : PackageData) (scopes : Scopes) : Type 0 where
-  pub objects : scopes.objects.entries ≡ insert_all same_object [] (objects_of (known_in m) k p)
+  pub objects : scopes.objects.entries ≡ insert_all same_object [] (objects_in (known_in m) k p)
   pub uses : scopes.uses.entries ≡ insert_all same_node [] (uses_of (known_in m) k p)
   pub methods : scopes.methods.entries ≡ []
-  pub names : scopes.names.entries ≡ package_names k p
+  pub names : scopes.names.entries ≡ names_of (package_block k p)
 
 -- the scopes of the package at a place of the module, whose names break no rule
 pub record IsScopesOf (m : ModuleData) (k : ℕ) (scopes : Scopes) : Type 0 where

@@ -31,7 +31,7 @@ is_letter c = (c == 95) || is_letter_category (general_category c)
 abbrev pub is_letter_or_digit : ℕ → Bool
 is_letter_or_digit c = is_letter c || is_digit_category (general_category c)
 
--- "White space, consisting of spaces, horizontal tabs, carriage returns and newlines"
+-- "White space, formed from spaces (U+0020), horizontal tabs (U+0009), carriage returns (U+000D), and newlines (U+000A)"
 abbrev pub is_white_space : ℕ → Bool
 is_white_space b = (b == 32) || ((b == 9) || ((b == 13) || (b == 10)))
 

@@ -24,7 +24,8 @@ is_simple_escape quote e = (e == quote) || list_any (λ x. x == e) (codes "abfnr
 abbrev pub are_hex : ℕ → List ℕ → Bool
 are_hex n xs = (length xs == n) && list_all is_hex xs
 
--- big_u_value and little_u_value: n hexadecimal digits, "illegal: surrogate half, invalid code point"
+-- big_u_value and little_u_value: n hexadecimal digits; "illegal: surrogate half" and
+-- "illegal: invalid Unicode code point" are none
 abbrev pub are_code_point : ℕ → List ℕ → Bool
 are_code_point n xs = are_hex n xs && is_valid_code_point (number_in 16 xs)
 

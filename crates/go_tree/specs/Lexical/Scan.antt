@@ -12,7 +12,7 @@ use Rattle.go_tree.specs.Lexical.Tokens.{IsLongest}
 
 -- white space, a whole comment, or the byte order mark that is the first character
 pub data Space (bytes : List ℕ) (from : ℕ) : ℕ → Type 0 where
-  blank : is_white_space (slice_index bytes from) ≡ true → Space bytes from (from + 1)
+  white : is_white_space (slice_index bytes from) ≡ true → Space bytes from (from + 1)
   line : {to : ℕ} → IsLineComment bytes from to → Space bytes from to
   general : {to : ℕ} → IsGeneralComment bytes from to → Space bytes from to
   mark : from ≡ 0 → (decoded_at bytes from).char ≡ Some byte_order_mark → Space bytes from (from + (decoded_at bytes from).size)

@@ -2,7 +2,8 @@ use Rattle.std.proofs.Common.{sym, ◌∙◌, subst, arith, below_more}
 use Rattle.std.proofs.lemmas.Option.{slice_get_within}
 use Rattle.std.proofs.lemmas.List.{length-map}
 use Rattle.go_check.specs.Table.{IsSettled}
-use Rattle.go_check.specs.View.{constant_view, constants_view, means_by}
+use Rattle.go_check.specs.View.{means_by}
+use Rattle.go_names.specs.Views.{declaration_view, declarations_view}
 use Rattle.go_check.proofs.headers.add_round.Goals as goal
 use Rattle.go_check.proofs.headers.add_round.Goals.{then-add_one, else-add_one}
 
@@ -23,13 +24,13 @@ loop-place-preserved c =
             fewer = λ e. rw same (inv.fewer (sym w.added-is ∙ e));
             no_more = rw same inv.no_more;
             settled = λ e. below_more _ _
-                (λ n lt. subst (λ t. IsSettled (means_by c.args.around.now) (constants_view c.args.constants.now) t n) (sym same) (inv.settled (sym w.added-is ∙ e) n lt))
+                (λ n lt. subst (λ t. IsSettled (means_by c.args.around.now) (declarations_view c.args.declarations.now) t n) (sym same) (inv.settled (sym w.added-is ∙ e) n lt))
                 (did.settled w.if-add_one.false);
           }
     ]
 
 pub returns-clause-settled : goal.returns-clause-settled
 returns-clause-settled c = λ e d h vacant follows.
-    let within = slice_get_within (constants_view c.args.constants.now) d follows.constant follows.declared in
-    let same = length-map c.args.constants.now constant_view in
+    let within = slice_get_within (declarations_view c.args.declarations.now) d follows.declaration follows.declared in
+    let same = length-map c.args.declarations.now declaration_view in
     c.loop-place.invariant.settled e d (omega arith) h vacant follows

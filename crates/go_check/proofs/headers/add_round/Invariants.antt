@@ -1,12 +1,13 @@
 use Rattle.std.proofs.Common.{◌≡◌, ℕ, false, true, ◌≤◌, ◌<◌}
 use Rattle.go_check.specs.Table.{IsBacked, IsSettled, open_count}
-use Rattle.go_check.specs.View.{constants_view, means_by}
+use Rattle.go_check.specs.View.{means_by}
+use Rattle.go_names.specs.Views.{declarations_view}
 use Rattle.go_check.proofs.headers.add_round.Given as goal
 
 abbrev pub invariant-loop-place : goal.invariant-loop-place
 invariant-loop-place l = record {
-  backed : IsBacked (means_by l.around) (constants_view l.constants) l.table;
+  backed : IsBacked (means_by l.around) (declarations_view l.declarations) l.table;
   fewer : l.added ≡ true → open_count l.table < open_count l.fn.table;
   no_more : open_count l.table ≤ open_count l.fn.table;
-  settled : l.added ≡ false → (n : ℕ) → n < l.place → IsSettled (means_by l.around) (constants_view l.constants) l.table n;
+  settled : l.added ≡ false → (n : ℕ) → n < l.place → IsSettled (means_by l.around) (declarations_view l.declarations) l.table n;
 }

@@ -4,16 +4,16 @@ use Rattle.indexmap.specs.IndexMap.{insert_all}
 use Rattle.go_graph.specs.Graph.{is_marked}
 use Rattle.go_module.specs.Order.{IsListOf}
 use Rattle.go_module.specs.Modules.Module.{package_view}
-use Rattle.go_model.specs.PackageLines.{lines_of}
-use Rattle.go_model.specs.Phases.{IsVerdict, values_of}
 use Rattle.go_module.specs.Places.{placed_by}
-use Rattle.go_model.specs.Report.{accepted, refused, verdict_view}
-use Rattle.go_model.specs.Values.Rules.{broken_values}
 use Rattle.go_module.specs.Scopes.{same_object}
+use Rattle.go_model.specs.Phases.{IsVerdict, values_of}
+use Rattle.go_model.specs.Report.{refused, verdict_view}
+use Rattle.go_model.specs.Values.Rules.{broken_values}
 use Rattle.go_model.specs.Values.Waiting.{Chain}
+use Rattle.go_names.specs.Views.{declarations_view}
 use Rattle.go_check.specs.Table.{slot_of}
-use Rattle.go_check.specs.LinedFileView.{outline_view}
-use Rattle.go_check.specs.View.{constants_view, denotes_by, means_by}
+use Rattle.go_check.specs.Verdicts.{IsAccepting}
+use Rattle.go_check.specs.View.{denotes_by, means_by, outline_view}
 use Rattle.go_check.proofs.ResultLemmas.{both_if_ok}
 use Rattle.go_check.proofs.VerdictLemmas.{breaks, denotes_are, means_are, refused_values, sound_names, sound_verdict}
 use Rattle.go_check.proofs.package.judge.Goals as goal
@@ -23,24 +23,24 @@ returns-then-breaks_none c =
     let p = package_view c.args.own.now in
     let around = c.args.around.now in
     let means = means_by around in
-    let constants = constants_view c.args.constants.now in
+    let declarations = declarations_view c.args.declarations.now in
     let table = c.in_ok-table.table.items in
     let marks = c.in_ok-cyclic.cyclic.items in
     let list = c.in_ok-list.list.items in
-    let chains = subst (λ t. (d : ℕ) → (is_marked marks d ≡ true) ↔ Chain means constants (slot_of t) d d) c.deref.ensures.value c.in_ok-cyclic.ensures.exact in
+    let chains = subst (λ t. (d : ℕ) → (is_marked marks d ≡ true) ↔ Chain means declarations (slot_of t) d d) c.deref.ensures.value c.in_ok-cyclic.ensures.exact in
     let over_table = subst (λ t. IsListOf (broken_values means (slot_of t) (is_marked c.deref-3.result.now) p) list) c.deref-2.ensures.value c.in_ok-list.ensures in
     let listed = subst (λ t. IsListOf (broken_values means (slot_of table) (is_marked t) p) list) c.deref-3.ensures.value over_table in
     let none : list ≡ [] = sym c.deref-4.ensures.value ∙ c.breaks_none.ensures.none c.if-breaks_none.true in
     both_if_ok c.accept.result _ _ _
     (λ judged verdict values m k at outline scopes.
-    let same = means_are m k p at constants around c.requires.constants c.requires.around scopes in
-    let found = breaks m k p around.before.now.entries means constants same c.requires.constants (slot_of table) (is_marked marks) list (sound_names m k p at around.scopes.now scopes) c.in_ok-table.ensures.exact chains listed in
-    sound_verdict m k p around.before.now.entries means constants same c.requires.constants (slot_of table) (denotes_by around) list (verdict_view judged.verdict) judged.values.items found none
-    (denotes_are m k p at constants around c.requires.constants c.requires.around scopes)
-    (verdict k
-    ∙ ap (λ t. accepted (lines_of (outline_view c.args.outline.now) k p (denotes_by around) means (slot_of t))) c.deref-then-breaks_none.ensures.value
-    ∙ ap (λ o. accepted (lines_of o k p (denotes_by around) means (slot_of table))) outline)
-    (values ∙ ap (λ t. values_of means (slot_of t) constants) c.deref-then-breaks_none.ensures.value))
+    let same = means_are m k p at declarations around c.requires.declarations c.requires.around scopes in
+    let found = breaks m k p around.before.now.entries means declarations same c.requires.declarations (slot_of table) (is_marked marks) list (sound_names m k p at around.scopes.now scopes) c.in_ok-table.ensures.exact chains listed in
+    let accepting = subst (λ o. IsAccepting o k p (denotes_by around) means (slot_of table) (verdict_view judged.verdict)) outline
+    (subst (λ t. IsAccepting (outline_view c.args.outline.now) k p (denotes_by around) means (slot_of t) (verdict_view judged.verdict)) c.deref-then-breaks_none.ensures.value (verdict k p c.requires.files)) in
+    sound_verdict m k p around.before.now.entries means declarations same c.requires.declarations (slot_of table) (denotes_by around) list (verdict_view judged.verdict) judged.values.items found none
+    (denotes_are m k p at declarations around c.requires.declarations c.requires.around scopes)
+    accepting
+    (values ∙ ap (λ t. values_of means (slot_of t) declarations) c.deref-then-breaks_none.ensures.value))
     c.accept.ensures.verdict c.accept.ensures.values
 
 pub returns : goal.returns
@@ -49,15 +49,15 @@ returns c m k at outline scopes =
     let around = c.args.around.now in
     let before = around.before.now.entries in
     let means = means_by around in
-    let constants = constants_view c.args.constants.now in
+    let declarations = declarations_view c.args.declarations.now in
     let table = c.in_ok-table.table.items in
     let marks = c.in_ok-cyclic.cyclic.items in
     let list = c.in_ok-list.list.items in
-    let chains = subst (λ t. (d : ℕ) → (is_marked marks d ≡ true) ↔ Chain means constants (slot_of t) d d) c.deref.ensures.value c.in_ok-cyclic.ensures.exact in
+    let chains = subst (λ t. (d : ℕ) → (is_marked marks d ≡ true) ↔ Chain means declarations (slot_of t) d d) c.deref.ensures.value c.in_ok-cyclic.ensures.exact in
     let over_table = subst (λ t. IsListOf (broken_values means (slot_of t) (is_marked c.deref-3.result.now) p) list) c.deref-2.ensures.value c.in_ok-list.ensures in
     let listed = subst (λ t. IsListOf (broken_values means (slot_of table) (is_marked t) p) list) c.deref-3.ensures.value over_table in
-    let same = means_are m k p at constants around c.requires.constants c.requires.around scopes in
-    let found = breaks m k p before means constants same c.requires.constants (slot_of table) (is_marked marks) list (sound_names m k p at around.scopes.now scopes) c.in_ok-table.ensures.exact chains listed in
+    let same = means_are m k p at declarations around c.requires.declarations c.requires.around scopes in
+    let found = breaks m k p before means declarations same c.requires.declarations (slot_of table) (is_marked marks) list (sound_names m k p at around.scopes.now scopes) c.in_ok-table.ensures.exact chains listed in
     let some : list ≢ [] = λ e. c.breaks_none.ensures.some c.if-breaks_none.false (c.deref-4.ensures.value ∙ e) in
     let placed : c.in_ok-placed_list.field-0.items ≡ map (placed_by p) list = c.in_ok-placed_list.ensures ∙ ap (map (placed_by p)) c.deref-else-breaks_none.ensures.value in
     let after : before ≡ insert_all same_object before c.new.result.items = ap (insert_all same_object before) (sym c.new.ensures.items) in

@@ -1,5 +1,5 @@
 use Rattle.std.proofs.Common.{sym, ◌∙◌, arith}
-use Rattle.go_tree.specs.Lexical.Scan.{blank, line, general}
+use Rattle.go_tree.specs.Lexical.Scan.{white, line, general}
 use Rattle.go_tree.proofs.SpaceLemmas.{space_lies}
 use Rattle.go_form.proofs.BuildConstraintLemmas.{mark_there, line_there, general_there}
 use Rattle.go_form.proofs.build_constraints.space_end.Goals as goal
@@ -25,7 +25,7 @@ pub line_end-requires : goal.line_end-requires
 line_end-requires c = (_, line_there _ _ _ c.requires.1 (sym c.byte_at-byte.ensures ∙ c.if-byte-ne47.false) (sym c.byte_at.ensures ∙ c.if-byte_at-eq47.true))
 
 pub returns-then-is_white_space : goal.returns-then-is_white_space
-returns-then-is_white_space c = blank (rw c.byte_at-byte.ensures at (sym c.is_white_space.ensures ∙ c.if-is_white_space.true))
+returns-then-is_white_space c = white (rw c.byte_at-byte.ensures at (sym c.is_white_space.ensures ∙ c.if-is_white_space.true))
 
 pub returns-then-byte_at-eq47 : goal.returns-then-byte_at-eq47
 returns-then-byte_at-eq47 c = line c.line_end.ensures

@@ -1,6 +1,6 @@
 use Rattle.std.proofs.Common.{◌≡◌, take}
 use Rattle.indexmap.specs.IndexMap.{insert_all}
-use Rattle.go_module.specs.Names.Tables.{region_entries}
+use Rattle.go_module.specs.Names.PackageBlock.{region_entries}
 use Rattle.go_module.specs.Scopes.{same_object}
 use Rattle.go_module.proofs.object_table.add_objects.Given as goal
 

@@ -7,7 +7,7 @@ use Rattle.go_module.specs.declared.block.Region.{Region}
 use Rattle.go_module.specs.Modules.Module.{FileData, PackageData}
 use Rattle.go_module.specs.Places.{with_number}
 use Rattle.go_module.specs.Names.Rules.BlockRules.{repeated, reserved, missing_main_at, is_main_name}
-use Rattle.go_module.specs.Names.Constants.{package_block}
+use Rattle.go_module.specs.Names.PackageBlock.{package_block}
 use Rattle.go_module.specs.Names.Imports.{Importing, PackageNames, file_block, import_of, imports_of}
 use Rattle.go_module.specs.Names.Rules.ImportRules.{conflicting, unused}
 use Rattle.go_module.specs.Names.Rules.OccurrenceRules.{broken_occurrences}
@@ -42,8 +42,8 @@ broken_files known is_main regions block file files imports = []
 -- what the package breaks, by the places of its files
 abbrev pub broken_in_files : (ℕ → PackageNames) → ℕ → PackageData → List Broken
 broken_in_files known k p =
-    broken_block (is_main_name p.name) (package_block k 0 p.files)
-    ++ broken_files known (is_main_name p.name) (regions_of known k p) (package_block k 0 p.files) 0 p.files (imports_of k p)
+    broken_block (is_main_name p.name) (package_block k p)
+    ++ broken_files known (is_main_name p.name) (regions_of known k p) (package_block k p) 0 p.files (imports_of k p)
 
 -- what the package breaks, in any order
 abbrev pub broken_names : (ℕ → PackageNames) → ℕ → PackageData → List Broken

@@ -14,7 +14,7 @@ use Rattle.go_module.specs.declared.block.Selected.{Selected}
 use Rattle.go_module.specs.Broken.{broken_at, told_if}
 use Rattle.go_module.specs.Modules.Paths.{same_text}
 use Rattle.go_module.specs.Names.Exported.{is_blank_identifier}
-use Rattle.go_module.specs.Names.Imports.{PackageNames, exported}
+use Rattle.go_module.specs.Names.Imports.{PackageNames}
 use Rattle.go_module.specs.Names.Regions.{resolution, is_held}
 
 abbrev pub undeclared_name : Rule
@@ -52,7 +52,7 @@ misplaced_at regions o = told_if (is_none o.selected && is_some (denoted_package
 abbrev pub missing_in : (ℕ → PackageNames) → ℕ → Option ℕ → Option Selected → List Broken
 missing_in known file None selected = []
 missing_in known file (Some k) None = []
-missing_in known file (Some k) (Some s) = told_if (is_none (exported (known k) s.name)) (broken_at file s.at missing_member)
+missing_in known file (Some k) (Some s) = told_if (is_none ((known k).exported s.name)) (broken_at file s.at missing_member)
 
 abbrev pub missing_at : (ℕ → PackageNames) → List Region → Occurrence → List Broken
 missing_at known regions o = missing_in known o.file (denoted_package regions o) o.selected

@@ -8,4 +8,4 @@ use Rattle.go_scope.specs.Resolved.{member_entry, members_by}
 use Rattle.go_scope.proofs.collecting.add_all_members.Given as goal
 
 abbrev pub invariant-loop-list : goal.invariant-loop-list
-invariant-loop-list l = l.objects.entries ≡ insert_all same_object l.fn.objects.entries (map member_entry (flat_map (members_by (known_by l.known)) (all_of (map (λ list. list.items) (take l.list-index l.lists)))))
+invariant-loop-list l = l.objects.entries ≡ insert_all same_object l.fn.objects.entries (map member_entry (flat_map (members_by (known_by l.before)) (all_of (map (λ list. list.items) (take l.list-index l.lists)))))

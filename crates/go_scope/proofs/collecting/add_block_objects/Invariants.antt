@@ -1,7 +1,7 @@
 use Rattle.std.proofs.Common.{◌≡◌, take}
 use Rattle.std.specs.List.{flat_map}
 use Rattle.indexmap.specs.IndexMap.{insert_all}
-use Rattle.go_module.specs.Names.Tables.{region_entries}
+use Rattle.go_module.specs.Names.PackageBlock.{region_entries}
 use Rattle.go_module.specs.Scopes.{same_object}
 use Rattle.go_scope.proofs.collecting.add_block_objects.Given as goal
 

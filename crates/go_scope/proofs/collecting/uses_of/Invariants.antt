@@ -8,4 +8,4 @@ use Rattle.go_scope.specs.Resolved.{pairs_by}
 use Rattle.go_scope.proofs.collecting.uses_of.Given as goal
 
 abbrev pub invariant-loop-list : goal.invariant-loop-list
-invariant-loop-list l = l.uses.entries ≡ insert_all same_node [] (flat_map (pairs_by (known_by l.known)) (all_of (map (λ list. list.items) (take l.list-index l.lists))))
+invariant-loop-list l = l.uses.entries ≡ insert_all same_node [] (flat_map (pairs_by (known_by l.before)) (all_of (map (λ list. list.items) (take l.list-index l.lists))))

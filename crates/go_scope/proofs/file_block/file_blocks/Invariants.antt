@@ -8,4 +8,4 @@ use Rattle.go_scope.proofs.file_block.file_blocks.Given as goal
 -- the blocks so far, with those of the files left, are those of all files
 abbrev pub invariant-loop-i : goal.invariant-loop-i
 invariant-loop-i l =
-    map block_of l.blocks.items ++ map (block_data (known_by l.known)) (rule.imports_from l.importer l.i (map file_view (drop l.i l.files)) l.rest) ≡ map (block_data (known_by l.known)) (rule.imports_from l.importer 0 (map file_view l.files) l.packages)
+    map block_of l.blocks.items ++ map (block_data (known_by l.before)) (rule.imports_from l.importer l.i (map file_view (drop l.i l.files)) l.rest) ≡ map (block_data (known_by l.before)) (rule.imports_from l.importer 0 (map file_view l.files) l.packages)

@@ -5,4 +5,4 @@ use Rattle.go_scope.specs.Resolved as spec
 use Rattle.go_scope.proofs.occurrence_rules.add_broken_occurrences.Given as goal
 
 abbrev pub invariant-loop-r : goal.invariant-loop-r
-invariant-loop-r l = l.found.items ≡ l.fn.found.items ++ flat_map (spec.broken_by (known_by l.known)) (take l.r-index l.resolved)
+invariant-loop-r l = l.found.items ≡ l.fn.found.items ++ flat_map (spec.broken_by (known_by l.before)) (take l.r-index l.resolved)

@@ -7,4 +7,4 @@ use Rattle.go_scope.specs.Resolved.{member_entry, members_by}
 use Rattle.go_scope.proofs.tables.add_members.Given as goal
 
 abbrev pub invariant-loop-r : goal.invariant-loop-r
-invariant-loop-r l = l.objects.entries ≡ insert_all same_object l.fn.objects.entries (map member_entry (flat_map (members_by (known_by l.known)) (take l.r-index l.resolved)))
+invariant-loop-r l = l.objects.entries ≡ insert_all same_object l.fn.objects.entries (map member_entry (flat_map (members_by (known_by l.before)) (take l.r-index l.resolved)))

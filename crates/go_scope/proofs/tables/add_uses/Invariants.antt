@@ -7,4 +7,4 @@ use Rattle.go_scope.specs.Resolved.{pairs_by}
 use Rattle.go_scope.proofs.tables.add_uses.Given as goal
 
 abbrev pub invariant-loop-r : goal.invariant-loop-r
-invariant-loop-r l = l.uses.entries ≡ insert_all same_node l.fn.uses.entries (flat_map (pairs_by (known_by l.known)) (take l.r-index l.resolved))
+invariant-loop-r l = l.uses.entries ≡ insert_all same_node l.fn.uses.entries (flat_map (pairs_by (known_by l.before)) (take l.r-index l.resolved))

@@ -1,0 +1,109 @@
+-- The files of a package with what stands in them: what is found in them is what the definitions of a report have.
+use Rattle.std.proofs.Common.{◌≡◌, ℕ, suc, ◌+◌, ◌<◌, ◌≤◌, min, Bool, Bor, List, [], ◌∷◌, ◌++◌, inl, inr, Option, length, get_or, map, take, drop, refl, sym, ap, ◌∙◌, subst, append_assoc, add-one, arith}
+use Rattle.std.proofs.Math.Seq.{drop-cons}
+use Rattle.std.proofs.lemmas.List.{append-nil, drop_all}
+use Rattle.std.proofs.lemmas.Bool.{cases_lt}
+use Rattle.go_tree.specs.declared.node.Node.{Node}
+use Rattle.go_names.specs.Views.{trees_at}
+use Rattle.std.specs.List.{flat_map, zip}
+use Rattle.go_base.specs.declared.ids.ObjId.{ObjId}
+use Rattle.go_tree.specs.declared.node.NodeId.{NodeId}
+use Rattle.go_tree.specs.Tree.{Tree, parts_of, tree_of}
+use Rattle.go_module.specs.Modules.Heads.{import_specs}
+use Rattle.go_module.specs.Modules.Module.{FileData, PackageData}
+use Rattle.go_module.specs.Names.Declarations.{declarations_in, specs_in_file}
+use Rattle.go_module.specs.Names.Imports.{imports_from, imports_in}
+use Rattle.go_model.specs.declared.meaning.Meaning.{Meaning}
+use Rattle.go_model.specs.LineOrder.{AreInOrder, no_file, one_more}
+use Rattle.go_model.specs.Outline.{Outline, declared_by, declared_from, declaring}
+use Rattle.go_model.specs.PackageLines.{AreLines, declaration_defs, defs_from, defs_in, exprs_from, exprs_in, import_defs, import_defs_in, uses_from, uses_in}
+use Rattle.go_model.specs.Report.{LineData}
+use Rattle.go_model.specs.Values.Records.{Headers}
+use Rattle.go_check.specs.Found.{OwnFileData, declared_in_file, def_lines, expr_lines, import_lines, own_file, own_files_from, own_files_in, use_lines}
+use Rattle.go_check.specs.Ordered.{AddsInOrder}
+
+-- the lines of imports read the spec and the package alone
+pairs_are : (outline : Outline) (stub : Bool) (f : FileData) (k file : ℕ) (pairs : List (Tree × ℕ)) → flat_map (import_defs outline stub f) (map (λ pair. record { spec = pair.0; file = file; importer = k; imported = pair.1 }) pairs) ≡ flat_map (λ pair. import_defs_in outline stub f pair.1 (parts_of pair.0)) pairs
+pairs_are outline stub f k file [] = refl
+pairs_are outline stub f k file (pair ∷ pairs) = ap (λ l. import_defs_in outline stub f pair.1 (parts_of pair.0) ++ l) (pairs_are outline stub f k file pairs)
+
+pub defs_are : (outline : Outline) (k : ℕ) (stub : Bool) (means : ℕ → Meaning) (headers : Headers) (place : ℕ) (files : List FileData) (packages : List ℕ) → defs_from outline stub means headers place files (imports_from k place files packages) ≡ map (def_lines outline means headers) (own_files_from stub place files packages)
+defs_are outline k stub means headers place [] packages = refl
+defs_are outline k stub means headers place (f ∷ files) packages =
+    let n = length (import_specs f.tree) in
+    ap (λ l. (l ++ flat_map (declaration_defs stub f means headers) (declarations_in (specs_in_file place f.tree))) ∷ defs_from outline stub means headers (place + 1) files (imports_from k (place + 1) files (drop n packages)))
+    (pairs_are outline stub f k place (zip (import_specs f.tree) (take n packages)))
+    ∙ ap (λ l. def_lines outline means headers (own_file stub place f packages) ∷ l) (defs_are outline k stub means headers (place + 1) files (drop n packages))
+
+pub uses_are : (outline : Outline) (stub : Bool) (denotes : NodeId → Option ObjId) (place : ℕ) (files : List FileData) (packages : List ℕ) → uses_from outline stub denotes place files ≡ map (use_lines outline denotes) (own_files_from stub place files packages)
+uses_are outline stub denotes place [] packages = refl
+uses_are outline stub denotes place (f ∷ files) packages =
+    ap (λ l. uses_in outline stub denotes place f ∷ l) (uses_are outline stub denotes (place + 1) files (drop (length (import_specs f.tree)) packages))
+
+pub exprs_are : (stub : Bool) (means : ℕ → Meaning) (headers : Headers) (place : ℕ) (files : List FileData) (packages : List ℕ) → exprs_from stub means headers place files ≡ map (expr_lines means headers) (own_files_from stub place files packages)
+exprs_are stub means headers place [] packages = refl
+exprs_are stub means headers place (f ∷ files) packages =
+    ap (λ l. exprs_in stub means headers place f ∷ l) (exprs_are stub means headers (place + 1) files (drop (length (import_specs f.tree)) packages))
+
+-- what the files of a package declare
+pub declared_are : (k : ℕ) (stub : Bool) (place : ℕ) (files : List FileData) (packages : List ℕ) → flat_map (declared_in_file k) (own_files_from stub place files packages) ≡ declared_from k stub place files
+declared_are k stub place [] packages = refl
+declared_are k stub place (f ∷ files) packages =
+    ap (λ l. map (declared_by k stub f) (declaring place f.tree) ++ l) (declared_are k stub (place + 1) files (drop (length (import_specs f.tree)) packages))
+
+-- one more file, whose lines are added in their order
+pub one_added : (f : OwnFileData → List LineData) (all left rest : List OwnFileData) (x : OwnFileData) (found old new : List LineData) → left ≡ x ∷ rest → found ≡ f x → AddsInOrder found old new
+    → ((more : List LineData) → AreInOrder (map f left) more → AreInOrder (map f all) (old ++ more))
+    → (more : List LineData) → AreInOrder (map f rest) more → AreInOrder (map f all) (new ++ more)
+one_added f all left rest x found old new at is adds so_far more in_order =
+    let here : AreInOrder (found ∷ map f rest) (adds.here ++ more) = one_more found adds.here (map f rest) more (adds.here ++ more) adds.in_order in_order refl in
+    let same : found ∷ map f rest ≡ map f left = ap (λ (l : List LineData). l ∷ map f rest) is ∙ ap (map f) (sym at) in
+    subst (AreInOrder (map f all)) (sym (ap (λ (l : List LineData). l ++ more) adds.added ∙ append_assoc old adds.here more))
+    (so_far (adds.here ++ more) (subst (λ (l : List (List LineData)). AreInOrder l (adds.here ++ more)) same here))
+
+-- the lines of three kinds are those of a package
+pub are_lines : (outline : Outline) (k : ℕ) (p : PackageData) (denotes : NodeId → Option ObjId) (means : ℕ → Meaning) (headers : Headers) (files : List OwnFileData) (defs uses exprs lines : List LineData)
+    → files ≡ own_files_in p
+    → AreInOrder (map (def_lines outline means headers) files) defs
+    → AreInOrder (map (use_lines outline denotes) files) uses
+    → AreInOrder (map (expr_lines means headers) files) exprs
+    → lines ≡ defs ++ (uses ++ exprs)
+    → AreLines outline k p denotes means headers lines
+are_lines outline k p denotes means headers files defs uses exprs lines is are_defs are_uses are_exprs all = record {
+  defs = defs;
+  uses = uses;
+  exprs = exprs;
+  are_defs = subst (λ (l : List (List LineData)). AreInOrder l defs) (ap (map (def_lines outline means headers)) is ∙ sym (defs_are outline k p.stub means headers 0 p.files p.imports)) are_defs;
+  are_uses = subst (λ (l : List (List LineData)). AreInOrder l uses) (ap (map (use_lines outline denotes)) is ∙ sym (uses_are outline p.stub denotes 0 p.files p.imports)) are_uses;
+  are_exprs = subst (λ (l : List (List LineData)). AreInOrder l exprs) (ap (map (expr_lines means headers)) is ∙ sym (exprs_are p.stub means headers 0 p.files p.imports)) are_exprs;
+  all = all;
+}
+
+-- behind the last file
+pub all_added : (f : OwnFileData → List LineData) (all left : List OwnFileData) (lines : List LineData) → left ≡ []
+    → ((more : List LineData) → AreInOrder (map f left) more → AreInOrder (map f all) (lines ++ more))
+    → AreInOrder (map f all) lines
+all_added f all left lines none so_far =
+    subst (AreInOrder (map f all)) (append-nil lines) (so_far [] (subst (λ (l : List OwnFileData). AreInOrder (map f l) []) (sym none) no_file))
+
+-- what is left of a list, from an element on
+pub drop-step : {X : Type 0} (xs : List X) (i : ℕ) (x : X) → i < length xs → x ≡ get_or xs i x → drop i xs ≡ x ∷ drop (i + 1) xs
+drop-step xs i x lt e = drop-cons xs i x lt ∙ ap (λ y. y ∷ drop (suc i) xs) (sym e) ∙ ap (λ k. x ∷ drop k xs) (sym (add-one i))
+
+-- nothing is paired with an empty list
+no_pairs : {A B : Type 0} (xs : List A) → zip {X = B} xs [] ≡ []
+no_pairs [] = refl
+no_pairs (x ∷ xs) = refl
+
+-- behind the shorter of two lists nothing is left to pair
+pairs_done : {A B C : Type 0} (f : A → C) (xs : List A) (ys : List B) (i : ℕ) → min (length xs) (length ys) ≤ i → zip (map f (drop i xs)) (drop i ys) ≡ []
+pairs_done f xs ys i behind =
+    elim (cases_lt i (length xs)) [
+      | inl within ↦ ap (zip (map f (drop i xs))) (drop_all i ys (omega arith)) ∙ no_pairs (map f (drop i xs))
+      | inr past ↦ ap (λ l. zip (map f l) (drop i ys)) (drop_all i xs past)
+    ]
+
+-- behind the last import of a file
+pub imports_done : (outline : Outline) (f : OwnFileData) (specs : List (Bor Node)) (packages : List ℕ) (i : ℕ) (list whole : List LineData) → min (length specs) (length packages) ≤ i → list ++ import_lines outline f (zip (trees_at (drop i specs)) (drop i packages)) ≡ whole → list ≡ whole
+imports_done outline f specs packages i list whole behind so_far =
+    sym (append-nil list) ∙ ap (λ l. list ++ import_lines outline f l) (sym (pairs_done (λ node. tree_of node.now) specs packages i behind)) ∙ so_far

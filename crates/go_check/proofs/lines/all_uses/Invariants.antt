@@ -1,0 +1,12 @@
+use Rattle.std.proofs.Common.{List, ◌++◌, map, drop}
+use Rattle.go_model.specs.Report.{line_view}
+use Rattle.go_model.specs.Report.{LineData}
+use Rattle.go_model.specs.LineOrder.{AreInOrder}
+use Rattle.go_check.specs.Found.{use_lines, own_files_view}
+use Rattle.go_check.specs.View.{denotes_by, outline_view}
+use Rattle.go_check.proofs.lines.all_uses.Given as goal
+
+-- what is added, before lines of the files left in order, is in order
+abbrev pub invariant-loop-file : goal.invariant-loop-file
+invariant-loop-file l =
+    (rest : List LineData) → AreInOrder (map (use_lines (outline_view l.outline) (denotes_by l.around)) (own_files_view (drop l.file-index l.files))) rest → AreInOrder (map (use_lines (outline_view l.outline) (denotes_by l.around)) (own_files_view l.files)) (map line_view l.lines.items ++ rest)

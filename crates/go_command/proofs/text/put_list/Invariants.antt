@@ -1,7 +1,0 @@
-use Rattle.std.proofs.Common.{◌≡◌, ◌++◌, take}
-use Rattle.std.specs.List.{flat_map}
-use Rattle.go_model.specs.Text.Lines.{broken_fields, line_text}
-use Rattle.go_command.proofs.text.put_list.Given as goal
-
-abbrev pub invariant-loop-broken : goal.invariant-loop-broken
-invariant-loop-broken l = l.out.items ≡ l.initial.out.items ++ flat_map (λ broken. line_text (broken_fields broken)) (take l.broken-index l.list)

@@ -1,0 +1,2 @@
+-- what specs and declarations stand for
+pub mod Views

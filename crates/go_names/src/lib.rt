@@ -1,0 +1,20 @@
+//! What the files of a package declare outside functions, and which identifiers occur in it, read off their trees.
+//!
+//! `specs_of` lists the specs of a package, file by file, and `declarations_of` their declarations; imports aside, no
+//! other call matches on kinds of declarations. `inner_parts` gives the parts of a node in which identifiers occur and
+//! nodes stand that can have records; `names_in_specs` lists the identifiers that occur.
+#![tactic(auto)]
+
+mod declaration;
+mod imports;
+mod inner;
+mod occurrences;
+mod spec;
+#[cfg(test)]
+mod tests;
+
+pub use declaration::{Declaration, declarations_in, declarations_of};
+pub use imports::import_specs;
+pub use inner::inner_parts;
+pub use occurrences::names_in_specs;
+pub use spec::{Spec, specs_in_file, specs_of};

@@ -1,0 +1,4 @@
+pub mod FieldLemmas
+pub mod TextLemmas
+pub mod TypeLemmas
+pub mod VerdictLemmas
