@@ -1,1 +1,2 @@
+pub mod OneRunLemmas
 pub mod RunLemmas

@@ -5,9 +5,11 @@
 //! ends with.
 #![tactic(auto)]
 
+mod laws;
 mod run;
 mod words;
 
+pub use laws::one_run;
 pub use run::gocheck;
 
 #[cfg(test)]

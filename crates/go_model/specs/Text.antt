@@ -1,4 +1,5 @@
--- The text of a report: its lines, and the places, types and values in them.
+-- The text of a report: its lines, the places, types and values in them, and its summary.
 pub mod Lines
 pub mod Places
+pub mod Summary
 pub mod Values

@@ -8,10 +8,12 @@ use go_term::Term;
 use std::alloc::Global;
 use std::test::Fail;
 
-// A universe name, and a declared one.
+// A universe name, a declared one, and one that is declared in a function.
 const STRING: ObjId = ObjId(20);
 
 const DECLARED: ObjId = ObjId(50);
+
+const LOCAL: ObjId = ObjId(51);
 
 fn name(alloc: Global, text: &str) -> Result<Name, NoMemory> {
     Ok(Name::new(String::from_str(alloc, text)?))
@@ -38,8 +40,8 @@ fn object(alloc: Global, object: ObjId, path: &str, text: &str) -> Result<NamedO
         object,
         path: name(alloc, path)?,
         name: name(alloc, text)?,
-        at: None,
-        local: false,
+        at: Some(at(alloc, 5, 2)?),
+        local: object == LOCAL,
         params: Vec::new(alloc),
     })
 }
@@ -70,7 +72,7 @@ fn used(alloc: Global) -> Result<Line, NoMemory> {
 
 fn expression(alloc: Global) -> Result<Line, NoMemory> {
     let end = LineCol { line: 3, col: 14 };
-    let term = Term::Named(DECLARED);
+    let term = Term::Named(LOCAL);
     Ok(Line {
         at: at(alloc, 3, 13)?,
         what: What::Expr(end, Mode::Const, Some(term), Some(Value::Int(7))),
@@ -88,6 +90,7 @@ fn records(alloc: Global) -> Result<Records, NoMemory> {
         named: vec![in alloc;
             object(alloc, STRING, "", "string")?,
             object(alloc, DECLARED, "m", "T")?,
+            object(alloc, LOCAL, "m", "L")?,
         ]?,
     })
 }
@@ -125,7 +128,7 @@ const TEXT: &str = "module\tm\t1.21\n\
     def\ta.go:3:7\tA\tconst\tm.T\t7\n\
     def\ta.go:4:7\tB\tconst\tstring\t\"\\\"\\x0a\"\n\
     use\ta.go:3:9\tstring\tuniverse\n\
-    expr\ta.go:3:13\t3:14\tconst\tm.T\t7\n\
+    expr\ta.go:3:13\t3:14\tconst\tm.L@a.go:5:2\t7\n\
     package\tm/q\tq\trefused\n\
     broken\ta.go:2:1\tR14\n\
     package\tm/r\tr\tskipped\n";

@@ -8,8 +8,10 @@ ghost use Rattle.go_term.specs.Types.{named as named_type, type_of};
 ghost use Rattle.go_model.specs.Report.{named_view};
 ghost use Rattle.go_model.specs.Text.Values as texts;
 
+use crate::places::place_text;
 use go_base::ObjId;
 use go_model::NamedObject;
+use go_module::At;
 use go_num::Value;
 use go_term::Term;
 use std::alloc::{AllocError, Global};
@@ -45,10 +47,34 @@ fn find_named(named: &[NamedObject], object: ObjId) -> Option<&NamedObject>
     named.iter().find(|n| n.object == object)
 }
 
-// The path of the object's package, if it has one, and its name.
-#[tactic(auto, using(crate::proofs::TypeLemmas::behind_path))]
+// The name of an object behind its path, and its place behind them where it is declared in a function.
 fn named_text(alloc: Global, found: &NamedObject) -> Result<String, AllocError>
     ensures { IfOk result (λ text. string_bytes text ≡ texts.named_text (named_view found.now)) }
+{
+    let mut text = path_and_name(alloc, found)?;
+    if found.local {
+        put_place(alloc, &mut text, &found.at)?;
+    }
+    Ok(text)
+}
+
+// `@` and a place, if there is one.
+fn put_place(alloc: Global, text: &mut String, at: &Option<At>) -> Result<(), AllocError>
+    ensures { OnOk result (string_bytes text.new ≡ string_bytes text.old ++ texts.behind_name at.now) }
+{
+    match at {
+        None => Ok(()),
+        Some(at) => {
+            text.push('@')?;
+            text.push_str(place_text(alloc, at)?.as_str())
+        }
+    }
+}
+
+// The path of the object's package, if it has one, and its name.
+#[tactic(auto, using(crate::proofs::TypeLemmas::behind_path))]
+fn path_and_name(alloc: Global, found: &NamedObject) -> Result<String, AllocError>
+    ensures { IfOk result (λ text. string_bytes text ≡ texts.path_text found.now.path ++ found.now.name) }
 {
     let path = found.path.as_str();
     let name = found.name.as_str();

@@ -1,22 +1,29 @@
 -- The text of types and values.
 -- Decides how a type and the value of a constant read. A type that a declaration names reads by its object.
-use Rattle.std.specs.Prelude.{ℕ, ◌+◌, ◌-◌, ◌/◌, ◌%◌, ◌==◌, nat_lt, ◌&&◌, ◌||◌, Bool, true, false, if◌then◌else◌, List, [], ◌∷◌, ◌++◌, length, take, find, codes, decimal}
+use Rattle.std.specs.Prelude.{ℕ, ◌+◌, ◌-◌, ◌/◌, ◌%◌, ◌==◌, nat_lt, ◌&&◌, ◌||◌, Bool, true, false, if◌then◌else◌, List, [], ◌∷◌, ◌++◌, length, take, find, codes, decimal, Option, Some, None}
 use Rattle.std.specs.Fmt.{signed_decimal}
 use Rattle.std.specs.List.{flat_map}
 use Rattle.std.specs.Option.{option_map_or}
+use Rattle.go_module.specs.declared.places.At.{At}
 use Rattle.go_num.specs.declared.value.Value.{Value}
 use Rattle.go_num.specs.declared.value.Value.TheVariants.{Bool as Truth, Int, Text}
 use Rattle.go_module.specs.Scopes.{same_object}
 use Rattle.go_term.specs.Types.{TypeData, basic, named, basic_text}
 use Rattle.go_model.specs.Report.{NamedData}
+use Rattle.go_model.specs.Text.Places.{place_text}
 
 -- `path.Name`; a universe name has no path
 abbrev pub path_text : List ℕ → List ℕ
 path_text [] = []
 path_text (b ∷ bs) = (b ∷ bs) ++ codes "."
 
+-- `@` and the place of a type that is declared in a function
+abbrev pub behind_name : Option At → List ℕ
+behind_name None = []
+behind_name (Some at) = 64 ∷ place_text at
+
 abbrev pub named_text : NamedData → List ℕ
-named_text n = path_text n.path ++ n.name
+named_text n = (path_text n.path ++ n.name) ++ (if n.local then behind_name n.at else [])
 
 -- by the objects that the types of the package's lines name
 abbrev pub type_text : List NamedData → TypeData → List ℕ
