@@ -1,14 +1,14 @@
 -- The nodes of an expression or a type with their records, node by node.
-use Rattle.std.proofs.Common.{◌≡◌, ℕ, ℤ, Bool, List, [], ◌∷◌, ◌++◌, Option, Some, None, map, reverse, refl, sym, ap, ◌∙◌, append_assoc}
+use Rattle.std.proofs.Common.{◌≡◌, ℕ, Bool, List, [], ◌∷◌, ◌++◌, Option, Some, None, map, reverse, refl, sym, ap, ◌∙◌, append_assoc}
 use Rattle.std.specs.List.{flat_map}
 use Rattle.std.specs.Option.{option_map}
 use Rattle.std.proofs.lemmas.List.{reverse-append}
-use Rattle.go_tree.specs.declared.node_kind.NodeKind.TheVariants.{AddExpr, ParenExpr, SelectorExpr, Name, IntLit}
+use Rattle.go_tree.specs.declared.node_kind.NodeKind.TheVariants.{AddExpr, ParenExpr, SelectorExpr}
 use Rattle.go_tree.specs.Tree.{Tree, branch, no_trees, more_trees}
 use Rattle.go_module.specs.Names.Inner.{inner_parts}
 use Rattle.go_module.specs.Names.Occurrences.{nodes_in}
 use Rattle.go_model.specs.declared.meaning.Meaning.{Meaning}
-use Rattle.go_model.specs.Values.Quests.{Asked, Decided, Done, Quest, run}
+use Rattle.go_model.specs.Values.Quests.{Decided, Done, run}
 use Rattle.go_model.specs.Values.Records.{Headers, record_of}
 use Rattle.go_model.specs.Values.Tests.{asked_of, sum_test}
 use Rattle.go_names.proofs.WalkLemmas.{nodes_in-inner}

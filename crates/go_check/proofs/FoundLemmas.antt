@@ -12,11 +12,11 @@ use Rattle.go_tree.specs.Tree.{Tree, parts_of, tree_of}
 use Rattle.go_module.specs.Modules.Heads.{import_specs}
 use Rattle.go_module.specs.Modules.Module.{FileData, PackageData}
 use Rattle.go_module.specs.Names.Declarations.{declarations_in, specs_in_file}
-use Rattle.go_module.specs.Names.Imports.{imports_from, imports_in}
+use Rattle.go_module.specs.Names.Imports.{imports_from}
 use Rattle.go_model.specs.declared.meaning.Meaning.{Meaning}
 use Rattle.go_model.specs.LineOrder.{AreInOrder, no_file, one_more}
 use Rattle.go_model.specs.Outline.{Outline, declared_by, declared_from, declaring}
-use Rattle.go_model.specs.PackageLines.{AreLines, declaration_defs, defs_from, defs_in, exprs_from, exprs_in, import_defs, import_defs_in, uses_from, uses_in}
+use Rattle.go_model.specs.PackageLines.{AreLines, declaration_defs, defs_from, exprs_from, exprs_in, import_defs, import_defs_in, uses_from, uses_in}
 use Rattle.go_model.specs.Report.{LineData}
 use Rattle.go_model.specs.Values.Records.{Headers}
 use Rattle.go_check.specs.Found.{OwnFileData, declared_in_file, def_lines, expr_lines, import_lines, own_file, own_files_from, own_files_in, use_lines}

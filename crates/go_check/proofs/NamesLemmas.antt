@@ -7,9 +7,9 @@ use Rattle.go_module.specs.declared.scopes.Scopes.{Scopes}
 use Rattle.go_module.specs.Modules.Module.{ModuleData, PackageData}
 use Rattle.go_module.specs.Names.Tables.{IsScopesOf}
 use Rattle.go_module.proofs.MemberLemmas.{cons_cases}
-use Rattle.go_scope.specs.Collecting.{AreBefore, IsBrokenNames, IsCollected}
+use Rattle.go_scope.specs.Collecting.{AreBefore, IsCollected}
 use Rattle.go_check.specs.declared.names.NamesVerdict.{NamesVerdict}
-use Rattle.go_check.specs.declared.names.NamesVerdict.TheVariants.{Sound, Broken, Unasked}
+use Rattle.go_check.specs.declared.names.NamesVerdict.TheVariants.{Unasked}
 use Rattle.go_check.specs.declared.names.Names.{Names}
 use Rattle.go_check.specs.Names.{AddsOne, AreNames, ImportsSound, IsBrokenAt, is_sound, sound_at}
 

@@ -11,7 +11,7 @@ use Rattle.go_model.specs.Values.Meaning.{KnownValues}
 use Rattle.go_check.specs.declared.module.State.{State}
 use Rattle.go_check.specs.declared.names.Names.{Names}
 use Rattle.go_check.specs.Names.{ImportsSound, sound_at}
-use Rattle.go_check.specs.State.{StateData, IsFront, IsState, state_view}
+use Rattle.go_check.specs.State.{StateData, IsFront, IsState}
 use Rattle.go_check.proofs.NamesLemmas.{each_passes, one_longer}
 
 -- what stands from a place on

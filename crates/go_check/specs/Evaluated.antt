@@ -11,7 +11,7 @@ use Rattle.go_module.specs.Names.Occurrences.{nodes_in}
 use Rattle.go_model.specs.declared.meaning.Meaning.{Meaning}
 use Rattle.go_model.specs.PackageLines.{record_line}
 use Rattle.go_model.specs.Report.{LineData}
-use Rattle.go_model.specs.Values.Quests.{Asked, Decided, Lacks, Done, run}
+use Rattle.go_model.specs.Values.Quests.{Asked, Decided, Lacks, run}
 use Rattle.go_model.specs.Values.Records.{Headers, meant_value, record_of, sum_of}
 use Rattle.go_model.specs.Values.Rules.{rule_at, told_at}
 use Rattle.go_model.specs.Values.Tests.{asked_of, name_test, selector_test, sum_test}

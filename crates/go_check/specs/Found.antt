@@ -11,7 +11,7 @@ use Rattle.go_module.specs.Names.Occurrences.{names_in_parts, nodes_in_parts}
 use Rattle.go_module.specs.NodeParts.{first_part}
 use Rattle.go_model.specs.declared.declared_object.DeclaredObject.{DeclaredObject}
 use Rattle.go_model.specs.declared.meaning.Meaning.{Meaning}
-use Rattle.go_model.specs.Outline.{Outline, declared_by, declaring}
+use Rattle.go_model.specs.Outline.{Outline, declared_by}
 use Rattle.go_model.specs.PackageLines.{declaration_defs, expr_at, import_defs_in, occurrence_uses, written}
 use Rattle.go_model.specs.Report.{LineData}
 use Rattle.go_model.specs.Values.Records.{Headers}

@@ -1,4 +1,4 @@
-use Rattle.std.proofs.Common.{◌≡◌, is_some, sym, ◌∙◌}
+use Rattle.std.proofs.Common.{is_some, sym, ◌∙◌}
 use Rattle.std.proofs.lemmas.List.Folds.{list_all-map}
 use Rattle.go_model.specs.Values.Records.{record_of}
 use Rattle.go_tree.specs.Tree.{tree_of}

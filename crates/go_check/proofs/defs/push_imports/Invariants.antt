@@ -1,4 +1,4 @@
-use Rattle.std.proofs.Common.{◌≡◌, ◌++◌, [], map, drop}
+use Rattle.std.proofs.Common.{◌≡◌, ◌++◌, map, drop}
 use Rattle.std.specs.List.{zip}
 use Rattle.go_model.specs.Report.{line_view}
 use Rattle.go_names.specs.Views.{trees_at}

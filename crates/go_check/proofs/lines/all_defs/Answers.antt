@@ -1,8 +1,7 @@
-use Rattle.std.proofs.Common.{◌≡◌, ◌+◌, ◌++◌, List, [], length, drop, map, ap, ◌∙◌, subst, arith}
-use Rattle.std.proofs.lemmas.List.{append-nil, drop_all}
-use Rattle.go_model.specs.LineOrder.{AreInOrder, no_file}
-use Rattle.go_model.specs.Report.{LineData, line_view}
-use Rattle.go_check.specs.Found.{OwnFileData, def_lines, own_file_view, own_files_view}
+use Rattle.std.proofs.Common.{◌+◌, drop, map, ap, arith}
+use Rattle.std.proofs.lemmas.List.{drop_all}
+use Rattle.go_model.specs.Report.{line_view}
+use Rattle.go_check.specs.Found.{def_lines, own_file_view, own_files_view}
 use Rattle.go_check.specs.Table.{slot_of}
 use Rattle.go_check.specs.View.{means_by, outline_view}
 use Rattle.go_check.proofs.FoundLemmas.{all_added, drop-step, one_added}

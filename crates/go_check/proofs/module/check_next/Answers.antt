@@ -1,8 +1,8 @@
-use Rattle.std.proofs.Common.{◌≡◌, ◌∷◌, ◌++◌, ◌+◌, ◌∙◌, [], length, map, sym, ap, subst}
+use Rattle.std.proofs.Common.{◌≡◌, ◌∙◌, sym, ap, subst}
 use Rattle.std.specs.List.{list_all}
 use Rattle.go_graph.specs.Graph.{is_marked}
-use Rattle.go_module.specs.Modules.Module.{PackageData, module_view, package_view}
-use Rattle.go_model.specs.Phases.{imports_accepted, is_accepted}
+use Rattle.go_module.specs.Modules.Module.{module_view, package_view}
+use Rattle.go_model.specs.Phases.{imports_accepted}
 use Rattle.go_model.specs.Report.{skipped, verdict_view}
 use Rattle.go_check.specs.Names.{ImportsSound}
 use Rattle.go_check.specs.State.{state_view}

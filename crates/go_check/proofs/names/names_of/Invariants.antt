@@ -1,4 +1,3 @@
-use Rattle.std.proofs.Common.{◌≡◌}
 use Rattle.go_module.specs.Modules.Module.{module_view}
 use Rattle.go_check.specs.Names.{AreNames}
 use Rattle.go_check.proofs.names.names_of.Given as goal

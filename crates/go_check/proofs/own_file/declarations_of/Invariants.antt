@@ -1,4 +1,4 @@
-use Rattle.std.proofs.Common.{◌≡◌, ◌++◌, [], map, drop}
+use Rattle.std.proofs.Common.{◌≡◌, ◌++◌, drop}
 use Rattle.go_module.specs.Names.Declarations as names
 use Rattle.go_names.specs.Views.{declarations_view}
 use Rattle.go_check.specs.Found.{all_specs_in, own_files_view}

@@ -1,4 +1,4 @@
-use Rattle.std.proofs.Common.{◌≡◌, ◌==◌, ℕ, List, nat_eq, ap, ◌∙◌}
+use Rattle.std.proofs.Common.{◌==◌, nat_eq, ap, ◌∙◌}
 use Rattle.std.proofs.lemmas.Result.{IfOk-weaker}
 use Rattle.std.specs.List.{find}
 use Rattle.std.specs.Option.{option_copied}

@@ -1,5 +1,4 @@
-use Rattle.std.proofs.Common.{◌≡◌, [], length, Some, None, rules, refl, sym, ◌∙◌}
-use Rattle.std.specs.Prelude.{slice_get}
+use Rattle.std.proofs.Common.{◌≡◌, [], length, rules, refl, sym, ◌∙◌}
 use Rattle.std.proofs.lemmas.Option.{slice_get_past, slice_get_read}
 use Rattle.go_module.specs.Modules.Module.{package_view}
 use Rattle.go_check.proofs.DeclaredLemmas.{path_there, no_path}
