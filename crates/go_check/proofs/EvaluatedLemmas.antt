@@ -9,13 +9,13 @@ use Rattle.go_module.specs.Names.Inner.{inner_parts}
 use Rattle.go_module.specs.Names.Occurrences.{nodes_in}
 use Rattle.go_model.specs.declared.meaning.Meaning.{Meaning}
 use Rattle.go_model.specs.Values.Quests.{Decided, Done, run}
-use Rattle.go_model.specs.Values.Records.{Headers, record_of}
-use Rattle.go_model.specs.Values.Tests.{asked_of, sum_test}
+use Rattle.go_model.specs.Outcomes.Walk.{Headers}
+use Rattle.go_check.specs.Judging.{asked_of, sum_test, value_of}
 use Rattle.go_names.proofs.WalkLemmas.{nodes_in-inner}
 use Rattle.go_check.specs.Evaluated.{EvaluatedData, evaluated, all_evaluated, judged_value, judged_asked}
 
 -- a node by the records of its inner parts
-pub judged_value_is : (means : ℕ → Meaning) (headers : Headers) (t : Tree) → judged_value means headers t (map (record_of means headers) (inner_parts t)) ≡ record_of means headers t
+pub judged_value_is : (means : ℕ → Meaning) (headers : Headers) (t : Tree) → judged_value means headers t (map (value_of means headers) (inner_parts t)) ≡ value_of means headers t
 judged_value_is means headers (branch id from to SelectorExpr text no_trees) = refl
 judged_value_is means headers (branch id from to SelectorExpr text (more_trees a no_trees)) = refl
 judged_value_is means headers (branch id from to SelectorExpr text (more_trees a (more_trees b no_trees))) = refl
@@ -33,14 +33,14 @@ done_decided : (headers : Headers) (o : Option Bool) → option_map Decided o �
 done_decided headers None = refl
 done_decided headers (Some b) = refl
 
-pub judged_asked_is : (means : ℕ → Meaning) (headers : Headers) (t : Tree) → judged_asked means headers t (map (record_of means headers) (inner_parts t)) ≡ asked_of means headers t
+pub judged_asked_is : (means : ℕ → Meaning) (headers : Headers) (t : Tree) → judged_asked means headers t (map (value_of means headers) (inner_parts t)) ≡ asked_of means headers t
 judged_asked_is means headers (branch id from to SelectorExpr text no_trees) = refl
 judged_asked_is means headers (branch id from to SelectorExpr text (more_trees a no_trees)) = refl
 judged_asked_is means headers (branch id from to SelectorExpr text (more_trees a (more_trees b no_trees))) = refl
 judged_asked_is means headers (branch id from to SelectorExpr text (more_trees a (more_trees b (more_trees c ts)))) = refl
 judged_asked_is means headers (branch id from to AddExpr text no_trees) = refl
 judged_asked_is means headers (branch id from to AddExpr text (more_trees a no_trees)) = refl
-judged_asked_is means headers (branch id from to AddExpr text (more_trees a (more_trees b no_trees))) = done_decided headers (sum_test (record_of means headers a) (record_of means headers b))
+judged_asked_is means headers (branch id from to AddExpr text (more_trees a (more_trees b no_trees))) = done_decided headers (sum_test (value_of means headers a) (value_of means headers b))
 judged_asked_is means headers (branch id from to AddExpr text (more_trees a (more_trees b (more_trees c ts)))) = refl
 judged_asked_is means headers (branch id from to kind text parts) = refl
 

@@ -18,7 +18,7 @@ use Rattle.go_model.specs.LineOrder.{AreInOrder, no_file, one_more}
 use Rattle.go_model.specs.Outline.{Outline, declared_by, declared_from, declaring}
 use Rattle.go_model.specs.PackageLines.{AreLines, declaration_defs, defs_from, exprs_from, exprs_in, import_defs, import_defs_in, uses_from, uses_in}
 use Rattle.go_model.specs.Report.{LineData}
-use Rattle.go_model.specs.Values.Records.{Headers}
+use Rattle.go_model.specs.Outcomes.Walk.{Headers}
 use Rattle.go_check.specs.Found.{OwnFileData, declared_in_file, def_lines, expr_lines, import_lines, own_file, own_files_from, own_files_in, use_lines}
 use Rattle.go_check.specs.Ordered.{AddsInOrder}
 

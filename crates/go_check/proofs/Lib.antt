@@ -1,3 +1,6 @@
+pub mod AgreementLemmas
+pub mod AwaitedLemmas
+pub mod BrokenLemmas
 pub mod DeclaredLemmas
 pub mod EvaluatedLemmas
 pub mod ExprLemmas

@@ -23,7 +23,7 @@ use Rattle.go_model.specs.Phases.{ArePackageLines, HasHeaders, BreaksValues, IsV
 use Rattle.go_model.specs.Report.{VerdictData, accepted, refused}
 use Rattle.go_model.specs.Values.Headers.{Known}
 use Rattle.go_model.specs.Values.Meaning.{KnownValues, meaning_by, meaning_in, place_among, uses_table}
-use Rattle.go_model.specs.Values.Records.{Headers}
+use Rattle.go_model.specs.Outcomes.Walk.{Headers}
 use Rattle.go_model.specs.Values.Rules.{broken_values}
 use Rattle.go_model.specs.Values.Waiting.{Chain}
 use Rattle.go_scope.specs.Collecting.{IsBrokenNames}

@@ -16,13 +16,13 @@ use Rattle.go_module.proofs.MemberLemmas.{contains_none}
 use Rattle.go_model.specs.declared.meaning.Meaning.{Meaning}
 use Rattle.go_model.specs.declared.meaning.Meaning.TheVariants.{Own, Outer, Predeclared, Other}
 use Rattle.go_model.specs.Outline.{is_predeclared}
-use Rattle.go_model.specs.Values.Lacking.{lacking}
 use Rattle.go_model.specs.Values.Meaning.{KnownValues, denoted_meaning, declared_meaning, outer_meaning}
 use Rattle.go_model.specs.Values.Quests.{Done, run}
-use Rattle.go_model.specs.Values.Records.{Headers, record_of}
-use Rattle.go_model.specs.Values.Tests.{name_test, selector_test, sum_test, asked_of}
-use Rattle.go_model.specs.Values.Waiting.{lacked, lacked_in, lacked_by, Waits, Chain, one, more}
+use Rattle.go_model.specs.Outcomes.Walk.{Headers}
+use Rattle.go_model.specs.Values.Waiting.{Chain, Waits, more, one}
 use Rattle.go_check.specs.declared.around.Around.{Around}
+use Rattle.go_check.specs.Judging.{asked_of, lacked, lacked_by, lacked_in, lacking, name_test, selector_test, sum_test, value_of}
+use Rattle.go_check.proofs.AwaitedLemmas.{awaited_lacked, lacked_awaited}
 use Rattle.go_check.specs.View.{PlacesBelow, denotes_by, means_by, places_by}
 
 -- only a name and a selector lack a header
@@ -31,7 +31,7 @@ sum_lacks headers None = refl
 sum_lacks headers (Some b) = refl
 
 lacks_none : (means : ℕ → Meaning) (headers : Headers) (t : Tree) → (kind_of t ≡ Name → ⊥) → ((a b : Tree) → kind_of t ≡ SelectorExpr → parts_of t ≡ more_trees a (more_trees b no_trees) → ⊥) → lacked (asked_of means headers t) ≡ []
-lacks_none means headers (branch id from to AddExpr text (more_trees x (more_trees y no_trees))) n s = sum_lacks headers (sum_test (record_of means headers x) (record_of means headers y))
+lacks_none means headers (branch id from to AddExpr text (more_trees x (more_trees y no_trees))) n s = sum_lacks headers (sum_test (value_of means headers x) (value_of means headers y))
 lacks_none means headers (branch id from to Name text parts) n s = absurd (n refl)
 lacks_none means headers (branch id from to SelectorExpr text (more_trees x (more_trees y no_trees))) n s = absurd (s x y refl refl)
 lacks_none means headers t n s = refl
@@ -59,7 +59,7 @@ module _ (n : ℕ) (means : ℕ → Meaning) (headers : Headers) (below : (id pl
   own_within : (t : Tree) → All (λ k. k < n) (lacked (asked_of means headers t))
   own_within (branch id from to Name text parts) = name_within n headers (means id) (below id)
   own_within (branch id from to SelectorExpr text (more_trees x (more_trees y no_trees))) =
-      subst (All (λ k. k < n)) (sym (selector_lacks headers (means (id_of y)) (record_of means headers x))) (name_within n headers (means (id_of y)) (below (id_of y)))
+      subst (All (λ k. k < n)) (sym (selector_lacks headers (means (id_of y)) (value_of means headers x))) (name_within n headers (means (id_of y)) (below (id_of y)))
   own_within t = subst (All (λ k. k < n)) (sym (lacks_none means headers t (λ e. cc) (λ a b e two. cc))) (All-nil (λ k. k < n))
 
   flat_within : {X : Type 0} (f : X → List ℕ) → ((x : X) → All (λ k. k < n) (f x)) → (xs : List X) → All (λ k. k < n) (flat_map f xs)
@@ -116,10 +116,10 @@ module _ (means : ℕ → Meaning) (headers : Headers) (declarations : List Decl
   edge_waits : (d e : ℕ) → HasEdge (lacking means headers declarations) d e → Waits means declarations headers d e
   edge_waits d e leads =
       let at = row_declared (lacked_by means headers) declarations d e leads in
-      record { declaration = at.0; declared = at.1; lacks = at.2 }
+      record { declaration = at.0; declared = at.1; awaits = lacked_awaited means headers at.0 e at.2 }
 
   waits_edge : (d e : ℕ) → Waits means declarations headers d e → HasEdge (lacking means headers declarations) d e
-  waits_edge d e w = subst (λ (xs : List ℕ). Contains xs e) (sym (declared_row (lacked_by means headers) declarations d w.declaration w.declared)) w.lacks
+  waits_edge d e w = subst (λ (xs : List ℕ). Contains xs e) (sym (declared_row (lacked_by means headers) declarations d w.declaration w.declared)) (awaited_lacked means headers w.declaration e w.awaits)
 
   path_chain : (d e : ℕ) → Path (lacking means headers declarations) d e → Chain means declarations headers d e
   path_chain d e (start _ leads) = one e (edge_waits d e leads)

@@ -12,9 +12,8 @@ use Rattle.go_model.specs.declared.meaning.Meaning.{Meaning}
 use Rattle.go_model.specs.PackageLines.{record_line}
 use Rattle.go_model.specs.Report.{LineData}
 use Rattle.go_model.specs.Values.Quests.{Asked, Decided, Lacks, run}
-use Rattle.go_model.specs.Values.Records.{Headers, meant_value, record_of, sum_of}
-use Rattle.go_model.specs.Values.Rules.{rule_at, told_at}
-use Rattle.go_model.specs.Values.Tests.{asked_of, name_test, selector_test, sum_test}
+use Rattle.go_model.specs.Outcomes.Walk.{Headers}
+use Rattle.go_check.specs.Judging.{asked_of, meant_value, name_test, rule_at, selector_test, sum_of, sum_test, told_at, value_of}
 use Rattle.go_check.specs.declared.evaluated.Evaluated.{Evaluated}
 use Rattle.go_check.specs.declared.evaluated.Tested.{Tested}
 use Rattle.go_check.specs.declared.evaluated.Tested.TheVariants.{Yes, No, Waits}
@@ -26,7 +25,7 @@ pub record EvaluatedData : Type 0 where
   pub asked : Option (Asked Bool)
 
 abbrev pub evaluated : (ℕ → Meaning) → Headers → Tree → EvaluatedData
-evaluated means headers t = record { tree = t; value = record_of means headers t; asked = asked_of means headers t }
+evaluated means headers t = record { tree = t; value = value_of means headers t; asked = asked_of means headers t }
 
 -- those of the nodes of an expression or a type
 abbrev pub all_evaluated : (ℕ → Meaning) → Headers → Tree → List EvaluatedData

@@ -14,7 +14,7 @@ use Rattle.go_model.specs.declared.meaning.Meaning.{Meaning}
 use Rattle.go_model.specs.Outline.{Outline, declared_by}
 use Rattle.go_model.specs.PackageLines.{declaration_defs, expr_at, import_defs_in, occurrence_uses, written}
 use Rattle.go_model.specs.Report.{LineData}
-use Rattle.go_model.specs.Values.Records.{Headers}
+use Rattle.go_model.specs.Outcomes.Walk.{Headers}
 use Rattle.go_names.specs.Views.{specs_view, trees_at}
 use Rattle.go_check.specs.declared.own_file.OwnFile.{OwnFile}
 

@@ -1,5 +1,7 @@
 -- what inner functions promise each other
 pub mod View
+pub mod Judging
+pub mod Agreement
 pub mod Evaluated
 pub mod Sources
 pub mod Found

@@ -7,7 +7,7 @@ use Rattle.go_model.specs.declared.meaning.Meaning.{Meaning}
 use Rattle.go_model.specs.Outline.{Outline}
 use Rattle.go_model.specs.PackageLines.{AreLines, named_in}
 use Rattle.go_model.specs.Report.{LineData, VerdictData, accepted}
-use Rattle.go_model.specs.Values.Records.{Headers}
+use Rattle.go_model.specs.Outcomes.Walk.{Headers}
 
 -- it is accepted with its lines, and with the objects that their types name
 pub record IsAccepting (outline : Outline) (k : ℕ) (p : PackageData) (denotes : NodeId → Option ObjId) (means : ℕ → Meaning) (headers : Headers) (verdict : VerdictData) : Type 0 where

@@ -8,6 +8,7 @@ ghost use Rattle.go_model.specs.Values.Rules as rules;
 ghost use Rattle.go_names.specs.Views.{spec_view};
 ghost use Rattle.go_check.specs.Evaluated.{evaluated_view, evaluated_views};
 ghost use Rattle.go_check.specs.Evaluated as evaluation;
+ghost use Rattle.go_check.specs.Judging.{rule_at};
 ghost use Rattle.go_check.specs.Table.{slot_of};
 ghost use Rattle.go_check.specs.View.{means_by};
 
@@ -143,7 +144,7 @@ fn push_one(
 
 // The rule that the test at a node of this kind decides.
 fn rule_at(kind: NodeKind) -> Rule
-    ensures { result ≡ rules.rule_at kind }
+    ensures { result ≡ rule_at kind }
 {
     match kind {
         NodeKind::IntLit => WIDE_INTEGER,

@@ -6,10 +6,9 @@ ghost use Rattle.go_tree.specs.Tree.{tree_of};
 ghost use Rattle.go_module.specs.Names.Inner.{inner_parts};
 ghost use Rattle.go_model.specs.declared.meaning.Meaning.TheVariants as meanings;
 ghost use Rattle.go_model.specs.Values.Quests.{Decided, run};
-ghost use Rattle.go_model.specs.Values.Records.{record_of};
-ghost use Rattle.go_model.specs.Values.Tests.{name_test, selector_test, sum_test};
 ghost use Rattle.go_check.specs.Evaluated as spec;
 ghost use Rattle.go_check.specs.Evaluated.{all_evaluated, evaluated_views, tested_view};
+ghost use Rattle.go_check.specs.Judging.{name_test, selector_test, sum_test, value_of};
 ghost use Rattle.go_check.specs.Table.{slot_of};
 ghost use Rattle.go_check.specs.View.{means_by};
 
@@ -64,7 +63,7 @@ fn push_evaluated<'a>(
     list: &mut Vec<Evaluated<'a>>,
 ) -> Result<Option<i128>, NoMemory>
     ensures value { IfOk result (λ value.
-        value ≡ record_of (means_by around.now) (slot_of table.now) (tree_of node.now)) }
+        value ≡ value_of (means_by around.now) (slot_of table.now) (tree_of node.now)) }
     ensures list { OnOk result (evaluated_views list.new.items ≡ evaluated_views list.old.items
         ++ reverse (all_evaluated (means_by around.now) (slot_of table.now) (tree_of node.now))) }
 {
@@ -86,7 +85,7 @@ fn judged<'a>(
     node: &'a Node,
     values: &[Option<i128>],
 ) -> Evaluated<'a>
-    requires { values.now ≡ map (record_of (means_by around.now) (slot_of table.now)) (inner_parts (tree_of node.now)) }
+    requires { values.now ≡ map (value_of (means_by around.now) (slot_of table.now)) (inner_parts (tree_of node.now)) }
     ensures { spec.evaluated_view result ≡ spec.evaluated (means_by around.now) (slot_of table.now) (tree_of node.now) }
 {
     Evaluated {

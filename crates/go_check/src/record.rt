@@ -3,6 +3,7 @@ ghost use Rattle.std.specs.Prelude.{◌≡◌};
 ghost use Rattle.std.specs.Option.{option_map};
 ghost use Rattle.go_tree.specs.Tree.{tree_of};
 ghost use Rattle.go_model.specs.Values.Records as records;
+ghost use Rattle.go_check.specs.Judging as judging;
 ghost use Rattle.go_check.specs.Table.{slot_of};
 ghost use Rattle.go_check.specs.View.{means_by};
 ghost use Rattle.go_names.specs.Views.{declaration_view};
@@ -20,6 +21,13 @@ use go_tree::{Node, NodeKind};
 pub fn record(around: &Around, table: &[Option<i128>], node: &Node) -> Option<i128>
     ensures { result ≡ records.record_of (means_by around.now) (slot_of table.now) (tree_of node.now) }
 {
+    value(around, table, node)
+}
+
+// The value of an expression as it is found, by its kind, which is that of its record.
+fn value(around: &Around, table: &[Option<i128>], node: &Node) -> Option<i128>
+    ensures { result ≡ judging.value_of (means_by around.now) (slot_of table.now) (tree_of node.now) }
+{
     match node.kind() {
         NodeKind::IntLit => int_lit_value(node.text()),
         NodeKind::Name => meant_value(table, around.meaning(node.id())),
@@ -27,10 +35,10 @@ pub fn record(around: &Around, table: &[Option<i128>], node: &Node) -> Option<i1
             let (_, name) = node.both_parts()?;
             meant_value(table, around.meaning(name.id()))
         }
-        NodeKind::ParenExpr => record(around, table, node.only_part()?),
+        NodeKind::ParenExpr => value(around, table, node.only_part()?),
         NodeKind::AddExpr => {
             let (left, right) = node.both_parts()?;
-            sum(record(around, table, left), record(around, table, right))
+            sum(value(around, table, left), value(around, table, right))
         }
         _ => None,
     }
@@ -62,7 +70,7 @@ fn bound_value<'a>(declaration: &Declaration<'a>) -> Option<&'a Node>
 
 /// The value of an identifier, by its meaning.
 pub fn meant_value(table: &[Option<i128>], meaning: Meaning) -> Option<i128>
-    ensures { result ≡ records.meant_value (slot_of table.now) meaning }
+    ensures { result ≡ judging.meant_value (slot_of table.now) meaning }
 {
     match meaning {
         Meaning::Own(place) => slot(table, place),
@@ -81,7 +89,7 @@ pub fn slot(table: &[Option<i128>], place: usize) -> Option<i128>
 
 /// The record of a sum, by those of its operands.
 pub fn sum(left: Option<i128>, right: Option<i128>) -> Option<i128>
-    ensures { result ≡ records.sum_of left right }
+    ensures { result ≡ judging.sum_of left right }
 {
     int_binary(IntOp::Add, left?, right?).ok()
 }

@@ -2,12 +2,12 @@
 ghost use Rattle.std.specs.Prelude.{◌≡◌, ◌++◌, ◌↔◌, ℕ, true, IfOk, OnOk, length, map};
 ghost use Rattle.std.specs.List.{flat_map};
 ghost use Rattle.go_graph.specs.Graph.{is_marked};
-ghost use Rattle.go_model.specs.Values.Lacking.{lacking};
-ghost use Rattle.go_model.specs.Values.Waiting as waiting;
-ghost use Rattle.go_model.specs.Values.Waiting.{Chain, lacked};
+ghost use Rattle.go_model.specs.Values.Waiting.{Chain};
 ghost use Rattle.go_names.specs.Views.{declaration_view, declarations_view};
 ghost use Rattle.go_tree.specs.Tree.{tree_of};
 ghost use Rattle.go_check.specs.Evaluated.{evaluated_view, evaluated_views};
+ghost use Rattle.go_check.specs.Judging as judging;
+ghost use Rattle.go_check.specs.Judging.{lacked, lacking};
 ghost use Rattle.go_check.specs.Table.{slot_of};
 ghost use Rattle.go_check.specs.View.{PlacesBelow, means_by};
 
@@ -60,7 +60,7 @@ fn lacked_by(
     declaration: &Declaration,
 ) -> Result<Numbers, NoMemory>
     ensures { IfOk result (λ places. places
-        ≡ waiting.lacked_by (means_by around.now) (slot_of table.now) (declaration_view declaration.now)) }
+        ≡ judging.lacked_by (means_by around.now) (slot_of table.now) (declaration_view declaration.now)) }
 {
     let mut places = Numbers::new(alloc);
     push_lacked(alloc, around, table, declaration.types, &mut places)?;
@@ -77,7 +77,7 @@ fn push_lacked(
     places: &mut Numbers,
 ) -> Result<(), NoMemory>
     ensures { OnOk result (places.new ≡ places.old
-        ++ flat_map (waiting.lacked_in (means_by around.now) (slot_of table.now)) (map tree_of nodes.now)) }
+        ++ flat_map (judging.lacked_in (means_by around.now) (slot_of table.now)) (map tree_of nodes.now)) }
 {
     for node in nodes {
         push_lacked_in(alloc, around, table, node, places)?;
@@ -94,7 +94,7 @@ fn push_lacked_in(
     places: &mut Numbers,
 ) -> Result<(), NoMemory>
     ensures { OnOk result (places.new
-        ≡ places.old ++ waiting.lacked_in (means_by around.now) (slot_of table.now) (tree_of node.now)) }
+        ≡ places.old ++ judging.lacked_in (means_by around.now) (slot_of table.now) (tree_of node.now)) }
 {
     let list = evaluate(alloc, around, table, node)?;
     push_waits(&list, places)?;

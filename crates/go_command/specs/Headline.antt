@@ -15,7 +15,7 @@ use Rattle.go_model.specs.Status.{refusal_of, verdict_of}
 use Rattle.go_model.specs.Text.Lines.{first_text, report_text}
 use Rattle.go_command.specs.Words.{Roots}
 
--- the text and the status of a run: those of the rules of the first phase of loading that breaks any, or else
+-- the text and the status of a run that writes its text whole: those of the rules of the first phase of loading that breaks any, or else
 -- those of the report of the module that is loaded
 pub data RunOf (told : Option (List MemFile)) (roots : Roots) : List ℕ → Status → Type 0 where
   first : (list : List Placed) → LoadsBroken told roots.root roots.stubs list

@@ -2,35 +2,27 @@
 use Rattle.std.proofs.Common.{◌≡◌, ℕ, ℤ, Option, Some, None, List, [], ◌∷◌, ◌++◌, refl, sym, ap, ◌∙◌, subst, inl, inr, ⊎_elim}
 use Rattle.std.specs.Prelude.{option_and_then}
 use Rattle.std.proofs.lemmas.Bool.{cases_eq, eq-eqb, ne_eqb}
-use Rattle.go_tree.specs.declared.node_kind.NodeKind.TheVariants.{AddExpr, ParenExpr, SelectorExpr, Name, IntLit}
-use Rattle.go_tree.specs.Tree.{Tree, branch, no_trees, more_trees, id_of}
+use Rattle.go_tree.specs.Tree.{Tree}
 use Rattle.go_model.specs.declared.meaning.Meaning.{Meaning}
-use Rattle.go_model.specs.declared.meaning.Meaning.TheVariants.{Own, Outer, Predeclared, Other}
 use Rattle.go_module.specs.Names.Declarations.{Declaration}
-use Rattle.go_model.specs.Values.Records.{Headers, bound_value, meant_value, sum_of, record_of, value_over}
+use Rattle.go_model.specs.Outcomes.Judged.{Broken, Found, Nothing, OutcomeData, Waits}
+use Rattle.go_model.specs.Outcomes.Readings.{record_in}
+use Rattle.go_model.specs.Outcomes.Walk.{Headers, outcome}
+use Rattle.go_model.specs.Values.Records.{bound_value, record_of, value_over}
 use Rattle.go_model.specs.Values.Headers.{headers_of, Follows, Justified, Holds, Known}
 use Rattle.go_model.specs.Values.Quests.{IsPart}
+use Rattle.go_model.proofs.OutcomeLemmas.{outcome_stays}
 
-sum_of-part : (a b a' b' : Option ℤ) (v : ℤ) → ((x : ℤ) → a ≡ Some x → a' ≡ Some x) → ((x : ℤ) → b ≡ Some x → b' ≡ Some x) → sum_of a b ≡ Some v → sum_of a' b' ≡ Some v
-sum_of-part None b a' b' v pa pb e = cc
-sum_of-part (Some x) None a' b' v pa pb e = cc
-sum_of-part (Some x) (Some y) a' b' v pa pb e = rw (pa x refl, pb y refl) e
-
-meant-part : (known more : Headers) → IsPart known more → (m : Meaning) (v : ℤ) → meant_value known m ≡ Some v → meant_value more m ≡ Some v
-meant-part known more part (Own place) v e = part place v e
-meant-part known more part (Outer w) v e = e
-meant-part known more part Predeclared v e = e
-meant-part known more part Other v e = e
+record_in-found : {R : Type 0} (x : OutcomeData R) (r : R) → record_in x ≡ Some r → x ≡ Found r
+record_in-found (Found q) r e = let same : Some q ≡ Some r = e in let is : q ≡ r = cc in ap Found is
+record_in-found (Broken rule spots) r e = absurd (let never : None ≡ Some r = e in cc)
+record_in-found (Waits d) r e = absurd (let never : None ≡ Some r = e in cc)
+record_in-found Nothing r e = absurd (let never : None ≡ Some r = e in cc)
 
 -- a record stays as the map grows
 pub record_of-part : (means : ℕ → Meaning) (known more : Headers) → IsPart known more → (t : Tree) (v : ℤ) → record_of means known t ≡ Some v → record_of means more t ≡ Some v
-record_of-part means known more part (branch id from to IntLit text parts) v e = e
-record_of-part means known more part (branch id from to Name text parts) v e = meant-part known more part (means id) v e
-record_of-part means known more part (branch id from to SelectorExpr text (more_trees operand (more_trees name no_trees))) v e = meant-part known more part (means (id_of name)) v e
-record_of-part means known more part (branch id from to ParenExpr text (more_trees x no_trees)) v e = record_of-part means known more part x v e
-record_of-part means known more part (branch id from to AddExpr text (more_trees x (more_trees y no_trees))) v e =
-    sum_of-part (record_of means known x) (record_of means known y) (record_of means more x) (record_of means more y) v (record_of-part means known more part x) (record_of-part means known more part y) e
-record_of-part means known more part t v e = cc
+record_of-part means known more part t v e =
+    ap record_in ((outcome_stays means known more part t).found v (record_in-found (outcome means known t) v e))
 
 value-part : (means : ℕ → Meaning) (known more : Headers) → IsPart known more → (t : Option Tree) (v : ℤ) → option_and_then (record_of means known) t ≡ Some v → option_and_then (record_of means more) t ≡ Some v
 value-part means known more part None v e = e

@@ -1,8 +1,11 @@
 pub mod EachLemmas
+pub mod EndLemmas
+pub mod ExactLemmas
+pub mod ExactWaitLemmas
 pub mod HeaderLemmas
-pub mod LawLemmas
 pub mod LineOrderLemmas
 pub mod OneReportLemmas
 pub mod OutlineLemmas
+pub mod OutcomeLemmas
 pub mod QuestLemmas
 pub mod StableLemmas

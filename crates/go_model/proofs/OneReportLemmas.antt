@@ -9,7 +9,7 @@ use Rattle.go_module.specs.Order.{IsListOf}
 use Rattle.go_model.specs.Values.Meaning.{KnownValues, meaning_in}
 use Rattle.go_module.specs.Modules.Module.{ModuleData, PackageData}
 use Rattle.go_module.specs.Places.{placed_by}
-use Rattle.go_model.specs.Values.Records.{Headers}
+use Rattle.go_model.specs.Outcomes.Walk.{Headers}
 use Rattle.go_model.specs.Outline.{outline_of}
 use Rattle.go_model.specs.PackageLines.{named_in}
 use Rattle.go_model.specs.Report.{LineData, VerdictData, refused, skipped, accepted, PackageReportData, ReportData}

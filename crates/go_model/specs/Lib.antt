@@ -8,6 +8,7 @@ pub mod Status
 pub mod Text
 -- the values of a package's declarations, and the rules on them
 pub mod Values
+pub mod Outcomes
 pub mod Laws
 -- what these rest on
 pub use Rattle.go_module.specs.Modules

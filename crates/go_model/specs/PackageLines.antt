@@ -26,7 +26,8 @@ use Rattle.go_model.specs.declared.rec.Mode.TheVariants.{Const as ConstMode}
 use Rattle.go_model.specs.Outline.{Outline, declared_at, named_by, path_at}
 use Rattle.go_model.specs.LineOrder.{AreInOrder}
 use Rattle.go_model.specs.Report.{constant, imported, WhatData, defined, used, expression, LineData, NamedData}
-use Rattle.go_model.specs.Values.Records.{Headers, record_of, value_over}
+use Rattle.go_model.specs.Outcomes.Walk.{Headers}
+use Rattle.go_model.specs.Values.Records.{record_of, value_over}
 
 -- the type of each constant
 abbrev pub untyped_int : TypeData

@@ -20,7 +20,8 @@ use Rattle.go_model.specs.Outline.{outline_of}
 use Rattle.go_model.specs.PackageLines.{AreLines, named_in}
 use Rattle.go_module.specs.Graph.{is_marked}
 use Rattle.go_module.specs.Places.{placed_by}
-use Rattle.go_model.specs.Values.Records.{Headers, value_over}
+use Rattle.go_model.specs.Outcomes.Walk.{Headers}
+use Rattle.go_model.specs.Values.Records.{value_over}
 use Rattle.go_model.specs.Report.{LineData, VerdictData, accepted, refused, skipped, PackageReportData, ReportData}
 use Rattle.go_model.specs.Values.Rules.{broken_values}
 use Rattle.go_module.specs.Scopes.{same_node, same_object}

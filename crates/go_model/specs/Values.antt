@@ -3,7 +3,5 @@ pub mod Meaning
 pub mod Records
 pub mod Headers
 pub mod Quests
-pub mod Tests
 pub mod Waiting
-pub mod Lacking
 pub mod Rules

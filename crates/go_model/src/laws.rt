@@ -1,15 +1,18 @@
 // Laws of the maps of headers, which hold of every map, and of the report and the objects of a module: each
 // is the contract of a function that does nothing.
 ghost use Rattle.std.specs.Prelude.{◌≡◌, ℕ, List, Option};
-ghost use Rattle.go_tree.specs.Tree.{Tree};
+ghost use Rattle.go_tree.specs.Tree.{Tree, Trees};
 ghost use Rattle.go_model.specs.Values.Quests.{IsPart, Quest, Stays, run};
 ghost use Rattle.go_model.specs.declared.meaning.Meaning.{Meaning};
 ghost use Rattle.go_module.specs.Names.Declarations.{Declaration};
 ghost use Rattle.go_module.specs.Modules.Module.{ModuleData};
-ghost use Rattle.go_model.specs.Values.Records.{Headers};
+ghost use Rattle.go_model.specs.Outcomes.Walk.{Headers};
 ghost use Rattle.go_model.specs.Phases.{ReportOf};
 ghost use Rattle.go_model.specs.Report.{ReportData};
-ghost use Rattle.go_model.specs.Laws.{DeclaredEverywhere, TestStays, RecordsStay, OneHeader};
+ghost use Rattle.go_tree.specs.declared.node_kind.NodeKind.{NodeKind};
+ghost use Rattle.go_model.specs.Outcomes.Exactly.{OutcomeExactly};
+ghost use Rattle.go_model.specs.Outcomes.Stays.{OutcomeStays};
+ghost use Rattle.go_model.specs.Laws.{DeclaredEverywhere, OneHeader};
 
 /// A question that is decided over some headers is decided alike over more, and one that lacks a
 /// header lacks it as long as it is missing.
@@ -18,17 +21,22 @@ pub fn decided_stays<H, A>()
         → (q : Quest H A) → Stays more (run known q) (run more q) }
 {}
 
-/// A test at a node that is asked over some headers is asked alike over more: one that is decided is
-/// decided alike, and one that lacks a header lacks it as long as it is missing.
-pub fn tests_stay()
+/// The outcome of a node over some headers and over more: a record stays, a broken rule stays, at its places and maybe
+/// more, and `Nothing` stays `Nothing`. What a node waits for is missing; it waits for that or has failed as long as that is
+/// missing.
+pub fn outcomes_stay()
     ensures { (means : ℕ → Meaning) (known more : Headers) → IsPart known more
-        → (t : Tree) → TestStays means known more t }
+        → (t : Tree) → OutcomeStays means known more t }
 {}
 
-/// A record over some headers is the record over more.
-pub fn records_stay()
-    ensures { (means : ℕ → Meaning) (known more : Headers) → IsPart known more
-        → RecordsStay means known more }
+/// A node has a record exactly where its operands have, its tests are all Yes and what its record asks is decided. It breaks
+/// a rule exactly where its operands have records, the tests before are Yes and that one is No, at exactly the places where
+/// it is No. It waits exactly where its first operand without a record does and none has failed, or where its first test
+/// that is not Yes is No nowhere and lacks a header, or where what its record asks lacks one. It has nothing exactly where
+/// an operand has failed or nothing is asked.
+pub fn outcomes_exactly()
+    ensures { (means : ℕ → Meaning) (headers : Headers) (id from to : ℕ) (kind : NodeKind) (text : List ℕ) (parts : Trees)
+        → OutcomeExactly means headers id from to kind text parts }
 {}
 
 /// A declaration has at most one header.

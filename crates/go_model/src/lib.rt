@@ -1,10 +1,11 @@
-//! What the checker is held against: headers, records, tests, the rules on values, reports and their text.
+//! What the checker is held against: headers, records, outcomes, the rules on values, reports and their text.
 //!
 //! The definitions stand in specs/: which headers the declarations of a package have (`Records`,
-//! `Headers`), which rules they break (`Tests`, `Waiting`, `Rules`), where objects are declared
-//! (`Outline`), which report a module has (`Phases`, `PackageLines`, `LineOrder`, `Report`), and its status
-//! (`Status`). A law is the contract of a function that does nothing. What modules, declarations and
-//! scopes are stands in go_module, whose types are named here again.
+//! `Headers`), which outcome each node of an expression has (`Outcomes`), which rules the declarations
+//! break (`Waiting`, `Rules`), where objects are declared (`Outline`), which report a module has
+//! (`Phases`, `PackageLines`, `LineOrder`, `Report`), its status (`Status`) and how it reads (`Text`). A law
+//! is the contract of a function that does nothing. What modules, declarations and scopes are stands in
+//! go_module, whose types are named here again.
 #![tactic(auto)]
 
 // Laws.
@@ -32,7 +33,7 @@ pub use go_module::{
 };
 pub use header::Header;
 pub use laws::{
-    decided_stays, declared_everywhere, one_header, one_report, records_stay, tests_stay,
+    decided_stays, declared_everywhere, one_header, one_report, outcomes_exactly, outcomes_stay,
 };
 pub use lines::{DefKind, Line, NamedObject, Records, What};
 pub use meaning::Meaning;

@@ -12,7 +12,7 @@ pub enum Answer {
 }
 
 /// What a node comes to: its record; the rule that it breaks, and where; the header that it waits for;
-/// or nothing, where an operand has no record for another cause than a header.
+/// or nothing, where an operand has no record for another cause than a header, or nothing is asked.
 #[derive(Debug, Drop)]
 pub enum Outcome {
     Found(Rec),

@@ -40,7 +40,11 @@ fn object(alloc: Global, object: ObjId, path: &str, text: &str) -> Result<NamedO
         object,
         path: name(alloc, path)?,
         name: name(alloc, text)?,
-        at: Some(at(alloc, 5, 2)?),
+        at: if object == STRING {
+            None
+        } else {
+            Some(at(alloc, 5, 2)?)
+        },
         local: object == LOCAL,
         params: Vec::new(alloc),
     })

@@ -60,7 +60,7 @@ fn named_text(alloc: Global, found: &NamedObject) -> Result<String, AllocError>
 
 // `@` and a place, if there is one.
 fn put_place(alloc: Global, text: &mut String, at: &Option<At>) -> Result<(), AllocError>
-    ensures { OnOk result (string_bytes text.new ≡ string_bytes text.old ++ texts.behind_name at.now) }
+    ensures { OnOk result (string_bytes text.new ≡ string_bytes text.old ++ texts.at_text at.now) }
 {
     match at {
         None => Ok(()),

@@ -12,18 +12,19 @@ use Rattle.go_term.specs.Types.{TypeData, basic, named, basic_text}
 use Rattle.go_model.specs.Report.{NamedData}
 use Rattle.go_model.specs.Text.Places.{place_text}
 
--- `path.Name`; a universe name has no path
+-- the path of a package and a `.`; a universe name has no path
 abbrev pub path_text : List ℕ → List ℕ
 path_text [] = []
 path_text (b ∷ bs) = (b ∷ bs) ++ codes "."
 
--- `@` and the place of a type that is declared in a function
-abbrev pub behind_name : Option At → List ℕ
-behind_name None = []
-behind_name (Some at) = 64 ∷ place_text at
+-- `@` and a place, if there is one
+abbrev pub at_text : Option At → List ℕ
+at_text None = []
+at_text (Some at) = 64 ∷ place_text at
 
+-- `path.Name`, and behind it `@place` where it is declared in a function
 abbrev pub named_text : NamedData → List ℕ
-named_text n = (path_text n.path ++ n.name) ++ (if n.local then behind_name n.at else [])
+named_text n = (path_text n.path ++ n.name) ++ (if n.local then at_text n.at else [])
 
 -- by the objects that the types of the package's lines name
 abbrev pub type_text : List NamedData → TypeData → List ℕ

@@ -4,7 +4,8 @@
 use Rattle.std.specs.Prelude.{◌≡◌, ℕ, ℤ, ◌==◌, ◌⊎◌, Some, None, List, [], ◌∷◌, slice_get, if◌then◌else◌}
 use Rattle.go_model.specs.declared.meaning.Meaning.{Meaning}
 use Rattle.go_module.specs.Names.Declarations.{Declaration}
-use Rattle.go_model.specs.Values.Records.{Headers, value_over}
+use Rattle.go_model.specs.Outcomes.Walk.{Headers}
+use Rattle.go_model.specs.Values.Records.{value_over}
 
 -- the header h of the declaration d follows from the headers alone
 pub record Follows (means : ℕ → Meaning) (declarations : List Declaration) (headers : Headers) (d : ℕ) (h : ℤ) : Type 0 where

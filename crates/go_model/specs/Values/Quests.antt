@@ -1,7 +1,7 @@
 -- Questions that may need headers.
 -- Says what a question is, and what it comes to over a map of headers: an answer, or the first
 -- declaration whose header the map lacks. No map stands in a question, so what is decided over some
--- headers is decided alike over more. What is asked where is left to `Tests`.
+-- headers is decided alike over more. What is asked where is left to `Outcomes`.
 use Rattle.std.specs.Prelude.{◌≡◌, ℕ, Option, Some, None}
 
 -- what a question comes to over a map of headers: an answer, or the first declaration whose header it

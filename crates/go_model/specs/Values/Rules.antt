@@ -1,33 +1,27 @@
 -- The rules that the values of declarations can break.
--- Decides where the declarations of a package break them, one definition a rule: C1, R37, U0, L2. Which declaration
--- waits for which: `Waiting`. Rules on names: `Names` of go_module; on the form of a file: go_form.
-use Rattle.std.specs.Prelude.{ℕ, ◌+◌, ◌==◌, ◌&&◌, Bool, true, false, not, is_some, Option, Some, None, List, [], ◌∷◌, ◌++◌, length, map, unwrap_or}
+-- Decides where the declarations of a package break them: C1, R37, and what the nodes of expressions break (`Outcomes`).
+-- Which declaration waits for which: `Waiting`. Rules on names: `Names` of go_module; on the form of a file: go_form.
+use Rattle.std.specs.Prelude.{ℕ, ◌+◌, ◌==◌, ◌&&◌, Bool, not, is_some, Option, List, [], ◌∷◌, ◌++◌, length, map}
 use Rattle.std.specs.List.{flat_map, list_all}
 use Rattle.go_base.specs.declared.rule.Broken.{Broken}
 use Rattle.go_base.specs.declared.rule.Rule.{Rule}
-use Rattle.go_base.specs.declared.rule.Family.TheVariants.{C, R, L}
-use Rattle.go_tree.specs.declared.node_kind.NodeKind.{NodeKind}
-use Rattle.go_tree.specs.declared.node_kind.NodeKind.TheVariants.{IntLit, AddExpr}
-use Rattle.go_tree.specs.Tree.{Tree, kind_of, start_of}
+use Rattle.go_base.specs.declared.rule.Family.TheVariants.{C, R}
+use Rattle.go_tree.specs.Tree.{Tree, start_of}
 use Rattle.go_model.specs.declared.meaning.Meaning.{Meaning}
 use Rattle.go_module.specs.Broken.{broken_at, told_if}
 use Rattle.go_module.specs.Places.{with_number}
-use Rattle.go_module.specs.Rules.{unbuilt_form}
 use Rattle.go_module.specs.Modules.Module.{PackageData}
 use Rattle.go_module.specs.Names.Declarations.{Declaration, Spec, declarations_of, specs_of}
 use Rattle.go_module.specs.Names.Occurrences.{nodes_in}
-use Rattle.go_model.specs.Values.Quests.{Asked, Decided, Lacks}
-use Rattle.go_model.specs.Values.Records.{Headers, record_of}
-use Rattle.go_model.specs.Values.Tests.{asked_of}
+use Rattle.go_model.specs.Outcomes.Readings.{broken_spots}
+use Rattle.go_model.specs.Outcomes.Walk.{Headers, outcome}
+use Rattle.go_model.specs.Values.Records.{record_of}
 
 abbrev pub cyclic_declaration : Rule
 cyclic_declaration = record { family = C; number = 1 }
 
 abbrev pub unequal_sides : Rule
 unequal_sides = record { family = R; number = 37 }
-
-abbrev pub wide_integer : Rule
-wide_integer = record { family = L; number = 2 }
 
 -- C1: the name of a declaration that needs its own header
 abbrev pub cyclic_at : Bool → Declaration → List Broken
@@ -38,22 +32,10 @@ abbrev pub broken_cycles : (ℕ → Bool) → ℕ → List Declaration → List 
 broken_cycles cyclic n [] = []
 broken_cycles cyclic n (d ∷ declarations) = cyclic_at (cyclic n) d ++ broken_cycles cyclic (n + 1) declarations
 
--- the rule that the test at a node of this kind decides. L2: each literal and each sum whose value is outside
--- -2^127 to 2^127-1. U0: each predeclared identifier, and each selector of a value
-abbrev pub rule_at : NodeKind → Rule
-rule_at IntLit = wide_integer
-rule_at AddExpr = wide_integer
-rule_at kind = unbuilt_form
-
-abbrev pub told_at : ℕ → ℕ → Rule → Option (Asked Bool) → List Broken
-told_at file offset rule None = []
-told_at file offset rule (Some (Lacks d)) = []
-told_at file offset rule (Some (Decided true)) = []
-told_at file offset rule (Some (Decided false)) = broken_at file offset rule ∷ []
-
--- what a node breaks in the file at a place: told where it starts, or at the offset at which a copy is told
+-- what a node breaks, by its outcome, in the file at a place among those of its package: told where the node breaks it, or
+-- at the offset at which a copy is told
 abbrev pub broken_node : ℕ → Option ℕ → (ℕ → Meaning) → Headers → Tree → List Broken
-broken_node file told means headers t = told_at file (unwrap_or told (start_of t)) (rule_at (kind_of t)) (asked_of means headers t)
+broken_node file told means headers t = broken_spots file told t (outcome means headers t)
 
 abbrev pub broken_in : ℕ → Option ℕ → (ℕ → Meaning) → Headers → Tree → List Broken
 broken_in file told means headers t = flat_map (broken_node file told means headers) (nodes_in t)

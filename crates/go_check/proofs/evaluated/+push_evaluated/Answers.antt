@@ -1,7 +1,7 @@
 use Rattle.std.proofs.Common.{◌≡◌, ◌-◌, ◌++◌, [], ◌∷◌, map, drop, reverse, refl, ap, ◌∙◌, arith}
 use Rattle.std.specs.List.{flat_map}
 use Rattle.std.proofs.lemmas.List.{reverse-reverse}
-use Rattle.go_model.specs.Values.Records.{record_of}
+use Rattle.go_check.specs.Judging.{value_of}
 use Rattle.go_names.proofs.WalkLemmas.{inner_part_smaller}
 use Rattle.go_names.specs.Views.{trees_at}
 use Rattle.go_tree.specs.Tree.{tree_of}
@@ -19,7 +19,7 @@ push_evaluated-requires t c =
 
 pub judged-made-requires : goal.judged-made-requires
 judged-made-requires t c =
-    let recorded = record_of (means_by c.args.around.now) (slot_of c.args.table.now) in
+    let recorded = value_of (means_by c.args.around.now) (slot_of c.args.table.now) in
     let first : c.loop-place.place ≡ 0 = omega arith in
     c.deref.ensures.value
     ∙ c.reverse.ensures.items

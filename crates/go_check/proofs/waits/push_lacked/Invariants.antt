@@ -1,6 +1,6 @@
 use Rattle.std.proofs.Common.{◌≡◌, ◌++◌, drop, map}
 use Rattle.std.specs.List.{flat_map}
-use Rattle.go_model.specs.Values.Waiting.{lacked_in}
+use Rattle.go_check.specs.Judging.{lacked_in}
 use Rattle.go_tree.specs.Tree.{tree_of}
 use Rattle.go_check.specs.Table.{slot_of}
 use Rattle.go_check.specs.View.{means_by}

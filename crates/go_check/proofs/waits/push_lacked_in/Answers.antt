@@ -1,7 +1,7 @@
 use Rattle.std.proofs.Common.{◌++◌, ap, ◌∙◌}
 use Rattle.std.specs.List.{flat_map}
 use Rattle.go_module.specs.Names.Occurrences.{nodes_in}
-use Rattle.go_model.specs.Values.Waiting.{lacked}
+use Rattle.go_check.specs.Judging.{lacked}
 use Rattle.go_tree.specs.Tree.{tree_of}
 use Rattle.go_check.specs.Evaluated.{EvaluatedData, evaluated, evaluated_views}
 use Rattle.go_check.specs.Table.{slot_of}

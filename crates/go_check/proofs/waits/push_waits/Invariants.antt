@@ -1,6 +1,6 @@
 use Rattle.std.proofs.Common.{◌≡◌, ◌++◌, drop}
 use Rattle.std.specs.List.{flat_map}
-use Rattle.go_model.specs.Values.Waiting.{lacked}
+use Rattle.go_check.specs.Judging.{lacked}
 use Rattle.go_check.specs.Evaluated.{evaluated_views}
 use Rattle.go_check.proofs.waits.push_waits.Given as goal
 

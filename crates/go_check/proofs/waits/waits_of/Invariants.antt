@@ -1,5 +1,5 @@
 use Rattle.std.proofs.Common.{◌≡◌, ◌++◌, drop}
-use Rattle.go_model.specs.Values.Lacking.{lacking}
+use Rattle.go_check.specs.Judging.{lacking}
 use Rattle.go_names.specs.Views.{declarations_view}
 use Rattle.go_check.specs.Table.{slot_of}
 use Rattle.go_check.specs.View.{means_by}

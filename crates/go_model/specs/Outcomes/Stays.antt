@@ -1,0 +1,31 @@
+-- What stays of outcomes as the map of headers grows.
+use Rattle.std.specs.Prelude.{◌≡◌, ℕ, ℤ, ◌⊎◌, None, List, Contains}
+use Rattle.go_base.specs.declared.rule.Rule.{Rule}
+use Rattle.go_tree.specs.Tree.{Tree}
+use Rattle.go_model.specs.declared.meaning.Meaning.{Meaning}
+use Rattle.go_model.specs.declared.outcome.Spot.{Spot}
+use Rattle.go_model.specs.Outcomes.Judged.{Broken, Found, Nothing, OutcomeData, Waits}
+use Rattle.go_model.specs.Outcomes.Walk.{Headers, outcome}
+
+-- the rule is broken, at these places and maybe more
+pub record StillBroken {R : Type 0} (rule : Rule) (spots : List Spot) (later : OutcomeData R) : Type 0 where
+  pub spots_then : List Spot
+  pub broken : later ≡ Broken rule spots_then
+  pub among : (s : Spot) → Contains spots s → Contains spots_then s
+
+-- it breaks a rule, or has nothing
+abbrev pub HasFailed : {R : Type 0} → OutcomeData R → Type 0
+HasFailed (Found r) = ⊥
+HasFailed (Broken rule spots) = Unit {0}
+HasFailed (Waits d) = ⊥
+HasFailed Nothing = Unit {0}
+
+-- the outcome of each node over more headers: a record stays; a broken rule stays, at its places and maybe more; what
+-- has nothing has nothing; and what waits for d waits for d or has failed, as long as the header of d is missing. What
+-- a node waits for is missing
+pub record OutcomeStays (means : ℕ → Meaning) (known more : Headers) (t : Tree) : Type 0 where
+  pub found : (v : ℤ) → outcome means known t ≡ Found v → outcome means more t ≡ Found v
+  pub broken : (rule : Rule) (spots : List Spot) → outcome means known t ≡ Broken rule spots → StillBroken rule spots (outcome means more t)
+  pub nothing : outcome means known t ≡ Nothing → outcome means more t ≡ Nothing
+  pub waits : (d : ℕ) → outcome means known t ≡ Waits d → more d ≡ None → (outcome means more t ≡ Waits d) ⊎ HasFailed (outcome means more t)
+  pub lacks : (d : ℕ) → outcome means known t ≡ Waits d → known d ≡ None
