@@ -58,7 +58,7 @@ fn text_between(
     Ok(Bytes::new(rest[..most].to_vec(alloc)?))
 }
 
-/// The node that the open node becomes at its end.
+/// The node that the open node becomes at its end. It keeps no room for more parts.
 fn closed(
     alloc: Global,
     bytes: &[u8],
@@ -70,7 +70,8 @@ fn closed(
     ensures tree { IfOk result (λ n. tree_without n ≡ node_read bytes.now kind end (frame inner)) }
     ensures numbers { IfOk result (λ n. numbers_in (tree_of n) ≡ numbers_among (trees_of (map tree_of inner.parts.items)) ++ id.0 ∷ []) }
 {
-    let OpenNode { start, parts } = inner;
+    let OpenNode { start, mut parts } = inner;
+    parts.shrink_to_fit();
     let text = text_between(alloc, bytes, kind, start, end)?;
     Ok(Node {
         id,
