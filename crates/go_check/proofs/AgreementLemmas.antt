@@ -18,14 +18,14 @@ use Rattle.go_model.specs.Outcomes.Judged.{Broken, Found, Nothing, OutcomeData, 
 use Rattle.go_model.specs.Outcomes.Limits.{wide_integer}
 use Rattle.go_model.specs.Outcomes.Name.{name as name_construct}
 use Rattle.go_model.specs.Outcomes.Parentheses.{parentheses}
-use Rattle.go_check.specs.Agreement.{OutcomeAgrees, operands_of}
+use Rattle.go_check.specs.Values.Agreement.{OutcomeAgrees, operands_of}
 use Rattle.go_model.specs.Outcomes.Readings.{record_in}
 use Rattle.go_model.specs.Outcomes.Selector.{selector}
 use Rattle.go_model.specs.Outcomes.Constructs.{at_whole}
 use Rattle.go_model.specs.Outcomes.Sum.{sum}
 use Rattle.go_model.specs.Outcomes.Walk.{Headers, outcome, outcomes}
 use Rattle.go_model.specs.Values.Quests.{Asked, Decided, Done, Lacks, run}
-use Rattle.go_check.specs.Judging.{asked_of, meant_value, name_test, rule_at, selector_test, sum_of, sum_test, value_of}
+use Rattle.go_check.specs.Values.Judging.{asked_of, meant_value, name_test, rule_at, selector_test, sum_of, sum_test, value_of}
 
 cond_some : (b : Bool) (x y : ℤ) → cond b (Some x) None ≡ Some y → x ≡ y
 cond_some true x y e = cc

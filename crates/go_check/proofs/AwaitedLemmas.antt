@@ -20,7 +20,7 @@ use Rattle.go_model.specs.Outcomes.Readings.{awaited_in}
 use Rattle.go_model.specs.Outcomes.Walk.{Headers, outcome, outcomes}
 use Rattle.go_model.specs.Values.Quests.{Asked, Decided, Lacks}
 use Rattle.go_model.specs.Values.Waiting.{awaited_by, awaited_by_nodes}
-use Rattle.go_check.specs.Judging.{asked_of, lacked, lacked_by, lacked_in}
+use Rattle.go_check.specs.Values.Judging.{asked_of, lacked, lacked_by, lacked_in}
 use Rattle.go_check.proofs.AgreementLemmas.{outcome_agrees}
 
 -- what is found in several, by one or by another

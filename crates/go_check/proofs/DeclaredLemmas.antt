@@ -22,7 +22,7 @@ use Rattle.go_names.specs.declared.spec.Spec.{Spec as OwnSpec}
 use Rattle.go_names.specs.Views.{declaration_view, declarations_view, specs_view, trees_at}
 use Rattle.go_check.specs.declared.outline.Outline.{Outline as OwnOutline}
 use Rattle.go_check.specs.declared.own_file.OwnFile.{OwnFile}
-use Rattle.go_check.specs.Found.{OwnFileData, declared_in_file, own_file_view, own_files_in}
+use Rattle.go_check.specs.Lines.Found.{OwnFileData, declared_in_file, own_file_view, own_files_in}
 use Rattle.go_check.specs.View.{outline_view}
 use Rattle.go_check.proofs.FoundLemmas.{declared_are}
 

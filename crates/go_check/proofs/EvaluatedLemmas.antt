@@ -10,9 +10,9 @@ use Rattle.go_module.specs.Names.Occurrences.{nodes_in}
 use Rattle.go_model.specs.declared.meaning.Meaning.{Meaning}
 use Rattle.go_model.specs.Values.Quests.{Decided, Done, run}
 use Rattle.go_model.specs.Outcomes.Walk.{Headers}
-use Rattle.go_check.specs.Judging.{asked_of, sum_test, value_of}
+use Rattle.go_check.specs.Values.Judging.{asked_of, sum_test, value_of}
 use Rattle.go_names.proofs.WalkLemmas.{nodes_in-inner}
-use Rattle.go_check.specs.Evaluated.{EvaluatedData, evaluated, all_evaluated, judged_value, judged_asked}
+use Rattle.go_check.specs.Values.Evaluated.{EvaluatedData, evaluated, all_evaluated, judged_value, judged_asked}
 
 -- a node by the records of its inner parts
 pub judged_value_is : (means : ℕ → Meaning) (headers : Headers) (t : Tree) → judged_value means headers t (map (value_of means headers) (inner_parts t)) ≡ value_of means headers t

@@ -10,7 +10,7 @@ use Rattle.go_model.specs.PackageLines.{expr_at, record_line}
 use Rattle.go_model.specs.Report.{LineData}
 use Rattle.go_model.specs.Outcomes.Walk.{Headers}
 use Rattle.go_check.specs.declared.evaluated.Evaluated.{Evaluated}
-use Rattle.go_check.specs.Evaluated.{EvaluatedData, all_evaluated, evaluated, evaluated_views, line_by}
+use Rattle.go_check.specs.Values.Evaluated.{EvaluatedData, all_evaluated, evaluated, evaluated_views, line_by}
 use Rattle.go_check.proofs.AgreementLemmas.{value_is}
 
 -- the lines by the records of nodes are those of the nodes

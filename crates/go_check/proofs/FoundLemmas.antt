@@ -19,8 +19,8 @@ use Rattle.go_model.specs.Outline.{Outline, declared_by, declared_from, declarin
 use Rattle.go_model.specs.PackageLines.{AreLines, declaration_defs, defs_from, exprs_from, exprs_in, import_defs, import_defs_in, uses_from, uses_in}
 use Rattle.go_model.specs.Report.{LineData}
 use Rattle.go_model.specs.Outcomes.Walk.{Headers}
-use Rattle.go_check.specs.Found.{OwnFileData, declared_in_file, def_lines, expr_lines, import_lines, own_file, own_files_from, own_files_in, use_lines}
-use Rattle.go_check.specs.Ordered.{AddsInOrder}
+use Rattle.go_check.specs.Lines.Found.{OwnFileData, declared_in_file, def_lines, expr_lines, import_lines, own_file, own_files_from, own_files_in, use_lines}
+use Rattle.go_check.specs.Lines.Ordered.{AddsInOrder}
 
 -- the lines of imports read the spec and the package alone
 pairs_are : (outline : Outline) (stub : Bool) (f : FileData) (k file : ℕ) (pairs : List (Tree × ℕ)) → flat_map (import_defs outline stub f) (map (λ pair. record { spec = pair.0; file = file; importer = k; imported = pair.1 }) pairs) ≡ flat_map (λ pair. import_defs_in outline stub f pair.1 (parts_of pair.0)) pairs

@@ -2,6 +2,7 @@ pub mod AgreementLemmas
 pub mod AwaitedLemmas
 pub mod BrokenLemmas
 pub mod DeclaredLemmas
+pub mod DenotedLemmas
 pub mod EvaluatedLemmas
 pub mod ExprLemmas
 pub mod FoundLemmas

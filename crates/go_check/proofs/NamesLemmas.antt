@@ -11,7 +11,7 @@ use Rattle.go_scope.specs.Collecting.{AreBefore, IsCollected}
 use Rattle.go_check.specs.declared.names.NamesVerdict.{NamesVerdict}
 use Rattle.go_check.specs.declared.names.NamesVerdict.TheVariants.{Unasked}
 use Rattle.go_check.specs.declared.names.Names.{Names}
-use Rattle.go_check.specs.Names.{AddsOne, AreNames, ImportsSound, IsBrokenAt, is_sound, sound_at}
+use Rattle.go_check.specs.Packages.Names.{AddsOne, AreNames, ImportsSound, IsBrokenAt, is_sound, sound_at}
 
 -- entries of a list that is one longer
 

@@ -7,7 +7,7 @@ use Rattle.go_module.specs.declared.module.SourceFile.{SourceFile}
 use Rattle.go_module.specs.declared.module.Package.{Package}
 use Rattle.go_module.specs.Modules.Module.{FileData, file_view, package_view}
 use Rattle.go_module.specs.Places.{empty_text, placed_by, placed_in, text_of}
-use Rattle.go_check.specs.Sources.{source_of}
+use Rattle.go_check.specs.Lines.Sources.{source_of}
 
 -- the text of the file that has a number is that of the file of the program
 found_text : (stub : Bool) (number : ℕ) (files : List SourceFile) → source_of stub (find (λ (f : SourceFile). (file_view f).number == number) files) ≡ option_map_or (text_of stub) (find (λ (f : FileData). f.number == number) (map file_view files)) empty_text

@@ -11,7 +11,7 @@ use Rattle.go_model.specs.Values.Headers.{headers_of, Follows, Justified, Holds,
 use Rattle.go_model.specs.Values.Quests.{IsPart}
 use Rattle.go_model.proofs.HeaderLemmas.{value_over-part, Follows-part, Follows-same, headers_of-here, headers_of-there, headers_of-holds, stays}
 use Rattle.go_names.specs.declared.declaration.Declaration.{Declaration as OwnDeclaration}
-use Rattle.go_check.specs.Table.{slot_of, IsBacked, IsSettled, open_count}
+use Rattle.go_check.specs.Values.Table.{slot_of, IsBacked, IsSettled, open_count}
 use Rattle.go_names.specs.Views.{declaration_view, declarations_view}
 
 module _ (means : ℕ → Meaning) (constants : List Declaration) where

@@ -8,10 +8,10 @@ use Rattle.go_model.specs.Phases.{AreReports, IsVerdict, all_told, skips, checks
 use Rattle.go_model.specs.Report as report
 use Rattle.go_model.specs.Report.{VerdictData, skipped}
 use Rattle.go_model.specs.Values.Meaning.{KnownValues}
+use Rattle.go_check.specs.declared.denoted.Denoted.{Denoted}
 use Rattle.go_check.specs.declared.module.State.{State}
-use Rattle.go_check.specs.declared.names.Names.{Names}
-use Rattle.go_check.specs.Names.{ImportsSound, sound_at}
-use Rattle.go_check.specs.State.{StateData, IsFront, IsState}
+use Rattle.go_check.specs.Packages.Names.{ImportsSound, sound_at}
+use Rattle.go_check.specs.Packages.State.{StateData, IsFront, IsState}
 use Rattle.go_check.proofs.NamesLemmas.{each_passes, one_longer}
 
 -- what stands from a place on
@@ -50,7 +50,7 @@ marked_cases (x ∷ marks) b (suc q) e = by_rest (marked_cases marks b q e)
     by_rest (inl old) = inl old
     by_rest (inr new) = inr (ap suc new.0, new.1)
 
-module _ (m : ModuleData) (names : Names) where
+module _ (m : ModuleData) (denoted : Denoted) where
   front_at_first : IsFront m 0 (record { marks = []; before = []; reports = [] })
   front_at_first rest h = h
 
@@ -59,7 +59,7 @@ module _ (m : ModuleData) (names : Names) where
   no_mark (suc q) e = cc
 
   -- before the first package nothing is known
-  pub first_state : (s : State) → s.marks.items ≡ [] → s.before.entries ≡ [] → s.reports.items ≡ [] → IsState m names 0 s
+  pub first_state : (s : State) → s.marks.items ≡ [] → s.before.entries ≡ [] → s.reports.items ≡ [] → IsState m denoted 0 s
   first_state s marks before reports = record {
     marked = ap length marks;
     accepted_sound = λ q e. absurd (no_mark q (ap (λ l. is_marked l q) (sym marks) ∙ e));
@@ -70,13 +70,13 @@ module _ (m : ModuleData) (names : Names) where
   }
 
   -- behind the last package all reports are told
-  pub all_reports : (k : ℕ) (s : State) → IsState m names k s → k ≡ length m.packages → AreReports m 0 [] [] m.packages (map report.package_view s.reports.items)
+  pub all_reports : (k : ℕ) (s : State) → IsState m denoted k s → k ≡ length m.packages → AreReports m 0 [] [] m.packages (map report.package_view s.reports.items)
   all_reports k s state last =
       let told : AreReports m k s.marks.items s.before.entries (drop k m.packages) [] = subst (λ ps. AreReports m k s.marks.items s.before.entries ps []) (sym (drop_all m.packages k last)) (all_told k s.marks.items s.before.entries) in
       subst (AreReports m 0 [] [] m.packages) (no_rest (map report.package_view s.reports.items)) (state.front [] told)
 
   -- what a package imports is sound where it is accepted
-  pub imports_sound : (k : ℕ) (p : PackageData) (s : State) → IsState m names k s → imports_accepted s.marks.items p ≡ true → ImportsSound names.verdicts.items k p
+  pub imports_sound : (k : ℕ) (p : PackageData) (s : State) → IsState m denoted k s → imports_accepted s.marks.items p ≡ true → ImportsSound denoted.verdicts.items k p
   imports_sound k p s state e = λ i member.
       let marked = each_passes (is_marked s.marks.items) p.imports e i member in
       let lt = marked_within s.marks.items i marked in
@@ -95,15 +95,15 @@ module _ (m : ModuleData) (k : ℕ) (p : PackageData) (at : slice_get m.packages
       let here : AreReports m k s.marks s.before (drop k m.packages) (package_report p verdict ∷ rest) = subst (λ ps. AreReports m k s.marks s.before ps (package_report p verdict ∷ rest)) (sym (drop_at m.packages k p at)) (checks k s.marks s.before after verdict p (drop (k + 1) m.packages) rest e is h) in
       subst (AreReports m 0 [] [] m.packages) (sym (append_assoc s.reports (package_report p verdict ∷ []) rest)) (front (package_report p verdict ∷ rest) here)
 
-module _ (m : ModuleData) (names : Names) (k : ℕ) (p : PackageData) (old new : State) (verdict : VerdictData) (after : KnownValues) where
+module _ (m : ModuleData) (denoted : Denoted) (k : ℕ) (p : PackageData) (old new : State) (verdict : VerdictData) (after : KnownValues) where
   -- one more package is checked
-  pub next_state : IsState m names k old
+  pub next_state : IsState m denoted k old
       → new.marks.items ≡ old.marks.items ++ is_accepted verdict ∷ []
       → new.before.entries ≡ after
       → map report.package_view new.reports.items ≡ map report.package_view old.reports.items ++ package_report p verdict ∷ []
-      → (is_accepted verdict ≡ true → sound_at names.verdicts.items k ≡ true)
+      → (is_accepted verdict ≡ true → sound_at denoted.verdicts.items k ≡ true)
       → IsFront m (k + 1) (record { marks = old.marks.items ++ is_accepted verdict ∷ []; before = after; reports = map report.package_view old.reports.items ++ package_report p verdict ∷ [] })
-      → IsState m names (k + 1) new
+      → IsState m denoted (k + 1) new
   next_state state marks before reports sound front = record {
     marked = ap length marks ∙ one_longer old.marks.items (is_accepted verdict) ∙ ap (λ n. n + 1) state.marked;
     accepted_sound = λ q e. by_mark q (marked_cases old.marks.items (is_accepted verdict) q (ap (λ l. is_marked l q) (sym marks) ∙ e));
@@ -113,6 +113,6 @@ module _ (m : ModuleData) (names : Names) (k : ℕ) (p : PackageData) (old new :
         (subst (λ rs. IsFront m (k + 1) (record { marks = old.marks.items ++ is_accepted verdict ∷ []; before = after; reports = rs })) (sym reports) front));
   }
     where
-      by_mark : (q : ℕ) → (is_marked old.marks.items q ≡ true) ⊎ ((q ≡ length old.marks.items) × (is_accepted verdict ≡ true)) → sound_at names.verdicts.items q ≡ true
+      by_mark : (q : ℕ) → (is_marked old.marks.items q ≡ true) ⊎ ((q ≡ length old.marks.items) × (is_accepted verdict ≡ true)) → sound_at denoted.verdicts.items q ≡ true
       by_mark q (inl there) = state.accepted_sound q there
-      by_mark q (inr here) = ap (sound_at names.verdicts.items) (here.0 ∙ state.marked) ∙ sound here.1
+      by_mark q (inr here) = ap (sound_at denoted.verdicts.items) (here.0 ∙ state.marked) ∙ sound here.1

@@ -5,7 +5,7 @@ use Rattle.std.proofs.lemmas.Grind.{flat_map-append}
 use Rattle.go_module.specs.Modules.Heads.{import_specs}
 use Rattle.go_module.specs.Modules.Module.{FileData}
 use Rattle.go_module.specs.Names.Declarations.{Spec, specs_from, specs_in_file}
-use Rattle.go_check.specs.Found.{OwnFileData, all_specs_in, own_files_from}
+use Rattle.go_check.specs.Lines.Found.{OwnFileData, all_specs_in, own_files_from}
 
 -- the specs of all files are those of the package
 pub specs_are : (stub : Bool) (place : ℕ) (files : List FileData) (packages : List ℕ) → all_specs_in (own_files_from stub place files packages) ≡ specs_from place files

@@ -7,12 +7,10 @@ use Rattle.indexmap.specs.IndexMap.{insert_all}
 use Rattle.go_base.specs.declared.rule.Broken.{Broken}
 use Rattle.go_base.specs.declared.ids.ObjId.{ObjId}
 use Rattle.go_tree.specs.declared.node.NodeId.{NodeId}
-use Rattle.go_module.specs.declared.scopes.Scopes.{Scopes}
 use Rattle.go_module.specs.Modules.Module.{ModuleData, PackageData}
 use Rattle.go_module.specs.Names.Declarations.{Declaration, declarations_of, numbers_of}
 use Rattle.go_module.specs.Names.Imports.{known_in}
 use Rattle.go_module.specs.Names.Rules.BrokenNames.{broken_names}
-use Rattle.go_module.specs.Names.Tables.{IsScopesOf}
 use Rattle.go_module.specs.Order.{IsListOf}
 use Rattle.go_module.specs.Places.{placed_by}
 use Rattle.go_module.specs.Scopes.{same_node, same_object}
@@ -28,7 +26,8 @@ use Rattle.go_model.specs.Values.Rules.{broken_values}
 use Rattle.go_model.specs.Values.Waiting.{Chain}
 use Rattle.go_scope.specs.Collecting.{IsBrokenNames}
 use Rattle.go_check.specs.declared.around.Around.{Around}
-use Rattle.go_check.specs.Verdicts.{IsAccepting}
+use Rattle.go_check.specs.Packages.Denoted.{AreUses}
+use Rattle.go_check.specs.Packages.Verdicts.{IsAccepting}
 use Rattle.go_check.specs.View.{IsAround, denotes_by, means_by, places_by}
 
 -- the package at a place is one
@@ -36,24 +35,24 @@ same_package : (m : ModuleData) (k : ℕ) (p q : PackageData) → slice_get m.pa
 same_package m k p q at there = cc (at, there)
 
 module _ (m : ModuleData) (k : ℕ) (p : PackageData) (at : slice_get m.packages k ≡ Some p) where
-  -- the table of uses of the package's scopes
-  uses_are : (scopes : Scopes) → IsScopesOf m k scopes → scopes.uses.entries ≡ uses_table m k p
-  uses_are scopes is = is.tables.uses ∙ ap (uses_table m k) (same_package m k p is.p at is.at)
+  -- the table of uses of the package
+  uses_are : (table : List (NodeId × ObjId)) → AreUses m k table → table ≡ uses_table m k p
+  uses_are table are = are.table_is ∙ ap (uses_table m k) (same_package m k p are.p at are.at)
 
-  pub sound_names : (scopes : Scopes) → IsScopesOf m k scopes → broken_names (known_in m) k p ≡ []
-  sound_names scopes is = ap (broken_names (known_in m) k) (sym (same_package m k p is.p at is.at)) ∙ is.sound
+  pub sound_names : (table : List (NodeId × ObjId)) → AreUses m k table → broken_names (known_in m) k p ≡ []
+  sound_names table are = ap (broken_names (known_in m) k) (sym (same_package m k p are.p at are.at)) ∙ are.sound
 
-  module _ (declarations : List Declaration) (around : Around) (declarations_are : declarations ≡ declarations_of p) (is_around : IsAround declarations around) (is_scopes : IsScopesOf m k around.scopes.now) where
+  module _ (declarations : List Declaration) (around : Around) (declarations_are : declarations ≡ declarations_of p) (is_around : IsAround declarations around) (are_uses : AreUses m k around.uses.now.entries) where
     places_are : places_by around ≡ place_among (numbers_of (declarations_of p))
     places_are = fun_ext (λ d. is_around d ∙ ap (λ (ds : List Declaration). place_among (numbers_of ds) d) declarations_are)
 
     pub means_are : means_by around ≡ meaning_in m k p around.before.now.entries
     means_are =
-        ap (λ uses. meaning_by uses (places_by around) around.before.now.entries) (uses_are around.scopes.now is_scopes)
+        ap (λ uses. meaning_by uses (places_by around) around.before.now.entries) (uses_are around.uses.now.entries are_uses)
         ∙ ap (λ places. meaning_by (uses_table m k p) places around.before.now.entries) places_are
 
     pub denotes_are : denotes_by around ≡ (λ id. lookup (same_node id) (uses_table m k p))
-    denotes_are = ap (λ (uses : List (NodeId × ObjId)). λ id. lookup (same_node id) uses) (uses_are around.scopes.now is_scopes)
+    denotes_are = ap (λ (uses : List (NodeId × ObjId)). λ id. lookup (same_node id) uses) (uses_are around.uses.now.entries are_uses)
 
 module _ (m : ModuleData) (k : ℕ) (p : PackageData) (before : KnownValues) (means : ℕ → Meaning) (declarations : List Declaration) (means_are : means ≡ meaning_in m k p before) (declarations_are : declarations ≡ declarations_of p) where
   -- what the values break, over what was found

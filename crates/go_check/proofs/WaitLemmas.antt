@@ -21,7 +21,7 @@ use Rattle.go_model.specs.Values.Quests.{Done, run}
 use Rattle.go_model.specs.Outcomes.Walk.{Headers}
 use Rattle.go_model.specs.Values.Waiting.{Chain, Waits, more, one}
 use Rattle.go_check.specs.declared.around.Around.{Around}
-use Rattle.go_check.specs.Judging.{asked_of, lacked, lacked_by, lacked_in, lacking, name_test, selector_test, sum_test, value_of}
+use Rattle.go_check.specs.Values.Judging.{asked_of, lacked, lacked_by, lacked_in, lacking, name_test, selector_test, sum_test, value_of}
 use Rattle.go_check.proofs.AwaitedLemmas.{awaited_lacked, lacked_awaited}
 use Rattle.go_check.specs.View.{PlacesBelow, denotes_by, means_by, places_by}
 

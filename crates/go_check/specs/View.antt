@@ -17,11 +17,11 @@ abbrev pub places_by : Around → ObjId → Option ℕ
 places_by around d = lookup (same_object d) around.places.now.entries
 
 abbrev pub denotes_by : Around → NodeId → Option ObjId
-denotes_by around id = lookup (same_node id) around.scopes.now.uses.entries
+denotes_by around id = lookup (same_node id) around.uses.now.entries
 
 -- what an identifier means, by the number of its node
 abbrev pub means_by : Around → ℕ → Meaning
-means_by around = meaning_by around.scopes.now.uses.entries (places_by around) around.before.now.entries
+means_by around = meaning_by around.uses.now.entries (places_by around) around.before.now.entries
 
 -- all places are below a number
 abbrev pub PlacesBelow : ℕ → Around → Type 0

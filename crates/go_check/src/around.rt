@@ -2,10 +2,10 @@
 // identifiers").
 ghost use Rattle.std.specs.Prelude.{◌≡◌};
 ghost use Rattle.go_model.specs.Values.Meaning as spec;
-ghost use Rattle.go_check.specs.View.{means_by, places_by};
+ghost use Rattle.go_check.specs.View.{denotes_by, means_by, places_by};
 
 use go_model::Meaning;
-use go_module::{ObjId, Scopes};
+use go_module::ObjId;
 use go_tree::NodeId;
 use indexmap::IndexMap;
 
@@ -16,17 +16,24 @@ pub const FIRST_NUMBER: usize = 45;
 /// numbers, and the values of the constants of packages that stand before.
 #[derive(Clone, Copy)]
 pub struct Around<'a> {
-    pub scopes: &'a Scopes,
+    pub uses: &'a IndexMap<NodeId, ObjId>,
     pub places: &'a IndexMap<ObjId, usize>,
     pub before: &'a IndexMap<ObjId, i128>,
 }
 
 impl<'a> Around<'a> {
+    /// The object that an identifier denotes, by the number of its node.
+    pub fn denoted(&self, id: NodeId) -> Option<ObjId>
+        ensures { result ≡ denotes_by self.now id }
+    {
+        self.uses.get(&id).copied()
+    }
+
     /// What an identifier means, by the number of its node.
     pub fn meaning(&self, id: NodeId) -> Meaning
         ensures { result ≡ means_by self.now id.0 }
     {
-        match self.scopes.resolve(id) {
+        match self.denoted(id) {
             Some(d) => self.object_meaning(d),
             None => Meaning::Other,
         }

@@ -6,10 +6,10 @@ ghost use Rattle.go_tree.specs.Tree.{tree_of, start_of, kind_of};
 ghost use Rattle.go_model.specs.Values.Records.{record_of};
 ghost use Rattle.go_model.specs.Values.Rules as rules;
 ghost use Rattle.go_names.specs.Views.{spec_view};
-ghost use Rattle.go_check.specs.Evaluated.{evaluated_view, evaluated_views};
-ghost use Rattle.go_check.specs.Evaluated as evaluation;
-ghost use Rattle.go_check.specs.Judging.{rule_at};
-ghost use Rattle.go_check.specs.Table.{slot_of};
+ghost use Rattle.go_check.specs.Values.Evaluated.{evaluated_view, evaluated_views};
+ghost use Rattle.go_check.specs.Values.Evaluated as evaluation;
+ghost use Rattle.go_check.specs.Values.Judging.{rule_at};
+ghost use Rattle.go_check.specs.Values.Table.{slot_of};
 ghost use Rattle.go_check.specs.View.{means_by};
 
 use crate::around::Around;

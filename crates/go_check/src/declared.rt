@@ -8,7 +8,7 @@ ghost use Rattle.go_module.specs.NodeParts.{first_part};
 ghost use Rattle.go_module.specs.Scopes.{same_object};
 ghost use Rattle.go_model.specs.Outline as spec;
 ghost use Rattle.go_names.specs.Views.{declaration_view, trees_at};
-ghost use Rattle.go_check.specs.Found.{declared_in_file, own_file_view, own_files_view};
+ghost use Rattle.go_check.specs.Lines.Found.{declared_in_file, own_file_view, own_files_view};
 
 use crate::own_file::{OwnFile, own_files};
 use go_base::NoMemory;
@@ -31,6 +31,7 @@ pub fn declared_objects(
     for (place, own) in module.packages.iter().enumerate() {
         add_files(alloc, place, &own_files(alloc, own)?, &mut table)?;
     }
+    table.shrink_to_fit();
     Ok(table)
 }
 

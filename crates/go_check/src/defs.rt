@@ -9,8 +9,8 @@ ghost use Rattle.go_module.specs.Names.Imports as imports;
 ghost use Rattle.go_model.specs.PackageLines as spec;
 ghost use Rattle.go_model.specs.Report.{defined, defined_view, line_view};
 ghost use Rattle.go_names.specs.Views.{declaration_view, declarations_view, trees_at};
-ghost use Rattle.go_check.specs.Found.{def_lines, import_lines, own_file_view};
-ghost use Rattle.go_check.specs.Table.{slot_of};
+ghost use Rattle.go_check.specs.Lines.Found.{def_lines, import_lines, own_file_view};
+ghost use Rattle.go_check.specs.Values.Table.{slot_of};
 ghost use Rattle.go_check.specs.View.{means_by, outline_view};
 
 use crate::around::Around;

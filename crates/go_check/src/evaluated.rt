@@ -6,10 +6,10 @@ ghost use Rattle.go_tree.specs.Tree.{tree_of};
 ghost use Rattle.go_module.specs.Names.Inner.{inner_parts};
 ghost use Rattle.go_model.specs.declared.meaning.Meaning.TheVariants as meanings;
 ghost use Rattle.go_model.specs.Values.Quests.{Decided, run};
-ghost use Rattle.go_check.specs.Evaluated as spec;
-ghost use Rattle.go_check.specs.Evaluated.{all_evaluated, evaluated_views, tested_view};
-ghost use Rattle.go_check.specs.Judging.{name_test, selector_test, sum_test, value_of};
-ghost use Rattle.go_check.specs.Table.{slot_of};
+ghost use Rattle.go_check.specs.Values.Evaluated as spec;
+ghost use Rattle.go_check.specs.Values.Evaluated.{all_evaluated, evaluated_views, tested_view};
+ghost use Rattle.go_check.specs.Values.Judging.{name_test, selector_test, sum_test, value_of};
+ghost use Rattle.go_check.specs.Values.Table.{slot_of};
 ghost use Rattle.go_check.specs.View.{means_by};
 
 use crate::around::Around;

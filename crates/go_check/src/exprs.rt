@@ -8,10 +8,10 @@ ghost use Rattle.go_module.specs.Names.Occurrences.{nodes_in, nodes_in_parts};
 ghost use Rattle.go_model.specs.PackageLines as rule;
 ghost use Rattle.go_model.specs.Report.{line_view};
 ghost use Rattle.go_names.specs.Views.{spec_view, specs_view};
-ghost use Rattle.go_check.specs.Evaluated.{evaluated_view, evaluated_views};
-ghost use Rattle.go_check.specs.Evaluated as evaluation;
-ghost use Rattle.go_check.specs.Found.{expr_lines, own_file_view};
-ghost use Rattle.go_check.specs.Table.{slot_of};
+ghost use Rattle.go_check.specs.Values.Evaluated.{evaluated_view, evaluated_views};
+ghost use Rattle.go_check.specs.Values.Evaluated as evaluation;
+ghost use Rattle.go_check.specs.Lines.Found.{expr_lines, own_file_view};
+ghost use Rattle.go_check.specs.Values.Table.{slot_of};
 ghost use Rattle.go_check.specs.View.{means_by};
 
 use crate::around::Around;

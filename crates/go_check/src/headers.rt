@@ -1,7 +1,7 @@
 // The headers of declarations, found in rounds (Go specification, "Constant declarations").
 ghost use Rattle.std.specs.Prelude.{◌≡◌, ◌<◌, ◌↔◌, ℕ, ℤ, Some, false, length, IfOk, IsTrue};
 ghost use Rattle.go_model.specs.Values.Headers.{Known};
-ghost use Rattle.go_check.specs.Table.{slot_of, IsBacked, IsSettled, open_count};
+ghost use Rattle.go_check.specs.Values.Table.{slot_of, IsBacked, IsSettled, open_count};
 ghost use Rattle.go_check.specs.View.{means_by};
 ghost use Rattle.go_names.specs.Views.{declarations_view};
 

@@ -9,6 +9,7 @@ mod rules;
 
 // The files of a package, and what identifiers mean.
 mod around;
+mod denoted;
 mod names;
 mod own_file;
 

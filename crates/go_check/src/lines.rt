@@ -4,9 +4,9 @@ ghost use Rattle.go_module.specs.Modules.Module.{PackageData};
 ghost use Rattle.go_model.specs.LineOrder.{AreInOrder};
 ghost use Rattle.go_model.specs.PackageLines as spec;
 ghost use Rattle.go_model.specs.Report.{line_view};
-ghost use Rattle.go_check.specs.Found.{def_lines, expr_lines, own_files_in, own_files_view, use_lines};
-ghost use Rattle.go_check.specs.Ordered.{AddsInOrder};
-ghost use Rattle.go_check.specs.Table.{slot_of};
+ghost use Rattle.go_check.specs.Lines.Found.{def_lines, expr_lines, own_files_in, own_files_view, use_lines};
+ghost use Rattle.go_check.specs.Lines.Ordered.{AddsInOrder};
+ghost use Rattle.go_check.specs.Values.Table.{slot_of};
 ghost use Rattle.go_check.specs.View.{denotes_by, means_by, outline_view};
 
 use crate::around::Around;

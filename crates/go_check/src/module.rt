@@ -7,12 +7,13 @@ ghost use Rattle.go_model.specs.Outline.{outline_of};
 ghost use Rattle.go_model.specs.Phases as phases;
 ghost use Rattle.go_model.specs.Report.{report_view, verdict_view};
 ghost use Rattle.go_model.specs.Report as reports;
-ghost use Rattle.go_check.specs.Names.{AreNames};
-ghost use Rattle.go_check.specs.State.{IsState};
+ghost use Rattle.go_check.specs.Packages.Denoted.{AreDenoted};
+ghost use Rattle.go_check.specs.Packages.State.{IsState};
 ghost use Rattle.go_check.specs.View.{outline_view};
 
 use crate::declared::declared_objects;
-use crate::names::{Names, names_of};
+use crate::denoted::{Denoted, denoted_by};
+use crate::names::names_of;
 use crate::outline::Outline;
 use crate::package::check_package;
 use go_base::{NoMemory, Steps};
@@ -43,13 +44,13 @@ pub fn check_module<L: Ledger>(
     ensures report { IfOk result (λ report. phases.ReportOf (module_view «module».now) (report_view report)) }
     ensures steps { _steps.new ≡ _steps.old }
 {
-    let names = names_of(alloc, module)?;
+    let denoted = denoted_by(alloc, names_of(alloc, module)?)?;
     let declared = declared_objects(alloc, module)?;
     let outline = Outline {
         packages: &module.packages,
         declared: &declared,
     };
-    let reports = check_packages(alloc, module, &names, &outline)?;
+    let reports = check_packages(alloc, module, &denoted, &outline)?;
     Ok(Report {
         path: module.path.clone()?,
         version: module.version,
@@ -62,10 +63,10 @@ pub fn check_module<L: Ledger>(
 fn check_packages(
     alloc: Global,
     module: &Module,
-    names: &Names,
+    denoted: &Denoted,
     outline: &Outline,
 ) -> Result<Vec<PackageReport>, NoMemory>
-    requires names { AreNames (module_view «module».now) (length «module».now.packages.items) names.now }
+    requires denoted { AreDenoted (module_view «module».now) (length «module».now.packages.items) denoted.now }
     requires outline { outline_view outline.now ≡ outline_of (module_view «module».now) }
     ensures { IfOk result (λ made. phases.AreReports (module_view «module».now) 0 [] []
         (module_view «module».now).packages (map reports.package_view made.items)) }
@@ -76,7 +77,7 @@ fn check_packages(
         reports: Vec::new(alloc),
     };
     for place in 0..module.packages.len() {
-        check_next(alloc, module, place, names, outline, &mut state)?;
+        check_next(alloc, module, place, denoted, outline, &mut state)?;
     }
     Ok(state.reports)
 }
@@ -86,20 +87,20 @@ fn check_next(
     alloc: Global,
     module: &Module,
     place: usize,
-    names: &Names,
+    denoted: &Denoted,
     outline: &Outline,
     state: &mut State,
 ) -> Result<(), NoMemory>
     requires within { place < length «module».now.packages.items }
-    requires names { AreNames (module_view «module».now) (length «module».now.packages.items) names.now }
+    requires denoted { AreDenoted (module_view «module».now) (length «module».now.packages.items) denoted.now }
     requires outline { outline_view outline.now ≡ outline_of (module_view «module».now) }
-    requires state { IsState (module_view «module».now) names.now place state.old }
-    ensures { OnOk result (IsState (module_view «module».now) names.now (place + 1) state.new) }
+    requires state { IsState (module_view «module».now) denoted.now place state.old }
+    ensures { OnOk result (IsState (module_view «module».now) denoted.now (place + 1) state.new) }
 {
     let own = &module.packages[place];
     if imports_accepted(&state.marks, &own.imports) {
         let before = &mut state.before;
-        let verdict = check_package(alloc, module, place, names, outline, before)?;
+        let verdict = check_package(alloc, module, place, denoted, outline, before)?;
         add_report(own, verdict, state)
     } else {
         add_report(own, Verdict::Skipped, state)

@@ -2,7 +2,7 @@
 ghost use Rattle.std.specs.Prelude.{◌≡◌, ◌∷◌, ◌++◌, [], ◌<◌, ◌+◌, IfOk, OnOk, length};
 ghost use Rattle.std.specs.List.{list_all};
 ghost use Rattle.go_module.specs.Modules.Module.{module_view};
-ghost use Rattle.go_check.specs.Names as spec;
+ghost use Rattle.go_check.specs.Packages.Names as spec;
 
 use go_base::{Broken, NoMemory};
 use go_module::{Module, Scopes};

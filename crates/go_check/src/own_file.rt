@@ -3,7 +3,7 @@ ghost use Rattle.std.specs.Prelude.{◌≡◌, IfOk};
 ghost use Rattle.go_module.specs.Modules.Module.{package_view};
 ghost use Rattle.go_module.specs.Names.Declarations as names;
 ghost use Rattle.go_names.specs.Views.{declarations_view};
-ghost use Rattle.go_check.specs.Found.{all_specs_in, own_files_in, own_files_view};
+ghost use Rattle.go_check.specs.Lines.Found.{all_specs_in, own_files_in, own_files_view};
 
 use go_base::NoMemory;
 use go_module::{Package, SourceFile};

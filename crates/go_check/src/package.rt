@@ -7,24 +7,25 @@ ghost use Rattle.go_module.specs.Modules.Module.{ModuleData, PackageData, module
 ghost use Rattle.std.specs.Map.{lookup};
 ghost use Rattle.go_model.specs.Values.Meaning.{place_among};
 ghost use Rattle.go_module.specs.Names.Declarations as names;
-ghost use Rattle.go_module.specs.Names.Tables.{IsScopesOf};
 ghost use Rattle.go_module.specs.Scopes.{same_object};
 ghost use Rattle.go_model.specs.Outline.{outline_of};
 ghost use Rattle.go_model.specs.PackageLines.{named_in};
 ghost use Rattle.go_model.specs.Phases as phases;
 ghost use Rattle.go_model.specs.Report.{line_view, named_view, verdict_view};
 ghost use Rattle.go_names.specs.Views.{declarations_view};
-ghost use Rattle.go_check.specs.Found.{own_files_in, own_files_view};
-ghost use Rattle.go_check.specs.Names.{AreNames, ImportsSound, sound_at};
-ghost use Rattle.go_check.specs.Table.{slot_of};
-ghost use Rattle.go_check.specs.Verdicts.{IsAccepting};
+ghost use Rattle.go_check.specs.Lines.Found.{own_files_in, own_files_view};
+ghost use Rattle.go_check.specs.Packages.Denoted.{AreDenoted, AreUses};
+ghost use Rattle.go_check.specs.Packages.Names.{ImportsSound, sound_at};
+ghost use Rattle.go_check.specs.Values.Table.{slot_of};
+ghost use Rattle.go_check.specs.Packages.Verdicts.{IsAccepting};
 ghost use Rattle.go_check.specs.View.{IsAround, denotes_by, means_by, outline_view};
 
 use crate::around::Around;
+use crate::denoted::Denoted;
 use crate::headers::headers;
 use crate::lines::lines_of;
 use crate::named::named_in;
-use crate::names::{Names, NamesVerdict};
+use crate::names::NamesVerdict;
 use crate::outline::Outline;
 use crate::own_file::{OwnFile, declarations_of, own_files};
 use crate::places::placed_list;
@@ -33,8 +34,9 @@ use crate::values::broken_values;
 use crate::waits::cyclic_declarations;
 use go_base::NoMemory;
 use go_model::{Records, Verdict};
-use go_module::{Module, ObjId, Package, Scopes, breaks_none};
+use go_module::{Module, ObjId, Package, breaks_none};
 use go_names::Declaration;
+use go_tree::NodeId;
 use indexmap::IndexMap;
 use std::alloc::Global;
 
@@ -44,24 +46,24 @@ pub fn check_package(
     alloc: Global,
     module: &Module,
     place: usize,
-    names: &Names,
+    denoted: &Denoted,
     outline: &Outline,
     before: &mut IndexMap<ObjId, i128>,
 ) -> Result<Verdict, NoMemory>
     requires within { place < length «module».now.packages.items }
-    requires names { AreNames (module_view «module».now) (length «module».now.packages.items) names.now }
+    requires denoted { AreDenoted (module_view «module».now) (length «module».now.packages.items) denoted.now }
     requires outline { outline_view outline.now ≡ outline_of (module_view «module».now) }
     requires imports { (p : PackageData) → slice_get (module_view «module».now).packages place ≡ Some p
-        → ImportsSound names.now.verdicts.items place p }
+        → ImportsSound denoted.now.verdicts.items place p }
     ensures verdict { IfOk result (λ verdict. (p : PackageData)
         → slice_get (module_view «module».now).packages place ≡ Some p → phases.IsVerdict (module_view «module».now)
         place p before.old.entries (verdict_view verdict) before.new.entries) }
     ensures sound { IfOk result (λ verdict. phases.is_accepted (verdict_view verdict) ≡ true
-        → sound_at names.now.verdicts.items place ≡ true) }
+        → sound_at denoted.now.verdicts.items place ≡ true) }
 {
     let own = &module.packages[place];
-    match &names.verdicts[place] {
-        NamesVerdict::Sound => check_values(alloc, own, outline, &names.scopes[place], before),
+    match &denoted.verdicts[place] {
+        NamesVerdict::Sound => check_values(alloc, own, outline, &denoted.uses[place], before),
         NamesVerdict::Broken(list) => Ok(Verdict::Refused(placed_list(alloc, own, list)?)),
         NamesVerdict::Unasked => Ok(Verdict::Skipped),
     }
@@ -72,18 +74,18 @@ fn check_values(
     alloc: Global,
     own: &Package,
     outline: &Outline,
-    scopes: &Scopes,
+    uses: &IndexMap<NodeId, ObjId>,
     before: &mut IndexMap<ObjId, i128>,
 ) -> Result<Verdict, NoMemory>
     ensures { IfOk result (λ verdict. (m : ModuleData) (k : ℕ) → slice_get m.packages k ≡ Some (package_view own.now)
-        → outline_view outline.now ≡ outline_of m → IsScopesOf m k scopes.now → phases.IsVerdict m k
+        → outline_view outline.now ≡ outline_of m → AreUses m k uses.now.entries → phases.IsVerdict m k
         (package_view own.now) before.old.entries (verdict_view verdict) before.new.entries) }
 {
     let files = own_files(alloc, own)?;
     let declarations = declarations_of(alloc, &files)?;
     let places = places_of(alloc, &declarations)?;
     let around = Around {
-        scopes,
+        uses,
         places: &places,
         before,
     };
@@ -127,7 +129,7 @@ fn judge(
     requires declarations { declarations_view declarations.now ≡ names.declarations_of (package_view own.now) }
     requires around { IsAround (declarations_view declarations.now) around.now }
     ensures { IfOk result (λ judged. (m : ModuleData) (k : ℕ) → slice_get m.packages k ≡ Some (package_view own.now)
-        → outline_view outline.now ≡ outline_of m → IsScopesOf m k around.now.scopes.now → phases.IsVerdict m k
+        → outline_view outline.now ≡ outline_of m → AreUses m k around.now.uses.now.entries → phases.IsVerdict m k
         (package_view own.now) around.now.before.now.entries (verdict_view judged.verdict)
         (insert_all same_object around.now.before.now.entries judged.values.items)) }
 {

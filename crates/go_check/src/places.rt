@@ -4,7 +4,7 @@ ghost use Rattle.std.specs.Option.{option_copied};
 ghost use Rattle.indexmap.specs.IndexMap.{get};
 ghost use Rattle.go_module.specs.Places as spec;
 ghost use Rattle.go_module.specs.Modules.Module.{file_view, package_view};
-ghost use Rattle.go_check.specs.Sources.{source_of};
+ghost use Rattle.go_check.specs.Lines.Sources.{source_of};
 
 use go_base::{Broken, Name, NoMemory};
 use go_module::{At, Package, Placed, SourceFile};

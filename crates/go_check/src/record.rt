@@ -3,8 +3,8 @@ ghost use Rattle.std.specs.Prelude.{◌≡◌};
 ghost use Rattle.std.specs.Option.{option_map};
 ghost use Rattle.go_tree.specs.Tree.{tree_of};
 ghost use Rattle.go_model.specs.Values.Records as records;
-ghost use Rattle.go_check.specs.Judging as judging;
-ghost use Rattle.go_check.specs.Table.{slot_of};
+ghost use Rattle.go_check.specs.Values.Judging as judging;
+ghost use Rattle.go_check.specs.Values.Table.{slot_of};
 ghost use Rattle.go_check.specs.View.{means_by};
 ghost use Rattle.go_names.specs.Views.{declaration_view};
 

@@ -8,7 +8,7 @@ ghost use Rattle.go_model.specs.Outline as outlines;
 ghost use Rattle.go_model.specs.PackageLines as rule;
 ghost use Rattle.go_model.specs.Report.{line_view, used};
 ghost use Rattle.go_names.specs.Views.{specs_view};
-ghost use Rattle.go_check.specs.Found.{own_file_view, use_lines};
+ghost use Rattle.go_check.specs.Lines.Found.{own_file_view, use_lines};
 ghost use Rattle.go_check.specs.View.{denotes_by, outline_view};
 
 use crate::around::Around;
@@ -123,7 +123,7 @@ fn push_use(
         ++ rule.use_at (outline_view outline.now)
         file.now.stub (file_view file.now.file.now) (denotes_by around.now) id from name.now) }
 {
-    if let Some(d) = around.scopes.resolve(id) {
+    if let Some(d) = around.denoted(id) {
         lines.push(use_line(alloc, outline, file, d, from, name)?)?;
     }
     Ok(())

@@ -8,8 +8,8 @@ ghost use Rattle.go_module.specs.Modules.Module.{package_view};
 ghost use Rattle.go_module.specs.Names.Declarations.{declarations_of};
 ghost use Rattle.go_model.specs.Values.Rules as rules;
 ghost use Rattle.go_names.specs.Views.{declaration_view, declarations_view, specs_view};
-ghost use Rattle.go_check.specs.Found.{all_specs_in, own_files_in, own_files_view};
-ghost use Rattle.go_check.specs.Table.{slot_of};
+ghost use Rattle.go_check.specs.Lines.Found.{all_specs_in, own_files_in, own_files_view};
+ghost use Rattle.go_check.specs.Values.Table.{slot_of};
 ghost use Rattle.go_check.specs.View.{means_by};
 
 use crate::around::Around;

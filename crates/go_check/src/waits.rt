@@ -5,10 +5,10 @@ ghost use Rattle.go_graph.specs.Graph.{is_marked};
 ghost use Rattle.go_model.specs.Values.Waiting.{Chain};
 ghost use Rattle.go_names.specs.Views.{declaration_view, declarations_view};
 ghost use Rattle.go_tree.specs.Tree.{tree_of};
-ghost use Rattle.go_check.specs.Evaluated.{evaluated_view, evaluated_views};
-ghost use Rattle.go_check.specs.Judging as judging;
-ghost use Rattle.go_check.specs.Judging.{lacked, lacking};
-ghost use Rattle.go_check.specs.Table.{slot_of};
+ghost use Rattle.go_check.specs.Values.Evaluated.{evaluated_view, evaluated_views};
+ghost use Rattle.go_check.specs.Values.Judging as judging;
+ghost use Rattle.go_check.specs.Values.Judging.{lacked, lacking};
+ghost use Rattle.go_check.specs.Values.Table.{slot_of};
 ghost use Rattle.go_check.specs.View.{PlacesBelow, means_by};
 
 use crate::around::Around;

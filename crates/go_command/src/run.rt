@@ -76,22 +76,23 @@ fn text_and_verdict<T: Tree, L: Ledger>(
     ensures stays { (IsErrOf result TreeFault.Failed → ⊥) → T.faults tree.new ≡ T.faults tree.old }
 {
     match load(alloc, tree, root, stubs) {
-        Ok(module) => Ok(whole(alloc, &module, steps)?),
+        Ok(module) => Ok(whole(alloc, module, steps)?),
         Err(LoadFault::Broken(list)) => Ok(first(alloc, &list)?),
         Err(LoadFault::ReadFault) => Err(TreeFault::Failed),
         Err(LoadFault::NoMemory) => Err(TreeFault::NoMemory),
     }
 }
 
-// The text of the report of a module, and its verdict.
+// The text of the report of a module, and its verdict. The module is given back before its text is made.
 fn whole<L: Ledger>(
     alloc: Global,
-    module: &Module,
+    module: Module,
     steps: &mut Steps<L>,
 ) -> Result<(Vec<u8>, Status), NoMemory>
-    ensures { IfOk result (λ made. IsWhole (module_view «module».now) made.0.items made.1) }
+    ensures { IfOk result (λ made. IsWhole (module_view «module») made.0.items made.1) }
 {
-    let report = check_module(alloc, module, steps)?;
+    let report = check_module(alloc, &module, steps)?;
+    drop(module);
     let text = report_text(alloc, &report)?;
     Ok((text, verdict(&report)))
 }

@@ -24,7 +24,7 @@ pub fn take_files(
         ≡ taken (files_left slots.old) numbers.now) }
     ensures rest { OnOk result (files_left slots.new ≡ cleared (files_left slots.old) numbers.now) }
 {
-    let mut files = Vec::new(alloc);
+    let mut files = Vec::with_capacity(alloc, numbers.len())?;
     for number in numbers {
         move_file(slots, *number, &mut files)?;
     }

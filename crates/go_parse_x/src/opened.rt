@@ -89,13 +89,13 @@ pub fn add(opened: &mut Vec<OpenNode>, node: Node) -> Result<(), NoMemory>
 }
 
 /// The node becomes the last part. Most nodes that have parts have one or two, so there is room for
-/// two before there is for more.
+/// one, then for two, before there is for more.
 pub fn push_part(parts: &mut Vec<Node>, node: Node) -> Result<(), NoMemory>
     ensures pushed { OnOk result (parts.new.items ≡ parts.old.items ++ node ∷ []) }
     ensures kept { OnErr result (parts.new.items ≡ parts.old.items) }
 {
-    if parts.is_empty() {
-        parts.reserve_exact(2)?;
+    if parts.len() < 2 {
+        parts.reserve_exact(1)?;
     }
     parts.push(node)?;
     Ok(())

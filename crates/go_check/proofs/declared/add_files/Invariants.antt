@@ -2,7 +2,7 @@ use Rattle.std.proofs.Common.{◌≡◌, drop}
 use Rattle.indexmap.specs.IndexMap.{insert_all}
 use Rattle.go_module.specs.Scopes.{same_object}
 use Rattle.std.specs.List.{flat_map}
-use Rattle.go_check.specs.Found.{declared_in_file, own_files_view}
+use Rattle.go_check.specs.Lines.Found.{declared_in_file, own_files_view}
 use Rattle.go_check.proofs.declared.add_files.Given as goal
 
 -- the table, with the declarations of the files left, is that with those of all files

@@ -1,6 +1,6 @@
 use Rattle.std.proofs.Common.{◌≤◌, min, length, map, arith}
 use Rattle.go_model.specs.Report.{line_view}
-use Rattle.go_check.specs.Found.{own_file_view}
+use Rattle.go_check.specs.Lines.Found.{own_file_view}
 use Rattle.go_check.specs.View.{outline_view}
 use Rattle.go_check.proofs.FoundLemmas.{imports_done}
 use Rattle.go_check.proofs.defs.push_imports.Goals as goal

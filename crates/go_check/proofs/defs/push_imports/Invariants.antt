@@ -2,7 +2,7 @@ use Rattle.std.proofs.Common.{◌≡◌, ◌++◌, map, drop}
 use Rattle.std.specs.List.{zip}
 use Rattle.go_model.specs.Report.{line_view}
 use Rattle.go_names.specs.Views.{trees_at}
-use Rattle.go_check.specs.Found.{import_lines, own_file_view}
+use Rattle.go_check.specs.Lines.Found.{import_lines, own_file_view}
 use Rattle.go_check.specs.View.{outline_view}
 use Rattle.go_check.proofs.defs.push_imports.Given as goal
 

@@ -1,12 +1,12 @@
 use Rattle.std.proofs.Common.{◌≡◌, ◌-◌, ◌++◌, [], ◌∷◌, map, drop, reverse, refl, ap, ◌∙◌, arith}
 use Rattle.std.specs.List.{flat_map}
 use Rattle.std.proofs.lemmas.List.{reverse-reverse}
-use Rattle.go_check.specs.Judging.{value_of}
+use Rattle.go_check.specs.Values.Judging.{value_of}
 use Rattle.go_names.proofs.WalkLemmas.{inner_part_smaller}
 use Rattle.go_names.specs.Views.{trees_at}
 use Rattle.go_tree.specs.Tree.{tree_of}
-use Rattle.go_check.specs.Evaluated.{all_evaluated, evaluated_view, evaluated_views}
-use Rattle.go_check.specs.Table.{slot_of}
+use Rattle.go_check.specs.Values.Evaluated.{all_evaluated, evaluated_view, evaluated_views}
+use Rattle.go_check.specs.Values.Table.{slot_of}
 use Rattle.go_check.specs.View.{means_by}
 use Rattle.go_check.proofs.EvaluatedLemmas.{map-append, node_done}
 use Rattle.go_check.proofs.evaluated.+push_evaluated.Goals as goal

@@ -1,10 +1,10 @@
 use Rattle.std.proofs.Common.{◌≡◌, ◌++◌, map, drop, reverse}
 use Rattle.std.specs.List.{flat_map}
-use Rattle.go_check.specs.Judging.{value_of}
+use Rattle.go_check.specs.Values.Judging.{value_of}
 use Rattle.go_names.specs.Views.{trees_at}
 use Rattle.go_tree.specs.Tree.{tree_of, node_count}
-use Rattle.go_check.specs.Evaluated.{all_evaluated, evaluated_views}
-use Rattle.go_check.specs.Table.{slot_of}
+use Rattle.go_check.specs.Values.Evaluated.{all_evaluated, evaluated_views}
+use Rattle.go_check.specs.Values.Table.{slot_of}
 use Rattle.go_check.specs.View.{means_by}
 use Rattle.go_check.proofs.evaluated.+push_evaluated.Given as goal
 

@@ -1,8 +1,8 @@
 use Rattle.std.proofs.Common.{◌≡◌, ◌++◌, reverse, ap, ◌∙◌}
 use Rattle.std.proofs.lemmas.List.{reverse-reverse}
 use Rattle.go_tree.specs.Tree.{tree_of}
-use Rattle.go_check.specs.Evaluated.{all_evaluated, evaluated_view, evaluated_views}
-use Rattle.go_check.specs.Table.{slot_of}
+use Rattle.go_check.specs.Values.Evaluated.{all_evaluated, evaluated_view, evaluated_views}
+use Rattle.go_check.specs.Values.Table.{slot_of}
 use Rattle.go_check.specs.View.{means_by}
 use Rattle.go_check.proofs.EvaluatedLemmas.{map-reverse}
 use Rattle.go_check.proofs.evaluated.evaluate.Goals as goal

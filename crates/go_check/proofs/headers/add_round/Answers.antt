@@ -1,7 +1,7 @@
 use Rattle.std.proofs.Common.{sym, ◌∙◌, subst, arith, below_more}
 use Rattle.std.proofs.lemmas.Option.{slice_get_within}
 use Rattle.std.proofs.lemmas.List.{length-map}
-use Rattle.go_check.specs.Table.{IsSettled}
+use Rattle.go_check.specs.Values.Table.{IsSettled}
 use Rattle.go_check.specs.View.{means_by}
 use Rattle.go_names.specs.Views.{declaration_view, declarations_view}
 use Rattle.go_check.proofs.headers.add_round.Goals as goal

@@ -1,5 +1,5 @@
 use Rattle.std.proofs.Common.{◌≡◌, ℕ, false, true, ◌≤◌, ◌<◌}
-use Rattle.go_check.specs.Table.{IsBacked, IsSettled, open_count}
+use Rattle.go_check.specs.Values.Table.{IsBacked, IsSettled, open_count}
 use Rattle.go_check.specs.View.{means_by}
 use Rattle.go_names.specs.Views.{declarations_view}
 use Rattle.go_check.proofs.headers.add_round.Given as goal

@@ -1,5 +1,5 @@
 use Rattle.std.proofs.Common.{◌≡◌, length}
-use Rattle.go_check.specs.Table.{IsBacked, open_count}
+use Rattle.go_check.specs.Values.Table.{IsBacked, open_count}
 use Rattle.go_check.specs.View.{means_by}
 use Rattle.go_names.specs.Views.{declarations_view}
 use Rattle.go_check.proofs.headers.headers.Given as goal

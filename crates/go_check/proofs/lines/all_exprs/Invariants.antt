@@ -2,8 +2,8 @@ use Rattle.std.proofs.Common.{List, ◌++◌, map, drop}
 use Rattle.go_model.specs.Report.{line_view}
 use Rattle.go_model.specs.Report.{LineData}
 use Rattle.go_model.specs.LineOrder.{AreInOrder}
-use Rattle.go_check.specs.Found.{expr_lines, own_files_view}
-use Rattle.go_check.specs.Table.{slot_of}
+use Rattle.go_check.specs.Lines.Found.{expr_lines, own_files_view}
+use Rattle.go_check.specs.Values.Table.{slot_of}
 use Rattle.go_check.specs.View.{means_by}
 use Rattle.go_check.proofs.lines.all_exprs.Given as goal
 

@@ -1,5 +1,5 @@
 use Rattle.go_module.specs.Modules.Module.{module_view}
-use Rattle.go_check.specs.Names.{AreNames}
+use Rattle.go_check.specs.Packages.Names.{AreNames}
 use Rattle.go_check.proofs.names.names_of.Given as goal
 
 -- the packages before are asked

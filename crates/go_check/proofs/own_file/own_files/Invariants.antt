@@ -1,6 +1,6 @@
 use Rattle.std.proofs.Common.{◌≡◌, ◌++◌, map, drop}
 use Rattle.go_module.specs.Modules.Module.{file_view}
-use Rattle.go_check.specs.Found.{own_files_from, own_files_view}
+use Rattle.go_check.specs.Lines.Found.{own_files_from, own_files_view}
 use Rattle.go_check.proofs.own_file.own_files.Given as goal
 
 -- the files so far, with those left, are all files

@@ -2,7 +2,7 @@ use Rattle.std.proofs.Common.{ap, ◌∙◌}
 use Rattle.go_module.specs.Modules.Module.{package_view}
 use Rattle.go_module.specs.Names.Declarations.{declarations_in}
 use Rattle.go_names.specs.Views.{declarations_view}
-use Rattle.go_check.specs.Found.{all_specs_in, own_files_view}
+use Rattle.go_check.specs.Lines.Found.{all_specs_in, own_files_view}
 use Rattle.go_check.proofs.ValueLemmas.{specs_are}
 use Rattle.go_check.proofs.package.check_values.Goals as goal
 

@@ -11,8 +11,8 @@ use Rattle.go_model.specs.Report.{refused, verdict_view}
 use Rattle.go_model.specs.Values.Rules.{broken_values}
 use Rattle.go_model.specs.Values.Waiting.{Chain}
 use Rattle.go_names.specs.Views.{declarations_view}
-use Rattle.go_check.specs.Table.{slot_of}
-use Rattle.go_check.specs.Verdicts.{IsAccepting}
+use Rattle.go_check.specs.Values.Table.{slot_of}
+use Rattle.go_check.specs.Packages.Verdicts.{IsAccepting}
 use Rattle.go_check.specs.View.{denotes_by, means_by, outline_view}
 use Rattle.go_check.proofs.ResultLemmas.{both_if_ok}
 use Rattle.go_check.proofs.VerdictLemmas.{breaks, denotes_are, means_are, refused_values, sound_names, sound_verdict}
@@ -32,19 +32,19 @@ returns-then-breaks_none c =
     let listed = subst (λ t. IsListOf (broken_values means (slot_of table) (is_marked t) p) list) c.deref-3.ensures.value over_table in
     let none : list ≡ [] = sym c.deref-4.ensures.value ∙ c.breaks_none.ensures.none c.if-breaks_none.true in
     both_if_ok c.accept.result _ _ _
-    (λ judged verdict values m k at outline scopes.
-    let same = means_are m k p at declarations around c.requires.declarations c.requires.around scopes in
-    let found = breaks m k p around.before.now.entries means declarations same c.requires.declarations (slot_of table) (is_marked marks) list (sound_names m k p at around.scopes.now scopes) c.in_ok-table.ensures.exact chains listed in
+    (λ judged verdict values m k at outline uses.
+    let same = means_are m k p at declarations around c.requires.declarations c.requires.around uses in
+    let found = breaks m k p around.before.now.entries means declarations same c.requires.declarations (slot_of table) (is_marked marks) list (sound_names m k p at around.uses.now.entries uses) c.in_ok-table.ensures.exact chains listed in
     let accepting = subst (λ o. IsAccepting o k p (denotes_by around) means (slot_of table) (verdict_view judged.verdict)) outline
     (subst (λ t. IsAccepting (outline_view c.args.outline.now) k p (denotes_by around) means (slot_of t) (verdict_view judged.verdict)) c.deref-then-breaks_none.ensures.value (verdict k p c.requires.files)) in
     sound_verdict m k p around.before.now.entries means declarations same c.requires.declarations (slot_of table) (denotes_by around) list (verdict_view judged.verdict) judged.values.items found none
-    (denotes_are m k p at declarations around c.requires.declarations c.requires.around scopes)
+    (denotes_are m k p at declarations around c.requires.declarations c.requires.around uses)
     accepting
     (values ∙ ap (λ t. values_of means (slot_of t) declarations) c.deref-then-breaks_none.ensures.value))
     c.accept.ensures.verdict c.accept.ensures.values
 
 pub returns : goal.returns
-returns c m k at outline scopes =
+returns c m k at outline uses =
     let p = package_view c.args.own.now in
     let around = c.args.around.now in
     let before = around.before.now.entries in
@@ -56,8 +56,8 @@ returns c m k at outline scopes =
     let chains = subst (λ t. (d : ℕ) → (is_marked marks d ≡ true) ↔ Chain means declarations (slot_of t) d d) c.deref.ensures.value c.in_ok-cyclic.ensures.exact in
     let over_table = subst (λ t. IsListOf (broken_values means (slot_of t) (is_marked c.deref-3.result.now) p) list) c.deref-2.ensures.value c.in_ok-list.ensures in
     let listed = subst (λ t. IsListOf (broken_values means (slot_of table) (is_marked t) p) list) c.deref-3.ensures.value over_table in
-    let same = means_are m k p at declarations around c.requires.declarations c.requires.around scopes in
-    let found = breaks m k p before means declarations same c.requires.declarations (slot_of table) (is_marked marks) list (sound_names m k p at around.scopes.now scopes) c.in_ok-table.ensures.exact chains listed in
+    let same = means_are m k p at declarations around c.requires.declarations c.requires.around uses in
+    let found = breaks m k p before means declarations same c.requires.declarations (slot_of table) (is_marked marks) list (sound_names m k p at around.uses.now.entries uses) c.in_ok-table.ensures.exact chains listed in
     let some : list ≢ [] = λ e. c.breaks_none.ensures.some c.if-breaks_none.false (c.deref-4.ensures.value ∙ e) in
     let placed : c.in_ok-placed_list.field-0.items ≡ map (placed_by p) list = c.in_ok-placed_list.ensures ∙ ap (map (placed_by p)) c.deref-else-breaks_none.ensures.value in
     let after : before ≡ insert_all same_object before c.new.result.items = ap (insert_all same_object before) (sym c.new.ensures.items) in

@@ -3,7 +3,7 @@ use Rattle.std.specs.Option.{option_copied}
 use Rattle.indexmap.specs.IndexMap.{get}
 use Rattle.go_base.specs.declared.rule.Broken.{Broken}
 use Rattle.go_module.specs.Places.{placed_in}
-use Rattle.go_check.specs.Sources.{source_of}
+use Rattle.go_check.specs.Lines.Sources.{source_of}
 use Rattle.go_check.proofs.places.placed_each.Given as goal
 
 -- the broken rules so far stand at their places

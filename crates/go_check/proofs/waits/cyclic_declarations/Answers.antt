@@ -3,7 +3,7 @@ use Rattle.std.proofs.lemmas.List.{length-map}
 use Rattle.std.proofs.lemmas.Result.{IfOk-weaker}
 use Rattle.go_graph.specs.Graph.{IsGraph}
 use Rattle.go_names.specs.Views.{declaration_view, declarations_view}
-use Rattle.go_check.specs.Table.{slot_of}
+use Rattle.go_check.specs.Values.Table.{slot_of}
 use Rattle.go_check.specs.View.{PlacesBelow, means_by}
 use Rattle.go_check.proofs.WaitLemmas.{places_within, waits_graph, paths_are_chains}
 use Rattle.go_check.proofs.waits.cyclic_declarations.Goals as goal

@@ -1,8 +1,8 @@
 use Rattle.std.proofs.Common.{◌≡◌, ◌++◌, drop, map}
 use Rattle.std.specs.List.{flat_map}
-use Rattle.go_check.specs.Judging.{lacked_in}
+use Rattle.go_check.specs.Values.Judging.{lacked_in}
 use Rattle.go_tree.specs.Tree.{tree_of}
-use Rattle.go_check.specs.Table.{slot_of}
+use Rattle.go_check.specs.Values.Table.{slot_of}
 use Rattle.go_check.specs.View.{means_by}
 use Rattle.go_check.proofs.waits.push_lacked.Given as goal
 

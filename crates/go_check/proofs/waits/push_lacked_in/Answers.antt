@@ -1,10 +1,10 @@
 use Rattle.std.proofs.Common.{◌++◌, ap, ◌∙◌}
 use Rattle.std.specs.List.{flat_map}
 use Rattle.go_module.specs.Names.Occurrences.{nodes_in}
-use Rattle.go_check.specs.Judging.{lacked}
+use Rattle.go_check.specs.Values.Judging.{lacked}
 use Rattle.go_tree.specs.Tree.{tree_of}
-use Rattle.go_check.specs.Evaluated.{EvaluatedData, evaluated, evaluated_views}
-use Rattle.go_check.specs.Table.{slot_of}
+use Rattle.go_check.specs.Values.Evaluated.{EvaluatedData, evaluated, evaluated_views}
+use Rattle.go_check.specs.Values.Table.{slot_of}
 use Rattle.go_check.specs.View.{means_by}
 use Rattle.go_check.proofs.EvaluatedLemmas.{flat_map-map}
 use Rattle.go_check.proofs.waits.push_lacked_in.Goals as goal

@@ -1,7 +1,7 @@
 use Rattle.std.proofs.Common.{◌≡◌, ◌++◌, drop}
 use Rattle.std.specs.List.{flat_map}
-use Rattle.go_check.specs.Judging.{lacked}
-use Rattle.go_check.specs.Evaluated.{evaluated_views}
+use Rattle.go_check.specs.Values.Judging.{lacked}
+use Rattle.go_check.specs.Values.Evaluated.{evaluated_views}
 use Rattle.go_check.proofs.waits.push_waits.Given as goal
 
 abbrev pub invariant-loop-node : goal.invariant-loop-node

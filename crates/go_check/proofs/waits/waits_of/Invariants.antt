@@ -1,7 +1,7 @@
 use Rattle.std.proofs.Common.{◌≡◌, ◌++◌, drop}
-use Rattle.go_check.specs.Judging.{lacking}
+use Rattle.go_check.specs.Values.Judging.{lacking}
 use Rattle.go_names.specs.Views.{declarations_view}
-use Rattle.go_check.specs.Table.{slot_of}
+use Rattle.go_check.specs.Values.Table.{slot_of}
 use Rattle.go_check.specs.View.{means_by}
 use Rattle.go_check.proofs.waits.waits_of.Given as goal
 

@@ -13,7 +13,7 @@ use Rattle.go_model.specs.PackageLines.{record_line}
 use Rattle.go_model.specs.Report.{LineData}
 use Rattle.go_model.specs.Values.Quests.{Asked, Decided, Lacks, run}
 use Rattle.go_model.specs.Outcomes.Walk.{Headers}
-use Rattle.go_check.specs.Judging.{asked_of, meant_value, name_test, rule_at, selector_test, sum_of, sum_test, told_at, value_of}
+use Rattle.go_check.specs.Values.Judging.{asked_of, meant_value, name_test, rule_at, selector_test, sum_of, sum_test, told_at, value_of}
 use Rattle.go_check.specs.declared.evaluated.Evaluated.{Evaluated}
 use Rattle.go_check.specs.declared.evaluated.Tested.{Tested}
 use Rattle.go_check.specs.declared.evaluated.Tested.TheVariants.{Yes, No, Waits}

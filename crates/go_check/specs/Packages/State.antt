@@ -5,9 +5,9 @@ use Rattle.go_module.specs.Modules.Module.{ModuleData}
 use Rattle.go_graph.specs.Graph.{is_marked}
 use Rattle.go_model.specs.Phases.{AreReports}
 use Rattle.go_model.specs.Report.{PackageReportData, package_view}
+use Rattle.go_check.specs.declared.denoted.Denoted.{Denoted}
 use Rattle.go_check.specs.declared.module.State.{State}
-use Rattle.go_check.specs.declared.names.Names.{Names}
-use Rattle.go_check.specs.Names.{sound_at}
+use Rattle.go_check.specs.Packages.Names.{sound_at}
 
 -- what is known behind the packages that are checked: which are accepted, the values of their constants, and
 -- the reports
@@ -20,15 +20,15 @@ abbrev pub state_view : State → StateData
 state_view s = record { marks = s.marks.items; before = s.before.entries; reports = map package_view s.reports.items }
 
 -- the names of each package that is accepted break no rule
-abbrev pub AcceptedAreSound : Names → List Bool → Type 0
-AcceptedAreSound names marks = (q : ℕ) → is_marked marks q ≡ true → sound_at names.verdicts.items q ≡ true
+abbrev pub AcceptedAreSound : Denoted → List Bool → Type 0
+AcceptedAreSound denoted marks = (q : ℕ) → is_marked marks q ≡ true → sound_at denoted.verdicts.items q ≡ true
 
 -- the reports so far, with those of the packages left, are those of the module
 abbrev pub IsFront : ModuleData → ℕ → StateData → Type 0
 IsFront m k s = (rest : List PackageReportData) → AreReports m k s.marks s.before (drop k m.packages) rest → AreReports m 0 [] [] m.packages (s.reports ++ rest)
 
 -- the packages before the place k are checked
-pub record IsState (m : ModuleData) (names : Names) (k : ℕ) (s : State) : Type 0 where
+pub record IsState (m : ModuleData) (denoted : Denoted) (k : ℕ) (s : State) : Type 0 where
   pub marked : length s.marks.items ≡ k
-  pub accepted_sound : AcceptedAreSound names s.marks.items
+  pub accepted_sound : AcceptedAreSound denoted s.marks.items
   pub front : IsFront m k (state_view s)

@@ -10,7 +10,7 @@ use Rattle.go_model.specs.Outcomes.Judged.{Broken, OutcomeData, Waits, outcome_a
 use Rattle.go_model.specs.Outcomes.Readings.{record_in}
 use Rattle.go_model.specs.Outcomes.Walk.{Headers, construct, outcome, outcomes}
 use Rattle.go_model.specs.Values.Quests.{Decided, Lacks}
-use Rattle.go_check.specs.Judging.{asked_of, rule_at, value_of}
+use Rattle.go_check.specs.Values.Judging.{asked_of, rule_at, value_of}
 
 -- the outcomes of the operands of a node
 abbrev pub operands_of : (ℕ → Meaning) → Headers → Tree → List (OutcomeData ℤ)
