@@ -9,9 +9,9 @@ use Rattle.go_model.specs.Outcomes.Readings.{broken_spots}
 use Rattle.go_model.specs.Outcomes.Walk.{Headers, outcome}
 use Rattle.go_model.specs.Values.Quests.{Asked, Decided, Lacks}
 use Rattle.go_model.specs.Values.Rules.{broken_node}
-use Rattle.go_check.specs.Values.Evaluated.{broken_by, evaluated}
-use Rattle.go_check.specs.Values.Judging.{asked_of, rule_at, told_at}
-use Rattle.go_check.proofs.AgreementLemmas.{outcome_agrees}
+use Rattle.go_expr.specs.Evaluated.{broken_by, evaluated}
+use Rattle.go_expr.specs.Judging.{asked_of, rule_at, told_at}
+use Rattle.go_expr.proofs.AgreementLemmas.{outcome_agrees}
 
 module _ (means : ℕ → Meaning) (headers : Headers) (file : ℕ) (told : Option ℕ) where
   -- a node that breaks no rule tells none

@@ -9,9 +9,9 @@ use Rattle.go_model.specs.declared.meaning.Meaning.{Meaning}
 use Rattle.go_model.specs.PackageLines.{expr_at, record_line}
 use Rattle.go_model.specs.Report.{LineData}
 use Rattle.go_model.specs.Outcomes.Walk.{Headers}
-use Rattle.go_check.specs.declared.evaluated.Evaluated.{Evaluated}
-use Rattle.go_check.specs.Values.Evaluated.{EvaluatedData, all_evaluated, evaluated, evaluated_views, line_by}
-use Rattle.go_check.proofs.AgreementLemmas.{value_is}
+use Rattle.go_expr.specs.declared.evaluated.Evaluated.{Evaluated}
+use Rattle.go_expr.specs.Evaluated.{EvaluatedData, all_evaluated, evaluated, evaluated_views, line_by}
+use Rattle.go_expr.proofs.AgreementLemmas.{value_is}
 
 -- the lines by the records of nodes are those of the nodes
 lines_are : (stub : Bool) (f : FileData) (means : ℕ → Meaning) (headers : Headers) (nodes : List Tree) → flat_map (line_by stub f) (map (evaluated means headers) nodes) ≡ flat_map (expr_at stub f means headers) nodes

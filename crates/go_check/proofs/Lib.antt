@@ -1,9 +1,6 @@
-pub mod AgreementLemmas
-pub mod AwaitedLemmas
 pub mod BrokenLemmas
 pub mod DeclaredLemmas
 pub mod DenotedLemmas
-pub mod EvaluatedLemmas
 pub mod ExprLemmas
 pub mod FoundLemmas
 pub mod NamedLemmas
@@ -12,8 +9,6 @@ pub mod OrderedLemmas
 pub mod PlaceLemmas
 pub mod PlacedLemmas
 pub mod ResultLemmas
-pub mod RoundLemmas
 pub mod StateLemmas
 pub mod ValueLemmas
 pub mod VerdictLemmas
-pub mod WaitLemmas

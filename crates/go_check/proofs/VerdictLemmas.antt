@@ -25,10 +25,10 @@ use Rattle.go_model.specs.Outcomes.Walk.{Headers}
 use Rattle.go_model.specs.Values.Rules.{broken_values}
 use Rattle.go_model.specs.Values.Waiting.{Chain}
 use Rattle.go_scope.specs.Collecting.{IsBrokenNames}
-use Rattle.go_check.specs.declared.around.Around.{Around}
+use Rattle.go_expr.specs.declared.around.Around.{Around}
 use Rattle.go_check.specs.Packages.Denoted.{AreUses}
 use Rattle.go_check.specs.Packages.Verdicts.{IsAccepting}
-use Rattle.go_check.specs.View.{IsAround, denotes_by, means_by, places_by}
+use Rattle.go_expr.specs.View.{IsAround, denotes_by, means_by, places_by}
 
 -- the package at a place is one
 same_package : (m : ModuleData) (k : ℕ) (p q : PackageData) → slice_get m.packages k ≡ Some p → slice_get m.packages k ≡ Some q → q ≡ p

@@ -1,5 +1,4 @@
 -- what inner functions promise each other
 pub mod View
 pub mod Packages
-pub mod Values
 pub mod Lines

@@ -10,14 +10,14 @@ ghost use Rattle.go_model.specs.PackageLines as spec;
 ghost use Rattle.go_model.specs.Report.{defined, defined_view, line_view};
 ghost use Rattle.go_names.specs.Views.{declaration_view, declarations_view, trees_at};
 ghost use Rattle.go_check.specs.Lines.Found.{def_lines, import_lines, own_file_view};
-ghost use Rattle.go_check.specs.Values.Table.{slot_of};
-ghost use Rattle.go_check.specs.View.{means_by, outline_view};
+ghost use Rattle.go_expr.specs.Table.{slot_of};
+ghost use Rattle.go_expr.specs.View.{means_by};
+ghost use Rattle.go_check.specs.View.{outline_view};
 
-use crate::around::Around;
 use crate::outline::Outline;
 use crate::own_file::OwnFile;
-use crate::record::value_over;
 use go_base::NoMemory;
+use go_expr::{Around, value_over};
 use go_model::{DefKind, Line, What};
 use go_module::text_name;
 use go_names::{Declaration, declarations_in};

@@ -1,27 +1,20 @@
 //! What checking a module tells.
 //!
 //! `check_module` answers with the report of a module: of each package, in import order, the rules that its names or
-//! its values break, or its lines. The scopes of all packages are collected first; headers, the values of constants,
-//! are found in rounds over a table.
+//! its values break, or its lines. The scopes of all packages are collected first. Headers are found in go_decl, records
+//! in go_expr.
 #![tactic(auto)]
 
 mod rules;
 
-// The files of a package, and what identifiers mean.
-mod around;
+// The files of a package, and what identifiers denote.
 mod denoted;
 mod names;
 mod own_file;
 
-// The values of declarations.
-mod evaluated;
-mod headers;
-mod record;
-
 // The rules on values.
 mod broken;
 mod values;
-mod waits;
 
 // Places.
 mod declared;

@@ -6,10 +6,10 @@ ghost use Rattle.go_model.specs.PackageLines as spec;
 ghost use Rattle.go_model.specs.Report.{line_view};
 ghost use Rattle.go_check.specs.Lines.Found.{def_lines, expr_lines, own_files_in, own_files_view, use_lines};
 ghost use Rattle.go_check.specs.Lines.Ordered.{AddsInOrder};
-ghost use Rattle.go_check.specs.Values.Table.{slot_of};
-ghost use Rattle.go_check.specs.View.{denotes_by, means_by, outline_view};
+ghost use Rattle.go_expr.specs.Table.{slot_of};
+ghost use Rattle.go_expr.specs.View.{denotes_by, means_by};
+ghost use Rattle.go_check.specs.View.{outline_view};
 
-use crate::around::Around;
 use crate::defs::found_defs;
 use crate::exprs::found_exprs;
 use crate::line_order::put_in_order;
@@ -17,6 +17,7 @@ use crate::outline::Outline;
 use crate::own_file::OwnFile;
 use crate::uses::found_uses;
 use go_base::NoMemory;
+use go_expr::Around;
 use go_model::Line;
 use std::alloc::Global;
 

@@ -9,12 +9,13 @@ ghost use Rattle.go_model.specs.PackageLines as rule;
 ghost use Rattle.go_model.specs.Report.{line_view, used};
 ghost use Rattle.go_names.specs.Views.{specs_view};
 ghost use Rattle.go_check.specs.Lines.Found.{own_file_view, use_lines};
-ghost use Rattle.go_check.specs.View.{denotes_by, outline_view};
+ghost use Rattle.go_expr.specs.View.{denotes_by};
+ghost use Rattle.go_check.specs.View.{outline_view};
 
-use crate::around::Around;
 use crate::outline::Outline;
 use crate::own_file::OwnFile;
 use go_base::{Name, NoMemory};
+use go_expr::Around;
 use go_model::{Line, What};
 use go_module::{ObjId, Occurrence, Selected};
 use go_names::{Spec, names_in_specs};

@@ -9,14 +9,14 @@ ghost use Rattle.go_module.specs.Names.Declarations.{declarations_of};
 ghost use Rattle.go_model.specs.Values.Rules as rules;
 ghost use Rattle.go_names.specs.Views.{declaration_view, declarations_view, specs_view};
 ghost use Rattle.go_check.specs.Lines.Found.{all_specs_in, own_files_in, own_files_view};
-ghost use Rattle.go_check.specs.Values.Table.{slot_of};
-ghost use Rattle.go_check.specs.View.{means_by};
+ghost use Rattle.go_expr.specs.Table.{slot_of};
+ghost use Rattle.go_expr.specs.View.{means_by};
 
-use crate::around::Around;
 use crate::broken::push_spec;
 use crate::own_file::OwnFile;
 use crate::rules::CYCLIC_DECLARATION;
 use go_base::{Broken, NoMemory};
+use go_expr::Around;
 use go_graph::is_marked;
 use go_module::{Package, add_if, broken_at, ordered, with_numbers};
 use go_names::{Declaration, Spec};

@@ -119,7 +119,7 @@ fn each_read_fails_in_turn(rt: HostRuntime) -> Result<(), Fail> {
 fn a_put_that_fails_leaves_a_prefix(rt: HostRuntime) -> Result<(), Fail> {
     let alloc = rt.alloc();
     let text = TEXT.as_bytes();
-    for take in [0, 1, text.len().saturating_sub(1)] {
+    for take in [0, 1, 3, text.len().saturating_sub(1)] {
         let put = FailPut { call: 1, take };
         let (status, out) = failed(alloc, &["r", "--stubs", "s"], 7, put)?;
         assert_eq!(rt; status, Status::WriteFault, "{take}");

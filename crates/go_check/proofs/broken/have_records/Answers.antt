@@ -2,8 +2,8 @@ use Rattle.std.proofs.Common.{is_some, sym, ◌∙◌}
 use Rattle.std.proofs.lemmas.List.Folds.{list_all-map}
 use Rattle.go_model.specs.Values.Records.{record_of}
 use Rattle.go_tree.specs.Tree.{tree_of}
-use Rattle.go_check.specs.Values.Table.{slot_of}
-use Rattle.go_check.specs.View.{means_by}
+use Rattle.go_expr.specs.Table.{slot_of}
+use Rattle.go_expr.specs.View.{means_by}
 use Rattle.go_check.proofs.broken.have_records.Goals as goal
 
 pub returns : goal.returns

@@ -2,11 +2,11 @@ use Rattle.std.proofs.Common.{◌++◌, ap, ◌∙◌}
 use Rattle.std.specs.List.{flat_map}
 use Rattle.go_module.specs.Names.Occurrences.{nodes_in}
 use Rattle.go_tree.specs.Tree.{tree_of}
-use Rattle.go_check.specs.Values.Evaluated.{broken_by, evaluated, evaluated_views}
-use Rattle.go_check.specs.Values.Table.{slot_of}
-use Rattle.go_check.specs.View.{means_by}
+use Rattle.go_expr.specs.Evaluated.{broken_by, evaluated, evaluated_views}
+use Rattle.go_expr.specs.Table.{slot_of}
+use Rattle.go_expr.specs.View.{means_by}
 use Rattle.go_check.proofs.BrokenLemmas.{all_told}
-use Rattle.go_check.proofs.EvaluatedLemmas.{flat_map-map}
+use Rattle.go_expr.proofs.EvaluatedLemmas.{flat_map-map}
 use Rattle.go_check.proofs.broken.push_node.Goals as goal
 
 pub returns : goal.returns

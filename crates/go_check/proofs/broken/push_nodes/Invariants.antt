@@ -2,8 +2,8 @@ use Rattle.std.proofs.Common.{◌≡◌, ◌++◌, drop, map}
 use Rattle.std.specs.List.{flat_map}
 use Rattle.go_model.specs.Values.Rules.{broken_in}
 use Rattle.go_tree.specs.Tree.{tree_of}
-use Rattle.go_check.specs.Values.Table.{slot_of}
-use Rattle.go_check.specs.View.{means_by}
+use Rattle.go_expr.specs.Table.{slot_of}
+use Rattle.go_expr.specs.View.{means_by}
 use Rattle.go_check.proofs.broken.push_nodes.Given as goal
 
 abbrev pub invariant-loop-node : goal.invariant-loop-node

@@ -4,8 +4,8 @@ use Rattle.go_model.specs.Report.{line_view}
 use Rattle.go_module.specs.Modules.Module.{file_view}
 use Rattle.go_model.specs.PackageLines.{declaration_defs}
 use Rattle.go_names.specs.Views.{declarations_view}
-use Rattle.go_check.specs.Values.Table.{slot_of}
-use Rattle.go_check.specs.View.{means_by}
+use Rattle.go_expr.specs.Table.{slot_of}
+use Rattle.go_expr.specs.View.{means_by}
 use Rattle.go_check.proofs.defs.push_declarations.Given as goal
 
 -- what is pushed, with the lines of the declarations left, are those of all declarations

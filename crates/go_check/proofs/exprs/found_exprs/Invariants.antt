@@ -3,8 +3,8 @@ use Rattle.std.specs.List.{flat_map}
 use Rattle.go_model.specs.Report.{line_view}
 use Rattle.go_module.specs.Modules.Module.{file_view}
 use Rattle.go_model.specs.PackageLines.{expr_at}
-use Rattle.go_check.specs.Values.Table.{slot_of}
-use Rattle.go_check.specs.View.{means_by}
+use Rattle.go_expr.specs.Table.{slot_of}
+use Rattle.go_expr.specs.View.{means_by}
 use Rattle.go_module.specs.Names.Occurrences.{nodes_in_parts}
 use Rattle.go_names.specs.Views.{specs_view}
 use Rattle.go_check.proofs.exprs.found_exprs.Given as goal

@@ -2,8 +2,8 @@ use Rattle.std.proofs.Common.{◌+◌, drop, map, ap, arith}
 use Rattle.go_tree.specs.Tree.{tree_of}
 use Rattle.go_module.specs.Modules.Module.{file_view}
 use Rattle.go_model.specs.Report.{line_view}
-use Rattle.go_check.specs.Values.Table.{slot_of}
-use Rattle.go_check.specs.View.{means_by}
+use Rattle.go_expr.specs.Table.{slot_of}
+use Rattle.go_expr.specs.View.{means_by}
 use Rattle.go_check.proofs.ExprLemmas.{nodes_more}
 use Rattle.go_check.proofs.FoundLemmas.{drop-step}
 use Rattle.go_check.proofs.exprs.push_nodes.Goals as goal

@@ -2,8 +2,9 @@ use Rattle.std.proofs.Common.{◌+◌, drop, map, ap, arith}
 use Rattle.std.proofs.lemmas.List.{drop_all}
 use Rattle.go_model.specs.Report.{line_view}
 use Rattle.go_check.specs.Lines.Found.{def_lines, own_file_view, own_files_view}
-use Rattle.go_check.specs.Values.Table.{slot_of}
-use Rattle.go_check.specs.View.{means_by, outline_view}
+use Rattle.go_expr.specs.Table.{slot_of}
+use Rattle.go_expr.specs.View.{means_by}
+use Rattle.go_check.specs.View.{outline_view}
 use Rattle.go_check.proofs.FoundLemmas.{all_added, drop-step, one_added}
 use Rattle.go_check.proofs.lines.all_defs.Goals as goal
 

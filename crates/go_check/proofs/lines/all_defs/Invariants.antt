@@ -3,8 +3,9 @@ use Rattle.go_model.specs.Report.{line_view}
 use Rattle.go_model.specs.Report.{LineData}
 use Rattle.go_model.specs.LineOrder.{AreInOrder}
 use Rattle.go_check.specs.Lines.Found.{def_lines, own_files_view}
-use Rattle.go_check.specs.Values.Table.{slot_of}
-use Rattle.go_check.specs.View.{means_by, outline_view}
+use Rattle.go_expr.specs.Table.{slot_of}
+use Rattle.go_expr.specs.View.{means_by}
+use Rattle.go_check.specs.View.{outline_view}
 use Rattle.go_check.proofs.lines.all_defs.Given as goal
 
 -- what is added, before lines of the files left in order, is in order

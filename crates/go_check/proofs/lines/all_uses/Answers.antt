@@ -2,7 +2,8 @@ use Rattle.std.proofs.Common.{◌+◌, drop, map, ap, arith}
 use Rattle.std.proofs.lemmas.List.{drop_all}
 use Rattle.go_model.specs.Report.{line_view}
 use Rattle.go_check.specs.Lines.Found.{use_lines, own_file_view, own_files_view}
-use Rattle.go_check.specs.View.{denotes_by, outline_view}
+use Rattle.go_expr.specs.View.{denotes_by}
+use Rattle.go_check.specs.View.{outline_view}
 use Rattle.go_check.proofs.FoundLemmas.{all_added, drop-step, one_added}
 use Rattle.go_check.proofs.lines.all_uses.Goals as goal
 

@@ -3,7 +3,8 @@ use Rattle.go_model.specs.Report.{line_view}
 use Rattle.go_model.specs.Report.{LineData}
 use Rattle.go_model.specs.LineOrder.{AreInOrder}
 use Rattle.go_check.specs.Lines.Found.{use_lines, own_files_view}
-use Rattle.go_check.specs.View.{denotes_by, outline_view}
+use Rattle.go_expr.specs.View.{denotes_by}
+use Rattle.go_check.specs.View.{outline_view}
 use Rattle.go_check.proofs.lines.all_uses.Given as goal
 
 -- what is added, before lines of the files left in order, is in order

@@ -4,8 +4,9 @@ use Rattle.std.proofs.lemmas.Result.{IfOk-weaker}
 use Rattle.go_model.specs.declared.lines.Line.{Line}
 use Rattle.go_model.specs.Report.{LineData, line_view}
 use Rattle.go_check.specs.Lines.Found.{own_files_view}
-use Rattle.go_check.specs.Values.Table.{slot_of}
-use Rattle.go_check.specs.View.{denotes_by, means_by, outline_view}
+use Rattle.go_expr.specs.Table.{slot_of}
+use Rattle.go_expr.specs.View.{denotes_by, means_by}
+use Rattle.go_check.specs.View.{outline_view}
 use Rattle.go_check.proofs.FoundLemmas.{are_lines}
 use Rattle.go_check.proofs.lines.lines_of.Goals as goal
 

@@ -11,9 +11,10 @@ use Rattle.go_model.specs.Report.{refused, verdict_view}
 use Rattle.go_model.specs.Values.Rules.{broken_values}
 use Rattle.go_model.specs.Values.Waiting.{Chain}
 use Rattle.go_names.specs.Views.{declarations_view}
-use Rattle.go_check.specs.Values.Table.{slot_of}
+use Rattle.go_expr.specs.Table.{slot_of}
 use Rattle.go_check.specs.Packages.Verdicts.{IsAccepting}
-use Rattle.go_check.specs.View.{denotes_by, means_by, outline_view}
+use Rattle.go_expr.specs.View.{denotes_by, means_by}
+use Rattle.go_check.specs.View.{outline_view}
 use Rattle.go_check.proofs.ResultLemmas.{both_if_ok}
 use Rattle.go_check.proofs.VerdictLemmas.{breaks, denotes_are, means_are, refused_values, sound_names, sound_verdict}
 use Rattle.go_check.proofs.package.judge.Goals as goal

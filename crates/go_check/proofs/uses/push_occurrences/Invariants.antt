@@ -3,7 +3,8 @@ use Rattle.std.specs.List.{flat_map}
 use Rattle.go_model.specs.Report.{line_view}
 use Rattle.go_module.specs.Modules.Module.{file_view}
 use Rattle.go_model.specs.PackageLines.{occurrence_uses}
-use Rattle.go_check.specs.View.{denotes_by, outline_view}
+use Rattle.go_expr.specs.View.{denotes_by}
+use Rattle.go_check.specs.View.{outline_view}
 use Rattle.go_check.proofs.uses.push_occurrences.Given as goal
 
 -- what is pushed, with the uses left, are all uses

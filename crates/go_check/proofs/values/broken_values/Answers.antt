@@ -8,8 +8,8 @@ use Rattle.go_module.specs.Places.{with_number}
 use Rattle.go_model.specs.Values.Rules.{broken_cycles, broken_in_files, broken_spec, broken_values}
 use Rattle.go_names.specs.Views.{declarations_view}
 use Rattle.go_check.specs.Lines.Found.{all_specs_in, own_files_view}
-use Rattle.go_check.specs.Values.Table.{slot_of}
-use Rattle.go_check.specs.View.{means_by}
+use Rattle.go_expr.specs.Table.{slot_of}
+use Rattle.go_expr.specs.View.{means_by}
 use Rattle.go_check.proofs.ValueLemmas.{specs_are}
 use Rattle.go_check.proofs.values.broken_values.Goals as goal
 

@@ -3,8 +3,8 @@ use Rattle.std.specs.List.{flat_map}
 use Rattle.go_model.specs.Values.Rules.{broken_spec}
 use Rattle.go_names.specs.Views.{specs_view}
 use Rattle.go_check.specs.Lines.Found.{own_file_view}
-use Rattle.go_check.specs.Values.Table.{slot_of}
-use Rattle.go_check.specs.View.{means_by}
+use Rattle.go_expr.specs.Table.{slot_of}
+use Rattle.go_expr.specs.View.{means_by}
 use Rattle.go_check.proofs.FoundLemmas.{drop-step}
 use Rattle.go_check.proofs.ValueLemmas.{one_file_more}
 use Rattle.go_check.proofs.values.push_files.Goals as goal

@@ -2,8 +2,8 @@ use Rattle.std.proofs.Common.{◌≡◌, ◌++◌, drop}
 use Rattle.std.specs.List.{flat_map}
 use Rattle.go_model.specs.Values.Rules.{broken_spec}
 use Rattle.go_check.specs.Lines.Found.{all_specs_in, own_files_view}
-use Rattle.go_check.specs.Values.Table.{slot_of}
-use Rattle.go_check.specs.View.{means_by}
+use Rattle.go_expr.specs.Table.{slot_of}
+use Rattle.go_expr.specs.View.{means_by}
 use Rattle.go_check.proofs.values.push_files.Given as goal
 
 abbrev pub invariant-loop-file : goal.invariant-loop-file

@@ -1,8 +1,8 @@
 use Rattle.std.proofs.Common.{arith}
 use Rattle.go_model.specs.Values.Rules.{broken_spec}
 use Rattle.go_names.specs.Views.{spec_view}
-use Rattle.go_check.specs.Values.Table.{slot_of}
-use Rattle.go_check.specs.View.{means_by}
+use Rattle.go_expr.specs.Table.{slot_of}
+use Rattle.go_expr.specs.View.{means_by}
 use Rattle.go_check.proofs.FoundLemmas.{drop-step}
 use Rattle.go_check.proofs.ValueLemmas.{one_spec_more}
 use Rattle.go_check.proofs.values.push_specs.Goals as goal

@@ -2,8 +2,8 @@ use Rattle.std.proofs.Common.{◌≡◌, ◌++◌, drop}
 use Rattle.std.specs.List.{flat_map}
 use Rattle.go_model.specs.Values.Rules.{broken_spec}
 use Rattle.go_names.specs.Views.{specs_view}
-use Rattle.go_check.specs.Values.Table.{slot_of}
-use Rattle.go_check.specs.View.{means_by}
+use Rattle.go_expr.specs.Table.{slot_of}
+use Rattle.go_expr.specs.View.{means_by}
 use Rattle.go_check.proofs.values.push_specs.Given as goal
 
 abbrev pub invariant-loop-spec : goal.invariant-loop-spec

@@ -1,9 +1,0 @@
-use Rattle.std.proofs.Common.{◌≡◌, ◌++◌, drop}
-use Rattle.std.specs.List.{flat_map}
-use Rattle.go_check.specs.Values.Judging.{lacked}
-use Rattle.go_check.specs.Values.Evaluated.{evaluated_views}
-use Rattle.go_check.proofs.waits.push_waits.Given as goal
-
-abbrev pub invariant-loop-node : goal.invariant-loop-node
-invariant-loop-node l =
-    l.places ++ flat_map (λ e. lacked e.asked) (evaluated_views (drop l.node-index l.list)) ≡ l.fn.places ++ flat_map (λ e. lacked e.asked) (evaluated_views l.list)

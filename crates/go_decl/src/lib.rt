@@ -1,0 +1,11 @@
+//! The headers of declarations.
+//!
+//! `headers` finds them in rounds over a table; `cyclic_declarations` says which of those that have none wait for
+//! themselves. What an expression comes to is decided in go_expr, which vertices of a graph lie on a cycle in go_graph.
+#![tactic(auto)]
+
+mod rounds;
+mod waits;
+
+pub use rounds::headers;
+pub use waits::cyclic_declarations;

@@ -1,0 +1,123 @@
+// Which declaration waits for the header of which (Go specification, "Declarations and scope").
+ghost use Rattle.std.specs.Prelude.{◌≡◌, ◌++◌, ◌↔◌, ℕ, true, IfOk, OnOk, length, map};
+ghost use Rattle.std.specs.List.{flat_map};
+ghost use Rattle.go_graph.specs.Graph.{is_marked};
+ghost use Rattle.go_model.specs.Values.Waiting.{Chain};
+ghost use Rattle.go_names.specs.Views.{declaration_view, declarations_view};
+ghost use Rattle.go_tree.specs.Tree.{tree_of};
+ghost use Rattle.go_expr.specs.Evaluated.{evaluated_view, evaluated_views};
+ghost use Rattle.go_expr.specs.Judging as judging;
+ghost use Rattle.go_expr.specs.Judging.{lacked, lacking};
+ghost use Rattle.go_expr.specs.Table.{slot_of};
+ghost use Rattle.go_expr.specs.View.{PlacesBelow, means_by};
+
+use go_base::NoMemory;
+use go_expr::{Around, Evaluated, Tested, evaluate};
+use go_graph::{Numbers, cyclic_vertices};
+use go_names::Declaration;
+use go_tree::Node;
+use std::alloc::Global;
+
+/// For each declaration, whether it waits for its own header, be it through others. An error is want of memory.
+pub fn cyclic_declarations(
+    alloc: Global,
+    around: &Around,
+    table: &[Option<i128>],
+    declarations: &[Declaration],
+) -> Result<Vec<bool>, NoMemory>
+    requires { PlacesBelow (length declarations.now) around.now }
+    ensures length { IfOk result (λ cyclic. length cyclic.items ≡ length declarations.now) }
+    ensures exact { IfOk result (λ cyclic. (d : ℕ) → (is_marked cyclic.items d ≡ true)
+        ↔ Chain (means_by around.now) (declarations_view declarations.now) (slot_of table.now) d d) }
+{
+    let waits = waits_of(alloc, around, table, declarations)?;
+    cyclic_vertices(alloc, &waits)
+}
+
+// For each declaration, the places of the declarations whose headers its parts lack.
+fn waits_of(
+    alloc: Global,
+    around: &Around,
+    table: &[Option<i128>],
+    declarations: &[Declaration],
+) -> Result<Vec<Numbers>, NoMemory>
+    ensures { IfOk result (λ waits. waits.items
+        ≡ lacking (means_by around.now) (slot_of table.now) (declarations_view declarations.now)) }
+{
+    let mut waits = Vec::new(alloc);
+    for declaration in declarations {
+        waits.push(lacked_by(alloc, around, table, declaration)?)?;
+    }
+    Ok(waits)
+}
+
+// The places of the declarations whose headers the parts of one lack.
+fn lacked_by(
+    alloc: Global,
+    around: &Around,
+    table: &[Option<i128>],
+    declaration: &Declaration,
+) -> Result<Numbers, NoMemory>
+    ensures { IfOk result (λ places. places
+        ≡ judging.lacked_by (means_by around.now) (slot_of table.now) (declaration_view declaration.now)) }
+{
+    let mut places = Numbers::new(alloc);
+    push_lacked(alloc, around, table, declaration.types, &mut places)?;
+    push_lacked(alloc, around, table, declaration.values, &mut places)?;
+    Ok(places)
+}
+
+// Pushes the places of the declarations whose headers these expressions lack.
+fn push_lacked(
+    alloc: Global,
+    around: &Around,
+    table: &[Option<i128>],
+    nodes: &[Node],
+    places: &mut Numbers,
+) -> Result<(), NoMemory>
+    ensures { OnOk result (places.new ≡ places.old
+        ++ flat_map (judging.lacked_in (means_by around.now) (slot_of table.now)) (map tree_of nodes.now)) }
+{
+    for node in nodes {
+        push_lacked_in(alloc, around, table, node, places)?;
+    }
+    Ok(())
+}
+
+// Pushes the places of the declarations whose headers this expression lacks.
+fn push_lacked_in(
+    alloc: Global,
+    around: &Around,
+    table: &[Option<i128>],
+    node: &Node,
+    places: &mut Numbers,
+) -> Result<(), NoMemory>
+    ensures { OnOk result (places.new
+        ≡ places.old ++ judging.lacked_in (means_by around.now) (slot_of table.now) (tree_of node.now)) }
+{
+    let list = evaluate(alloc, around, table, node)?;
+    push_waits(&list, places)?;
+    Ok(())
+}
+
+// Pushes the places of the declarations whose headers the tests at these nodes lack.
+fn push_waits(list: &[Evaluated], places: &mut Numbers) -> Result<(), NoMemory>
+    ensures { OnOk result (places.new ≡ places.old
+        ++ flat_map (λ e. lacked e.asked) (evaluated_views list.now)) }
+{
+    for node in list {
+        push_wait(node, places)?;
+    }
+    Ok(())
+}
+
+fn push_wait(node: &Evaluated, places: &mut Numbers) -> Result<(), NoMemory>
+    ensures { OnOk result (places.new ≡ places.old ++ lacked (evaluated_view node.now).asked) }
+{
+    match node.asked {
+        Some(Tested::Waits(place)) => places.push(place),
+        Some(Tested::Yes) => Ok(()),
+        Some(Tested::No) => Ok(()),
+        None => Ok(()),
+    }
+}

@@ -1,0 +1,7 @@
+-- what public contracts cite
+pub mod View
+pub mod Table
+pub mod Evaluated
+pub mod Judging
+-- how these stand to outcomes
+pub mod Agreement
