@@ -15,14 +15,14 @@ use Rattle.go_model.specs.declared.meaning.Meaning.TheVariants.{Other, Outer, Ow
 use Rattle.go_model.specs.declared.outcome.Spot.{Spot}
 use Rattle.go_model.specs.declared.outcome.Spot.TheVariants.{Whole}
 use Rattle.go_model.specs.Outcomes.Judged.{Broken, Found, Nothing, OutcomeData, Waits, judged, made, outcome_at, tested}
-use Rattle.go_model.specs.Outcomes.Limits.{wide_integer}
-use Rattle.go_model.specs.Outcomes.Name.{name as name_construct}
-use Rattle.go_model.specs.Outcomes.Parentheses.{parentheses}
+use Rattle.go_model.specs.Outcomes.Constructs.Limits.{wide_integer}
+use Rattle.go_model.specs.Outcomes.Constructs.Name.{name as name_construct}
+use Rattle.go_model.specs.Outcomes.Constructs.Parentheses.{parentheses}
 use Rattle.go_expr.specs.Agreement.{OutcomeAgrees, operands_of}
 use Rattle.go_model.specs.Outcomes.Readings.{record_in}
-use Rattle.go_model.specs.Outcomes.Selector.{selector}
-use Rattle.go_model.specs.Outcomes.Constructs.{at_whole}
-use Rattle.go_model.specs.Outcomes.Sum.{sum}
+use Rattle.go_model.specs.Outcomes.Constructs.Selector.{selector}
+use Rattle.go_model.specs.Outcomes.Operands.{at_whole}
+use Rattle.go_model.specs.Outcomes.Constructs.Sum.{sum}
 use Rattle.go_model.specs.Outcomes.Walk.{Headers, outcome, outcomes}
 use Rattle.go_model.specs.Values.Quests.{Asked, Decided, Done, Lacks, run}
 use Rattle.go_expr.specs.Judging.{asked_of, meant_value, name_test, rule_at, selector_test, sum_of, sum_test, value_of}

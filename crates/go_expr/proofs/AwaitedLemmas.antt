@@ -14,8 +14,8 @@ use Rattle.go_names.proofs.WalkLemmas.{inner_smaller, nodes_in-inner}
 use Rattle.go_model.specs.declared.meaning.Meaning.{Meaning}
 use Rattle.go_model.specs.declared.meaning.Meaning.TheVariants.{Other, Outer, Own, Predeclared}
 use Rattle.go_model.specs.Outcomes.Judged.{Broken, Found, Nothing, OutcomeData, Waits, outcome_at}
-use Rattle.go_model.specs.Outcomes.Name.{name as name_construct}
-use Rattle.go_model.specs.Outcomes.Selector.{selector}
+use Rattle.go_model.specs.Outcomes.Constructs.Name.{name as name_construct}
+use Rattle.go_model.specs.Outcomes.Constructs.Selector.{selector}
 use Rattle.go_model.specs.Outcomes.Readings.{awaited_in}
 use Rattle.go_model.specs.Outcomes.Walk.{Headers, outcome, outcomes}
 use Rattle.go_model.specs.Values.Quests.{Asked, Decided, Lacks}

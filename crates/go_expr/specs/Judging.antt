@@ -19,7 +19,7 @@ use Rattle.go_module.specs.Names.Occurrences.{nodes_in}
 use Rattle.go_module.specs.Rules.{unbuilt_form}
 use Rattle.go_model.specs.declared.meaning.Meaning.{Meaning}
 use Rattle.go_model.specs.declared.meaning.Meaning.TheVariants.{Other, Outer, Own, Predeclared}
-use Rattle.go_model.specs.Outcomes.Limits.{wide_integer}
+use Rattle.go_model.specs.Outcomes.Constructs.Limits.{wide_integer}
 use Rattle.go_model.specs.Outcomes.Walk.{Headers}
 use Rattle.go_model.specs.Values.Quests.{Asked, Decided, Done, Lacks, Need, Quest, run}
 

@@ -1,12 +1,7 @@
 -- One outcome a node of an expression: how it is judged, the constructs, the walk over them, and what holds of it.
 pub mod Judged
+pub mod Operands
 pub mod Constructs
-pub mod Limits
-pub mod Literal
-pub mod Name
-pub mod Selector
-pub mod Parentheses
-pub mod Sum
 pub mod Walk
 pub mod Readings
 pub mod Stays

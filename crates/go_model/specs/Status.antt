@@ -30,7 +30,8 @@ broken_in (accepted lines named) = []
 broken_in (refused list) = list
 broken_in skipped = []
 
--- the status that the report of a module ends a run with
+-- the status that the report of a module ends a run with, whose packages are checked; where rules are broken before, it is
+-- `refusal_of`
 abbrev pub verdict_of : ReportData → Status
 verdict_of report =
     if list_any (λ p. has_beyond (broken_in p.verdict)) report.packages then Beyond

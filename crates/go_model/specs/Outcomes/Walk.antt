@@ -7,12 +7,12 @@ use Rattle.go_tree.specs.declared.node_kind.NodeKind.TheVariants.{AddExpr, IntLi
 use Rattle.go_tree.specs.Tree.{Tree, Trees, branch, id_of, list_of, more_trees, no_trees}
 use Rattle.go_model.specs.declared.meaning.Meaning.{Meaning}
 use Rattle.go_model.specs.Outcomes.Judged.{OutcomeData, Construct, judged}
-use Rattle.go_model.specs.Outcomes.Literal.{literal}
-use Rattle.go_model.specs.Outcomes.Name.{name}
-use Rattle.go_model.specs.Outcomes.Parentheses.{parentheses}
-use Rattle.go_model.specs.Outcomes.Selector.{selector}
-use Rattle.go_model.specs.Outcomes.Constructs.{no_construct}
-use Rattle.go_model.specs.Outcomes.Sum.{sum}
+use Rattle.go_model.specs.Outcomes.Constructs.Literal.{literal}
+use Rattle.go_model.specs.Outcomes.Constructs.Name.{name}
+use Rattle.go_model.specs.Outcomes.Constructs.Parentheses.{parentheses}
+use Rattle.go_model.specs.Outcomes.Constructs.Selector.{selector}
+use Rattle.go_model.specs.Outcomes.Operands.{no_construct}
+use Rattle.go_model.specs.Outcomes.Constructs.Sum.{sum}
 
 -- a map of headers: what it has for the declaration of the package at each place. Each constant here is an untyped
 -- integer constant, so that its header, and the record of an expression, is its value

@@ -61,7 +61,8 @@ verdict_fields p (accepted lines objects) = package_fields p (codes "accepted") 
 verdict_fields p (refused list) = package_fields p (codes "refused") ∷ map broken_fields list
 verdict_fields p skipped = package_fields p (codes "skipped") ∷ []
 
--- a report of packages, each line as its fields
+-- a report of packages, each line as its fields. That of rules which are broken before packages are checked reads as
+-- `first_fields`, and `ReportOf` has none
 abbrev pub report_fields : ReportData → List (List (List ℕ))
 report_fields r = module_fields r.path r.version ∷ flat_map (λ p. verdict_fields p p.verdict) r.packages
 

@@ -5,8 +5,8 @@ use Rattle.std.specs.Prelude.{ℕ, ℤ, pos, is_some, List, [], ◌∷◌}
 use Rattle.go_num.specs.Arithmetic.{limited}
 use Rattle.go_tree.specs.Lexical.LiteralValues.{int_lit_value}
 use Rattle.go_model.specs.Outcomes.Judged.{Construct}
-use Rattle.go_model.specs.Outcomes.Limits.{wide_integer}
-use Rattle.go_model.specs.Outcomes.Constructs.{at_whole, leaf}
+use Rattle.go_model.specs.Outcomes.Constructs.Limits.{wide_integer}
+use Rattle.go_model.specs.Outcomes.Operands.{at_whole, leaf}
 use Rattle.go_model.specs.Values.Quests.{Done}
 
 abbrev pub literal : List ℕ → Construct ℤ ℤ

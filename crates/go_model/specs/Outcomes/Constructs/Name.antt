@@ -6,7 +6,7 @@ use Rattle.go_module.specs.Rules.{unbuilt_form}
 use Rattle.go_model.specs.declared.meaning.Meaning.{Meaning}
 use Rattle.go_model.specs.declared.meaning.Meaning.TheVariants.{Own, Outer, Predeclared, Other}
 use Rattle.go_model.specs.Outcomes.Judged.{Construct}
-use Rattle.go_model.specs.Outcomes.Constructs.{at_whole, leaf, no_construct}
+use Rattle.go_model.specs.Outcomes.Operands.{at_whole, leaf, no_construct}
 use Rattle.go_model.specs.Values.Quests.{Done, Need}
 
 -- a constant of the package has the record of its header, one of another package its value; a predeclared identifier

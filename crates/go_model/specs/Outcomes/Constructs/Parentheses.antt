@@ -2,7 +2,7 @@
 -- Decides what is asked of an expression in parentheses: its part is the operand, and has its record.
 use Rattle.std.specs.Prelude.{ℤ, []}
 use Rattle.go_model.specs.Outcomes.Judged.{Construct}
-use Rattle.go_model.specs.Outcomes.Constructs.{of_one}
+use Rattle.go_model.specs.Outcomes.Operands.{of_one}
 use Rattle.go_model.specs.Values.Quests.{Done}
 
 abbrev pub parentheses : Construct ℤ ℤ

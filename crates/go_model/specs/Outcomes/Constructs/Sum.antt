@@ -5,8 +5,8 @@ use Rattle.std.specs.Prelude.{ℤ, is_some, [], ◌∷◌}
 use Rattle.go_num.specs.declared.arithmetic.IntOp.TheVariants.{Add}
 use Rattle.go_num.specs.Arithmetic.{binary_value, limited}
 use Rattle.go_model.specs.Outcomes.Judged.{Construct}
-use Rattle.go_model.specs.Outcomes.Limits.{wide_integer}
-use Rattle.go_model.specs.Outcomes.Constructs.{at_whole, of_two}
+use Rattle.go_model.specs.Outcomes.Constructs.Limits.{wide_integer}
+use Rattle.go_model.specs.Outcomes.Operands.{at_whole, of_two}
 use Rattle.go_model.specs.Values.Quests.{Done}
 
 abbrev pub sum : Construct ℤ ℤ

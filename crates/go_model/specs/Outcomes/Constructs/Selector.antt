@@ -6,8 +6,8 @@ use Rattle.go_module.specs.Rules.{unbuilt_form}
 use Rattle.go_model.specs.declared.meaning.Meaning.{Meaning}
 use Rattle.go_model.specs.declared.meaning.Meaning.TheVariants.{Own, Outer, Predeclared, Other}
 use Rattle.go_model.specs.Outcomes.Judged.{Construct}
-use Rattle.go_model.specs.Outcomes.Name.{name}
-use Rattle.go_model.specs.Outcomes.Constructs.{at_whole, of_one}
+use Rattle.go_model.specs.Outcomes.Constructs.Name.{name}
+use Rattle.go_model.specs.Outcomes.Operands.{at_whole, of_one}
 use Rattle.go_model.specs.Values.Quests.{Done}
 
 abbrev pub selector : Meaning → Construct ℤ ℤ
