@@ -2,22 +2,17 @@
 use Rattle.std.proofs.Common.{◌≡◌, ℕ, Bool, List, [], ◌∷◌, ◌++◌, map, refl, sym, ap, ◌∙◌, append_assoc}
 use Rattle.std.specs.List.{flat_map}
 use Rattle.std.proofs.lemmas.Grind.{flat_map-append}
-use Rattle.go_tree.specs.Tree.{Tree, end_of, start_of}
+use Rattle.go_tree.specs.Tree.{Tree}
 use Rattle.go_module.specs.Modules.Module.{FileData}
 use Rattle.go_module.specs.Names.Occurrences.{nodes_in}
 use Rattle.go_model.specs.declared.meaning.Meaning.{Meaning}
-use Rattle.go_model.specs.PackageLines.{expr_at, record_line}
+use Rattle.go_model.specs.PackageLines.{expr_at}
 use Rattle.go_model.specs.Report.{LineData}
 use Rattle.go_model.specs.Outcomes.Walk.{Headers}
 use Rattle.go_expr.specs.declared.evaluated.Evaluated.{Evaluated}
-use Rattle.go_expr.specs.Evaluated.{EvaluatedData, all_evaluated, evaluated, evaluated_views, line_by}
-use Rattle.go_expr.proofs.AgreementLemmas.{value_is}
-
--- the lines by the records of nodes are those of the nodes
-lines_are : (stub : Bool) (f : FileData) (means : ℕ → Meaning) (headers : Headers) (nodes : List Tree) → flat_map (line_by stub f) (map (evaluated means headers) nodes) ≡ flat_map (expr_at stub f means headers) nodes
-lines_are stub f means headers [] = refl
-lines_are stub f means headers (t ∷ nodes) =
-    (λ i. record_line stub f (start_of t) (end_of t) (value_is means headers t i) ++ lines_are stub f means headers nodes i)
+use Rattle.go_expr.specs.Evaluated.{EvaluatedData, all_evaluated, evaluated, evaluated_views}
+use Rattle.go_expr.proofs.EvaluatedLemmas.{flat_map-map}
+use Rattle.go_check.specs.Lines.Nodes.{line_by}
 
 -- one more expression
 pub nodes_more : (stub : Bool) (f : FileData) (means : ℕ → Meaning) (headers : Headers) (t : Tree) (left rest : List Tree) (list shown : List Evaluated) (old new whole : List LineData)
@@ -32,7 +27,7 @@ nodes_more stub f means headers t left rest list shown old new whole at is_shown
     now
     ∙ ap (λ (l : List Evaluated). old ++ flat_map (line_by stub f) (evaluated_views l)) is_shown
     ∙ ap (λ (l : List EvaluatedData). old ++ flat_map (line_by stub f) l) is_list
-    ∙ ap (λ (l : List LineData). old ++ l) (lines_are stub f means headers (nodes_in t)) in
+    ∙ ap (λ (l : List LineData). old ++ l) (flat_map-map (line_by stub f) (evaluated means headers) (nodes_in t)) in
     ap (λ (l : List LineData). l ++ lines others) here
     ∙ append_assoc old (lines (nodes_in t)) (lines others)
     ∙ ap (λ (l : List LineData). old ++ l) (sym (flat_map-append (expr_at stub f means headers) (nodes_in t) others))

@@ -1,4 +1,3 @@
-pub mod BrokenLemmas
 pub mod DeclaredLemmas
 pub mod DenotedLemmas
 pub mod ExprLemmas

@@ -2,3 +2,4 @@
 pub mod Found
 pub mod Ordered
 pub mod Sources
+pub mod Nodes

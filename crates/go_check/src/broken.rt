@@ -1,23 +1,22 @@
 // What a spec breaks (Go specification, "Constants", "Constant expressions", "Constant declarations", "Qualified
 // identifiers").
-ghost use Rattle.std.specs.Prelude.{◌≡◌, ◌++◌, IfOk, OnOk, is_some, map, unwrap_or};
+ghost use Rattle.std.specs.Prelude.{◌≡◌, ◌++◌, OnOk, is_some, map};
 ghost use Rattle.std.specs.List.{flat_map, list_all};
-ghost use Rattle.go_tree.specs.Tree.{tree_of, start_of, kind_of};
+ghost use Rattle.go_tree.specs.Tree.{tree_of};
 ghost use Rattle.go_model.specs.Values.Records.{record_of};
 ghost use Rattle.go_model.specs.Values.Rules as rules;
 ghost use Rattle.go_names.specs.Views.{spec_view};
 ghost use Rattle.go_expr.specs.Evaluated.{evaluated_view, evaluated_views};
-ghost use Rattle.go_expr.specs.Evaluated as evaluation;
-ghost use Rattle.go_expr.specs.Judging.{rule_at};
+ghost use Rattle.go_check.specs.Lines.Nodes.{broken_by};
 ghost use Rattle.go_expr.specs.Table.{slot_of};
 ghost use Rattle.go_expr.specs.View.{means_by};
 
-use crate::rules::{UNEQUAL_SIDES, WIDE_INTEGER};
-use go_base::{Broken, NoMemory, Rule};
-use go_expr::{Around, Evaluated, Tested, evaluate, record};
-use go_module::{UNBUILT_FORM, add_if, broken_at};
+use crate::rules::UNEQUAL_SIDES;
+use go_base::{Broken, NoMemory};
+use go_expr::{Around, Evaluated, NodeOutcome, evaluate, record};
+use go_module::{add_if, broken_at};
 use go_names::Spec;
-use go_tree::{Node, NodeKind};
+use go_tree::Node;
 use std::alloc::Global;
 
 /// Pushes what a spec breaks: R37 where its numbers of names and of expressions differ, and what its nodes break. An
@@ -109,7 +108,7 @@ fn push_each(
     found: &mut Vec<Broken>,
 ) -> Result<(), NoMemory>
     ensures { OnOk result (found.new.items ≡ found.old.items
-        ++ flat_map (evaluation.broken_by file told_at) (evaluated_views list.now)) }
+        ++ flat_map (broken_by file told_at) (evaluated_views list.now)) }
 {
     for node in list {
         push_one(file, told_at, node, found)?;
@@ -117,7 +116,7 @@ fn push_each(
     Ok(())
 }
 
-// Pushes the rule that the test at a node decides, where it fails.
+// Pushes the rule that a node breaks, if it does.
 fn push_one(
     file: usize,
     told_at: Option<usize>,
@@ -125,28 +124,16 @@ fn push_one(
     found: &mut Vec<Broken>,
 ) -> Result<(), NoMemory>
     ensures { OnOk result (found.new.items ≡ found.old.items
-        ++ evaluation.broken_by file told_at (evaluated_view node.now)) }
+        ++ broken_by file told_at (evaluated_view node.now)) }
 {
-    match node.asked {
-        Some(Tested::No) => {
+    match node.outcome {
+        NodeOutcome::Broken(rule) => {
             let offset = told_at.unwrap_or(node.node.start());
-            let rule = rule_at(node.node.kind());
             found.push(broken_at(file, offset, rule))?;
             Ok(())
         }
-        Some(Tested::Yes) => Ok(()),
-        Some(Tested::Waits(_)) => Ok(()),
-        None => Ok(()),
-    }
-}
-
-// The rule that the test at a node of this kind decides.
-fn rule_at(kind: NodeKind) -> Rule
-    ensures { result ≡ rule_at kind }
-{
-    match kind {
-        NodeKind::IntLit => WIDE_INTEGER,
-        NodeKind::AddExpr => WIDE_INTEGER,
-        _ => UNBUILT_FORM,
+        NodeOutcome::Found(_) => Ok(()),
+        NodeOutcome::Waits(_) => Ok(()),
+        NodeOutcome::Nothing => Ok(()),
     }
 }

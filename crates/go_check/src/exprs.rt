@@ -9,7 +9,7 @@ ghost use Rattle.go_model.specs.PackageLines as rule;
 ghost use Rattle.go_model.specs.Report.{line_view};
 ghost use Rattle.go_names.specs.Views.{spec_view, specs_view};
 ghost use Rattle.go_expr.specs.Evaluated.{evaluated_view, evaluated_views};
-ghost use Rattle.go_expr.specs.Evaluated as evaluation;
+ghost use Rattle.go_check.specs.Lines.Nodes.{line_by};
 ghost use Rattle.go_check.specs.Lines.Found.{expr_lines, own_file_view};
 ghost use Rattle.go_expr.specs.Table.{slot_of};
 ghost use Rattle.go_expr.specs.View.{means_by};
@@ -81,7 +81,7 @@ fn push_nodes(
 // Pushes the line of each of these nodes that has a record.
 fn push_each(file: &OwnFile, list: &[Evaluated], lines: &mut Vec<Line>) -> Result<(), NoMemory>
     ensures { OnOk result (map line_view lines.new.items ≡ map line_view lines.old.items ++ flat_map
-        (evaluation.line_by file.now.stub (file_view file.now.file.now)) (evaluated_views list.now)) }
+        (line_by file.now.stub (file_view file.now.file.now)) (evaluated_views list.now)) }
 {
     for node in list {
         push_one(file, node, lines)?;
@@ -91,9 +91,9 @@ fn push_each(file: &OwnFile, list: &[Evaluated], lines: &mut Vec<Line>) -> Resul
 
 fn push_one(file: &OwnFile, node: &Evaluated, lines: &mut Vec<Line>) -> Result<(), NoMemory>
     ensures { OnOk result (map line_view lines.new.items ≡ map line_view lines.old.items
-        ++ evaluation.line_by file.now.stub (file_view file.now.file.now) (evaluated_view node.now)) }
+        ++ line_by file.now.stub (file_view file.now.file.now) (evaluated_view node.now)) }
 {
-    if let Some(v) = node.value {
+    if let Some(v) = node.outcome.record() {
         lines.push(expr_line(file, node.node, v)?)?;
     }
     Ok(())

@@ -12,9 +12,3 @@ pub const UNEQUAL_SIDES: Rule = Rule {
     family: Family::R,
     number: 37,
 };
-
-/// An integer constant outside -2^127 to 2^127-1 (Go specification, "Constants").
-pub const WIDE_INTEGER: Rule = Rule {
-    family: Family::L,
-    number: 2,
-};

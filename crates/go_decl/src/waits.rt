@@ -2,17 +2,17 @@
 ghost use Rattle.std.specs.Prelude.{◌≡◌, ◌++◌, ◌↔◌, ℕ, true, IfOk, OnOk, length, map};
 ghost use Rattle.std.specs.List.{flat_map};
 ghost use Rattle.go_graph.specs.Graph.{is_marked};
-ghost use Rattle.go_model.specs.Values.Waiting.{Chain};
 ghost use Rattle.go_names.specs.Views.{declaration_view, declarations_view};
 ghost use Rattle.go_tree.specs.Tree.{tree_of};
 ghost use Rattle.go_expr.specs.Evaluated.{evaluated_view, evaluated_views};
-ghost use Rattle.go_expr.specs.Judging as judging;
-ghost use Rattle.go_expr.specs.Judging.{lacked, lacking};
+ghost use Rattle.go_model.specs.Outcomes.Readings.{awaited_in};
+ghost use Rattle.go_model.specs.Values.Waiting.{Chain, awaited_by, awaited_by_nodes};
+ghost use Rattle.go_decl.specs.Waits.{waits_of};
 ghost use Rattle.go_expr.specs.Table.{slot_of};
 ghost use Rattle.go_expr.specs.View.{PlacesBelow, means_by};
 
 use go_base::NoMemory;
-use go_expr::{Around, Evaluated, Tested, evaluate};
+use go_expr::{Around, Evaluated, NodeOutcome, evaluate};
 use go_graph::{Numbers, cyclic_vertices};
 use go_names::Declaration;
 use go_tree::Node;
@@ -34,7 +34,7 @@ pub fn cyclic_declarations(
     cyclic_vertices(alloc, &waits)
 }
 
-// For each declaration, the places of the declarations whose headers its parts lack.
+// For each declaration, the places of those for whose headers the nodes of its parts wait.
 fn waits_of(
     alloc: Global,
     around: &Around,
@@ -42,33 +42,33 @@ fn waits_of(
     declarations: &[Declaration],
 ) -> Result<Vec<Numbers>, NoMemory>
     ensures { IfOk result (λ waits. waits.items
-        ≡ lacking (means_by around.now) (slot_of table.now) (declarations_view declarations.now)) }
+        ≡ waits_of (means_by around.now) (slot_of table.now) (declarations_view declarations.now)) }
 {
     let mut waits = Vec::new(alloc);
     for declaration in declarations {
-        waits.push(lacked_by(alloc, around, table, declaration)?)?;
+        waits.push(awaited_by(alloc, around, table, declaration)?)?;
     }
     Ok(waits)
 }
 
-// The places of the declarations whose headers the parts of one lack.
-fn lacked_by(
+// The places of the declarations for whose headers the nodes of the parts of one wait.
+fn awaited_by(
     alloc: Global,
     around: &Around,
     table: &[Option<i128>],
     declaration: &Declaration,
 ) -> Result<Numbers, NoMemory>
     ensures { IfOk result (λ places. places
-        ≡ judging.lacked_by (means_by around.now) (slot_of table.now) (declaration_view declaration.now)) }
+        ≡ awaited_by (means_by around.now) (slot_of table.now) (declaration_view declaration.now)) }
 {
     let mut places = Numbers::new(alloc);
-    push_lacked(alloc, around, table, declaration.types, &mut places)?;
-    push_lacked(alloc, around, table, declaration.values, &mut places)?;
+    push_awaited(alloc, around, table, declaration.types, &mut places)?;
+    push_awaited(alloc, around, table, declaration.values, &mut places)?;
     Ok(places)
 }
 
-// Pushes the places of the declarations whose headers these expressions lack.
-fn push_lacked(
+// Pushes the places of the declarations for whose headers the nodes of these expressions wait.
+fn push_awaited(
     alloc: Global,
     around: &Around,
     table: &[Option<i128>],
@@ -76,16 +76,16 @@ fn push_lacked(
     places: &mut Numbers,
 ) -> Result<(), NoMemory>
     ensures { OnOk result (places.new ≡ places.old
-        ++ flat_map (judging.lacked_in (means_by around.now) (slot_of table.now)) (map tree_of nodes.now)) }
+        ++ flat_map (awaited_by_nodes (means_by around.now) (slot_of table.now)) (map tree_of nodes.now)) }
 {
     for node in nodes {
-        push_lacked_in(alloc, around, table, node, places)?;
+        push_awaited_in(alloc, around, table, node, places)?;
     }
     Ok(())
 }
 
-// Pushes the places of the declarations whose headers this expression lacks.
-fn push_lacked_in(
+// Pushes the places of the declarations for whose headers the nodes of this expression wait.
+fn push_awaited_in(
     alloc: Global,
     around: &Around,
     table: &[Option<i128>],
@@ -93,17 +93,17 @@ fn push_lacked_in(
     places: &mut Numbers,
 ) -> Result<(), NoMemory>
     ensures { OnOk result (places.new
-        ≡ places.old ++ judging.lacked_in (means_by around.now) (slot_of table.now) (tree_of node.now)) }
+        ≡ places.old ++ awaited_by_nodes (means_by around.now) (slot_of table.now) (tree_of node.now)) }
 {
     let list = evaluate(alloc, around, table, node)?;
     push_waits(&list, places)?;
     Ok(())
 }
 
-// Pushes the places of the declarations whose headers the tests at these nodes lack.
+// Pushes the places of the declarations for whose headers these nodes wait.
 fn push_waits(list: &[Evaluated], places: &mut Numbers) -> Result<(), NoMemory>
     ensures { OnOk result (places.new ≡ places.old
-        ++ flat_map (λ e. lacked e.asked) (evaluated_views list.now)) }
+        ++ flat_map (λ e. awaited_in e.outcome) (evaluated_views list.now)) }
 {
     for node in list {
         push_wait(node, places)?;
@@ -112,12 +112,12 @@ fn push_waits(list: &[Evaluated], places: &mut Numbers) -> Result<(), NoMemory>
 }
 
 fn push_wait(node: &Evaluated, places: &mut Numbers) -> Result<(), NoMemory>
-    ensures { OnOk result (places.new ≡ places.old ++ lacked (evaluated_view node.now).asked) }
+    ensures { OnOk result (places.new ≡ places.old ++ awaited_in (evaluated_view node.now).outcome) }
 {
-    match node.asked {
-        Some(Tested::Waits(place)) => places.push(place),
-        Some(Tested::Yes) => Ok(()),
-        Some(Tested::No) => Ok(()),
-        None => Ok(()),
+    match node.outcome {
+        NodeOutcome::Waits(place) => places.push(place),
+        NodeOutcome::Found(_) => Ok(()),
+        NodeOutcome::Broken(_) => Ok(()),
+        NodeOutcome::Nothing => Ok(()),
     }
 }

@@ -1,48 +1,14 @@
--- The nodes of an expression or a type with their records, node by node.
-use Rattle.std.proofs.Common.{◌≡◌, ℕ, Bool, List, [], ◌∷◌, ◌++◌, Option, Some, None, map, reverse, refl, sym, ap, ◌∙◌, append_assoc}
+-- The nodes of an expression or a type with their outcomes, node by node.
+use Rattle.std.proofs.Common.{◌≡◌, ℕ, List, [], ◌∷◌, ◌++◌, map, reverse, refl, sym, ap, ◌∙◌, append_assoc}
 use Rattle.std.specs.List.{flat_map}
-use Rattle.std.specs.Option.{option_map}
 use Rattle.std.proofs.lemmas.List.{reverse-append}
-use Rattle.go_tree.specs.declared.node_kind.NodeKind.TheVariants.{AddExpr, ParenExpr, SelectorExpr}
-use Rattle.go_tree.specs.Tree.{Tree, branch, no_trees, more_trees}
+use Rattle.go_tree.specs.Tree.{Tree}
 use Rattle.go_module.specs.Names.Inner.{inner_parts}
 use Rattle.go_module.specs.Names.Occurrences.{nodes_in}
 use Rattle.go_model.specs.declared.meaning.Meaning.{Meaning}
-use Rattle.go_model.specs.Values.Quests.{Decided, Done, run}
 use Rattle.go_model.specs.Outcomes.Walk.{Headers}
-use Rattle.go_expr.specs.Judging.{asked_of, sum_test, value_of}
 use Rattle.go_names.proofs.WalkLemmas.{nodes_in-inner}
-use Rattle.go_expr.specs.Evaluated.{EvaluatedData, evaluated, all_evaluated, judged_value, judged_asked}
-
--- a node by the records of its inner parts
-pub judged_value_is : (means : ℕ → Meaning) (headers : Headers) (t : Tree) → judged_value means headers t (map (value_of means headers) (inner_parts t)) ≡ value_of means headers t
-judged_value_is means headers (branch id from to SelectorExpr text no_trees) = refl
-judged_value_is means headers (branch id from to SelectorExpr text (more_trees a no_trees)) = refl
-judged_value_is means headers (branch id from to SelectorExpr text (more_trees a (more_trees b no_trees))) = refl
-judged_value_is means headers (branch id from to SelectorExpr text (more_trees a (more_trees b (more_trees c ts)))) = refl
-judged_value_is means headers (branch id from to ParenExpr text no_trees) = refl
-judged_value_is means headers (branch id from to ParenExpr text (more_trees a no_trees)) = refl
-judged_value_is means headers (branch id from to ParenExpr text (more_trees a (more_trees b ts))) = refl
-judged_value_is means headers (branch id from to AddExpr text no_trees) = refl
-judged_value_is means headers (branch id from to AddExpr text (more_trees a no_trees)) = refl
-judged_value_is means headers (branch id from to AddExpr text (more_trees a (more_trees b no_trees))) = refl
-judged_value_is means headers (branch id from to AddExpr text (more_trees a (more_trees b (more_trees c ts)))) = refl
-judged_value_is means headers (branch id from to kind text parts) = refl
-
-done_decided : (headers : Headers) (o : Option Bool) → option_map Decided o ≡ option_map (run headers) (option_map Done o)
-done_decided headers None = refl
-done_decided headers (Some b) = refl
-
-pub judged_asked_is : (means : ℕ → Meaning) (headers : Headers) (t : Tree) → judged_asked means headers t (map (value_of means headers) (inner_parts t)) ≡ asked_of means headers t
-judged_asked_is means headers (branch id from to SelectorExpr text no_trees) = refl
-judged_asked_is means headers (branch id from to SelectorExpr text (more_trees a no_trees)) = refl
-judged_asked_is means headers (branch id from to SelectorExpr text (more_trees a (more_trees b no_trees))) = refl
-judged_asked_is means headers (branch id from to SelectorExpr text (more_trees a (more_trees b (more_trees c ts)))) = refl
-judged_asked_is means headers (branch id from to AddExpr text no_trees) = refl
-judged_asked_is means headers (branch id from to AddExpr text (more_trees a no_trees)) = refl
-judged_asked_is means headers (branch id from to AddExpr text (more_trees a (more_trees b no_trees))) = done_decided headers (sum_test (value_of means headers a) (value_of means headers b))
-judged_asked_is means headers (branch id from to AddExpr text (more_trees a (more_trees b (more_trees c ts)))) = refl
-judged_asked_is means headers (branch id from to kind text parts) = refl
+use Rattle.go_expr.specs.Evaluated.{EvaluatedData, evaluated, all_evaluated}
 
 -- what is made of each of several lists
 pub map-append : {B C : Type 0} (g : B → C) (xs ys : List B) → map g (xs ++ ys) ≡ map g xs ++ map g ys

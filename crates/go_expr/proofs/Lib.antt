@@ -1,3 +1,3 @@
-pub mod AgreementLemmas
 pub mod AwaitedLemmas
 pub mod EvaluatedLemmas
+pub mod OutcomeLemmas

@@ -2,6 +2,4 @@
 pub mod View
 pub mod Table
 pub mod Evaluated
-pub mod Judging
--- how these stand to outcomes
-pub mod Agreement
+pub mod Outcomes

@@ -1,43 +1,35 @@
-// The nodes of expressions and types with their records, and with what the tests at them come to (Go specification,
-// "Constant expressions", "Declarations and scope", "Qualified identifiers").
-ghost use Rattle.std.specs.Prelude.{◌≡◌, ◌++◌, IfOk, OnOk, is_some, map, reverse};
-ghost use Rattle.std.specs.Option.{option_map};
+// The nodes of expressions and types with their outcomes (Go specification, "Expressions").
+ghost use Rattle.std.specs.Prelude.{◌≡◌, ◌++◌, IfOk, OnOk, map, reverse};
 ghost use Rattle.go_tree.specs.Tree.{tree_of};
 ghost use Rattle.go_module.specs.Names.Inner.{inner_parts};
-ghost use Rattle.go_model.specs.declared.meaning.Meaning.TheVariants as meanings;
-ghost use Rattle.go_model.specs.Values.Quests.{Decided, run};
+ghost use Rattle.go_model.specs.Outcomes.Walk.{Headers, outcome};
 ghost use Rattle.go_expr.specs.Evaluated as spec;
-ghost use Rattle.go_expr.specs.Evaluated.{all_evaluated, evaluated_views, tested_view};
-ghost use Rattle.go_expr.specs.Judging.{name_test, selector_test, sum_test, value_of};
+ghost use Rattle.go_expr.specs.Evaluated.{all_evaluated, evaluated_views};
+ghost use Rattle.go_expr.specs.Outcomes.{both_of, only_of, outcome_from, outcome_view, parentheses_from, selector_from, sum_from};
 ghost use Rattle.go_expr.specs.Table.{slot_of};
 ghost use Rattle.go_expr.specs.View.{means_by};
 
 use crate::around::Around;
-use crate::records::{meant_value, slot, sum};
+use crate::literal::literal;
+use crate::name::name;
+use crate::node_outcome::NodeOutcome;
+use crate::parentheses::parentheses;
+use crate::selector::selector;
+use crate::sum::sum;
 use go_base::NoMemory;
 use go_model::Meaning;
 use go_names::inner_parts;
-use go_scan::int_lit_value;
 use go_tree::{Node, NodeKind};
 use std::alloc::Global;
 
-/// What the test at a node comes to: it holds, it fails, or it lacks the header of the declaration at that place.
-#[derive(Clone, Copy, Debug, PartialEq, Eq)]
-pub enum Tested {
-    Yes,
-    No,
-    Waits(usize),
-}
-
-/// A node, its record where it has one, and what the test at it comes to where it is asked.
+/// A node and its outcome.
 #[derive(Clone, Copy)]
 pub struct Evaluated<'a> {
     pub node: &'a Node,
-    pub value: Option<i128>,
-    pub asked: Option<Tested>,
+    pub outcome: NodeOutcome,
 }
 
-/// The nodes of an expression or a type, a node before its parts. An error is want of memory.
+/// The nodes of an expression or a type with their outcomes, a node before its parts. An error is want of memory.
 pub fn evaluate<'a>(
     alloc: Global,
     around: &Around,
@@ -53,188 +45,113 @@ pub fn evaluate<'a>(
     Ok(list)
 }
 
-// Pushes the nodes of an expression or a type, the last first, so that each record is made once, of those of the
-// parts; and gives the record of the whole.
+// Pushes the nodes of an expression or a type, the last first, so that each outcome is found once, from those of the
+// parts; and gives the outcome of the whole.
 fn push_evaluated<'a>(
     alloc: Global,
     around: &Around,
     table: &[Option<i128>],
     node: &'a Node,
     list: &mut Vec<Evaluated<'a>>,
-) -> Result<Option<i128>, NoMemory>
-    ensures value { IfOk result (λ value.
-        value ≡ value_of (means_by around.now) (slot_of table.now) (tree_of node.now)) }
+) -> Result<NodeOutcome, NoMemory>
+    ensures outcome { IfOk result (λ found.
+        outcome_view found ≡ outcome (means_by around.now) (slot_of table.now) (tree_of node.now)) }
     ensures list { OnOk result (evaluated_views list.new.items ≡ evaluated_views list.old.items
         ++ reverse (all_evaluated (means_by around.now) (slot_of table.now) (tree_of node.now))) }
 {
     let inner = inner_parts(alloc, node)?;
-    let mut values = Vec::new(alloc);
+    let mut outcomes = Vec::new(alloc);
     for place in (0..inner.len()).rev() {
-        values.push(push_evaluated(alloc, around, table, inner[place], list)?)?;
+        outcomes.push(push_evaluated(alloc, around, table, inner[place], list)?)?;
     }
-    values.reverse();
-    let made = judged(around, table, node, &values);
+    outcomes.reverse();
+    let made = with_outcome(around, table, node, &outcomes);
     list.push(made)?;
-    Ok(made.value)
+    Ok(made.outcome)
 }
 
-// The node, where its inner parts have these records.
-fn judged<'a>(
+// The node, where its inner parts have these outcomes.
+fn with_outcome<'a>(
     around: &Around,
     table: &[Option<i128>],
     node: &'a Node,
-    values: &[Option<i128>],
+    outcomes: &[NodeOutcome],
 ) -> Evaluated<'a>
-    requires { values.now ≡ map (value_of (means_by around.now) (slot_of table.now)) (inner_parts (tree_of node.now)) }
+    requires { map outcome_view outcomes.now
+        ≡ map (outcome (means_by around.now) (slot_of table.now)) (inner_parts (tree_of node.now)) }
     ensures { spec.evaluated_view result ≡ spec.evaluated (means_by around.now) (slot_of table.now) (tree_of node.now) }
 {
     Evaluated {
         node,
-        value: judged_value(around, table, node, values),
-        asked: judged_asked(around, table, node, values),
+        outcome: made_from(around, table, node, outcomes),
     }
 }
 
-fn judged_value(
+// The outcome of a node, by its kind, from those of its inner parts.
+fn made_from(
     around: &Around,
     table: &[Option<i128>],
     node: &Node,
-    values: &[Option<i128>],
-) -> Option<i128>
-    ensures { result ≡ spec.judged_value (means_by around.now) (slot_of table.now) (tree_of node.now) values.now }
+    outcomes: &[NodeOutcome],
+) -> NodeOutcome
+    ensures { outcome_view result
+        ≡ outcome_from (means_by around.now) (slot_of table.now) (tree_of node.now) (map outcome_view outcomes.now) }
 {
     match node.kind() {
-        NodeKind::IntLit => int_lit_value(node.text()),
-        NodeKind::Name => meant_value(table, around.meaning(node.id())),
-        NodeKind::SelectorExpr => {
-            let (_, name) = node.both_parts()?;
-            meant_value(table, around.meaning(name.id()))
-        }
-        NodeKind::ParenExpr => one_value(values),
-        NodeKind::AddExpr => sum_of_two(values),
+        NodeKind::IntLit => literal(node.text()),
+        NodeKind::Name => name(table, around.meaning(node.id())),
+        NodeKind::SelectorExpr => match node.both_parts() {
+            Some((_, f)) => selector_made(table, around.meaning(f.id()), outcomes),
+            None => NodeOutcome::Nothing,
+        },
+        NodeKind::ParenExpr => parentheses_made(outcomes),
+        NodeKind::AddExpr => sum_made(outcomes),
+        _ => NodeOutcome::Nothing,
+    }
+}
+
+fn selector_made(table: &[Option<i128>], meaning: Meaning, outcomes: &[NodeOutcome]) -> NodeOutcome
+    ensures { outcome_view result ≡ selector_from (slot_of table.now) meaning (map outcome_view outcomes.now) }
+{
+    match only(outcomes) {
+        Some(operand) => selector(table, meaning, operand),
+        None => NodeOutcome::Nothing,
+    }
+}
+
+fn parentheses_made(outcomes: &[NodeOutcome]) -> NodeOutcome
+    ensures { (headers : Headers) → outcome_view result ≡ parentheses_from headers (map outcome_view outcomes.now) }
+{
+    match only(outcomes) {
+        Some(part) => parentheses(part),
+        None => NodeOutcome::Nothing,
+    }
+}
+
+fn sum_made(outcomes: &[NodeOutcome]) -> NodeOutcome
+    ensures { (headers : Headers) → outcome_view result ≡ sum_from headers (map outcome_view outcomes.now) }
+{
+    match both(outcomes) {
+        Some((left, right)) => sum(left, right),
+        None => NodeOutcome::Nothing,
+    }
+}
+
+// The one outcome, and the two outcomes, where there are so many.
+fn only(outcomes: &[NodeOutcome]) -> Option<NodeOutcome>
+    ensures { result ≡ only_of outcomes.now }
+{
+    match outcomes {
+        [x] => Some(*x),
         _ => None,
     }
 }
 
-fn one_value(values: &[Option<i128>]) -> Option<i128>
-    ensures { result ≡ spec.only_value values.now }
+fn both(outcomes: &[NodeOutcome]) -> Option<(NodeOutcome, NodeOutcome)>
+    ensures { result ≡ both_of outcomes.now }
 {
-    match values {
-        [x] => *x,
+    match outcomes {
+        [x, y] => Some((*x, *y)),
         _ => None,
     }
-}
-
-fn sum_of_two(values: &[Option<i128>]) -> Option<i128>
-    ensures { result ≡ spec.two_summed values.now }
-{
-    match values {
-        [x, y] => sum(*x, *y),
-        _ => None,
-    }
-}
-
-fn judged_asked(
-    around: &Around,
-    table: &[Option<i128>],
-    node: &Node,
-    values: &[Option<i128>],
-) -> Option<Tested>
-    ensures { option_map tested_view result
-        ≡ spec.judged_asked (means_by around.now) (slot_of table.now) (tree_of node.now) values.now }
-{
-    match node.kind() {
-        NodeKind::IntLit => Some(is_in_limits(int_lit_value(node.text()))),
-        NodeKind::Name => Some(name_tested(table, around.meaning(node.id()))),
-        NodeKind::SelectorExpr => {
-            let (_, name) = node.both_parts()?;
-            selector_asked(table, around.meaning(name.id()), values)
-        }
-        NodeKind::AddExpr => sum_asked(values),
-        _ => None,
-    }
-}
-
-// Whether there is a value within the limits.
-fn is_in_limits(value: Option<i128>) -> Tested
-    ensures { tested_view result ≡ Decided (is_some value) }
-{
-    match value {
-        Some(_) => Tested::Yes,
-        None => Tested::No,
-    }
-}
-
-// An identifier by its meaning: a declaration of the package needs its header, and a predeclared identifier is not
-// built.
-fn name_tested(table: &[Option<i128>], meaning: Meaning) -> Tested
-    ensures { tested_view result ≡ run (slot_of table.now) (name_test meaning) }
-{
-    match meaning {
-        Meaning::Own(place) => header_tested(place, slot(table, place)),
-        Meaning::Outer(_) => Tested::Yes,
-        Meaning::Predeclared => Tested::No,
-        Meaning::Other => Tested::Yes,
-    }
-}
-
-// Whether the declaration at a place has a header, which may be this.
-fn header_tested(place: usize, header: Option<i128>) -> Tested
-    ensures { tested_view result ≡ run (λ _. header) (name_test (meanings.Own place)) }
-{
-    match header {
-        Some(_) => Tested::Yes,
-        None => Tested::Waits(place),
-    }
-}
-
-// `x.f`, where the name behind the `.` has this meaning, and x this record.
-fn selector_asked(
-    table: &[Option<i128>],
-    meaning: Meaning,
-    values: &[Option<i128>],
-) -> Option<Tested>
-    ensures { option_map tested_view result ≡ spec.selector_asked (slot_of table.now) meaning values.now }
-{
-    match values {
-        [operand] => selector_tested(table, meaning, *operand),
-        _ => None,
-    }
-}
-
-fn selector_tested(
-    table: &[Option<i128>],
-    meaning: Meaning,
-    operand: Option<i128>,
-) -> Option<Tested>
-    ensures { option_map tested_view result
-        ≡ option_map (run (slot_of table.now)) (selector_test meaning operand) }
-{
-    match meaning {
-        Meaning::Other => {
-            operand?;
-            Some(Tested::No)
-        }
-        Meaning::Own(_) => Some(name_tested(table, meaning)),
-        Meaning::Outer(_) => Some(name_tested(table, meaning)),
-        Meaning::Predeclared => Some(name_tested(table, meaning)),
-    }
-}
-
-// Whether a sum, where both operands have records, is within the limits.
-fn sum_asked(values: &[Option<i128>]) -> Option<Tested>
-    ensures { option_map tested_view result ≡ spec.two_asked values.now }
-{
-    match values {
-        [x, y] => sum_tested(*x, *y),
-        _ => None,
-    }
-}
-
-fn sum_tested(left: Option<i128>, right: Option<i128>) -> Option<Tested>
-    ensures { option_map tested_view result ≡ option_map Decided (sum_test left right) }
-{
-    left?;
-    right?;
-    Some(is_in_limits(sum(left, right)))
 }

@@ -1,17 +1,29 @@
 //! What expressions come to over the headers that are known.
 //!
-//! `record` and `value_over` give the record of an expression and the value of a declaration; `evaluate` gives each node
-//! of an expression or a type with its record and with what the test at it comes to. `Around` says what identifiers
-//! mean. How headers are found is left to go_decl, which rules are broken where to go_check.
+//! `outcome` gives the outcome of an expression, from which `record` and `value_over` read its record and the value of a
+//! declaration; `evaluate` gives each node of an expression or a type with its outcome. Each construct has a file of its
+//! own. `Around` says what identifiers mean. How headers are found is left to go_decl, which rules are told where to
+//! go_check.
 #![tactic(auto)]
+
+mod rules;
 
 // What identifiers mean.
 mod around;
 
-// Nodes with their records and tests.
+// What a node comes to, and each construct.
+mod literal;
+mod name;
+mod node_outcome;
+mod parentheses;
+mod selector;
+mod sum;
+
+// Walks over expressions.
 mod evaluated;
-mod records;
+mod outcomes;
 
 pub use around::{Around, FIRST_NUMBER};
-pub use evaluated::{Evaluated, Tested, evaluate};
-pub use records::{record, value_over};
+pub use evaluated::{Evaluated, evaluate};
+pub use node_outcome::NodeOutcome;
+pub use outcomes::{outcome, record, value_over};

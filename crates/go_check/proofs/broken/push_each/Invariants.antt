@@ -1,6 +1,7 @@
 use Rattle.std.proofs.Common.{◌≡◌, ◌++◌, drop}
 use Rattle.std.specs.List.{flat_map}
-use Rattle.go_expr.specs.Evaluated.{broken_by, evaluated_views}
+use Rattle.go_expr.specs.Evaluated.{evaluated_views}
+use Rattle.go_check.specs.Lines.Nodes.{broken_by}
 use Rattle.go_check.proofs.broken.push_each.Given as goal
 
 abbrev pub invariant-loop-node : goal.invariant-loop-node

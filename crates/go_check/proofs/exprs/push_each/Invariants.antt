@@ -2,7 +2,8 @@ use Rattle.std.proofs.Common.{◌≡◌, ◌++◌, map, drop}
 use Rattle.std.specs.List.{flat_map}
 use Rattle.go_model.specs.Report.{line_view}
 use Rattle.go_module.specs.Modules.Module.{file_view}
-use Rattle.go_expr.specs.Evaluated.{evaluated_views, line_by}
+use Rattle.go_expr.specs.Evaluated.{evaluated_views}
+use Rattle.go_check.specs.Lines.Nodes.{line_by}
 use Rattle.go_check.proofs.exprs.push_each.Given as goal
 
 -- what is pushed, with the lines of the nodes left, are those of all nodes

@@ -1,5 +1,5 @@
 use Rattle.std.proofs.Common.{◌≡◌, ◌++◌, drop}
-use Rattle.go_expr.specs.Judging.{lacking}
+use Rattle.go_decl.specs.Waits.{waits_of}
 use Rattle.go_names.specs.Views.{declarations_view}
 use Rattle.go_expr.specs.Table.{slot_of}
 use Rattle.go_expr.specs.View.{means_by}
@@ -7,4 +7,4 @@ use Rattle.go_decl.proofs.waits.waits_of.Given as goal
 
 abbrev pub invariant-loop-declaration : goal.invariant-loop-declaration
 invariant-loop-declaration l =
-    l.waits.items ++ lacking (means_by l.around) (slot_of l.table) (declarations_view (drop l.declaration-index l.declarations)) ≡ lacking (means_by l.around) (slot_of l.table) (declarations_view l.declarations)
+    l.waits.items ++ waits_of (means_by l.around) (slot_of l.table) (declarations_view (drop l.declaration-index l.declarations)) ≡ waits_of (means_by l.around) (slot_of l.table) (declarations_view l.declarations)

@@ -1,14 +1,15 @@
 use Rattle.std.proofs.Common.{◌≡◌, ◌-◌, ◌++◌, [], ◌∷◌, map, drop, reverse, refl, ap, ◌∙◌, arith}
 use Rattle.std.specs.List.{flat_map}
 use Rattle.std.proofs.lemmas.List.{reverse-reverse}
-use Rattle.go_expr.specs.Judging.{value_of}
+use Rattle.go_model.specs.Outcomes.Walk.{outcome}
+use Rattle.go_expr.specs.Outcomes.{outcome_view}
 use Rattle.go_names.proofs.WalkLemmas.{inner_part_smaller}
 use Rattle.go_names.specs.Views.{trees_at}
 use Rattle.go_tree.specs.Tree.{tree_of}
 use Rattle.go_expr.specs.Evaluated.{all_evaluated, evaluated_view, evaluated_views}
 use Rattle.go_expr.specs.Table.{slot_of}
 use Rattle.go_expr.specs.View.{means_by}
-use Rattle.go_expr.proofs.EvaluatedLemmas.{map-append, node_done}
+use Rattle.go_expr.proofs.EvaluatedLemmas.{map-append, map-reverse, node_done}
 use Rattle.go_expr.proofs.evaluated.+push_evaluated.Goals as goal
 
 pub push_evaluated-requires : goal.push_evaluated-requires
@@ -17,15 +18,15 @@ push_evaluated-requires t c =
     let smaller = inner_part_smaller inner inner (tree_of c.args.node.now) (c.loop-place.place - 1) c.index.result.now refl c.in_ok-inner.ensures (omega (arith, c.in_ok-inner.inner.ok.0)) c.index.ensures in
     (omega (arith, smaller, c.decreases), tt)
 
-pub judged-made-requires : goal.judged-made-requires
-judged-made-requires t c =
-    let recorded = value_of (means_by c.args.around.now) (slot_of c.args.table.now) in
+pub with_outcome-made-requires : goal.with_outcome-made-requires
+with_outcome-made-requires t c =
+    let outcomes = outcome (means_by c.args.around.now) (slot_of c.args.table.now) in
     let first : c.loop-place.place ≡ 0 = omega arith in
-    c.deref.ensures.value
-    ∙ c.reverse.ensures.items
-    ∙ ap reverse (c.loop-place.invariant.values ∙ ap (λ n. reverse (map recorded (trees_at (drop n c.in_ok-inner.inner.items)))) first)
-    ∙ reverse-reverse (map recorded (trees_at c.in_ok-inner.inner.items))
-    ∙ ap (map recorded) c.in_ok-inner.ensures
+    ap (map outcome_view) (c.deref.ensures.value ∙ c.reverse.ensures.items)
+    ∙ map-reverse outcome_view c.loop-place.outcomes.items
+    ∙ ap reverse (c.loop-place.invariant.found ∙ ap (λ n. reverse (map outcomes (trees_at (drop n c.in_ok-inner.inner.items)))) first)
+    ∙ reverse-reverse (map outcomes (trees_at c.in_ok-inner.inner.items))
+    ∙ ap (map outcomes) c.in_ok-inner.ensures
 
 pub returns-clause-list : goal.returns-clause-list
 returns-clause-list t c =
@@ -35,7 +36,7 @@ returns-clause-list t c =
     let first : c.loop-place.place ≡ 0 = omega arith in
     let inside : evaluated_views c.loop-place.list.items ≡ old ++ reverse (flat_map (all_evaluated means headers) (trees_at c.in_ok-inner.inner.items)) =
     c.loop-place.invariant.listed ∙ ap (λ n. old ++ reverse (flat_map (all_evaluated means headers) (trees_at (drop n c.in_ok-inner.inner.items)))) first in
-    node_done means headers (tree_of c.args.node.now) old (evaluated_views c.loop-place.list.items) (evaluated_views c.push-2.new.self.items) (evaluated_view c.judged-made.result)
+    node_done means headers (tree_of c.args.node.now) old (evaluated_views c.loop-place.list.items) (evaluated_views c.push-2.new.self.items) (evaluated_view c.with_outcome-made.result)
     (inside ∙ ap (λ ts. old ++ reverse (flat_map (all_evaluated means headers) ts)) c.in_ok-inner.ensures)
-    c.judged-made.ensures
-    (ap evaluated_views c.in_ok-push-2.ensures.items ∙ map-append evaluated_view c.loop-place.list.items (c.judged-made.result ∷ []))
+    c.with_outcome-made.ensures
+    (ap evaluated_views c.in_ok-push-2.ensures.items ∙ map-append evaluated_view c.loop-place.list.items (c.with_outcome-made.result ∷ []))

@@ -1,0 +1,27 @@
+// Integer literals (Go specification, "Integer literals", "Constants").
+ghost use Rattle.std.specs.Prelude.{◌≡◌, ℤ, List};
+ghost use Rattle.go_model.specs.Outcomes.Constructs.Literal as spec;
+ghost use Rattle.go_model.specs.Outcomes.Judged.{OutcomeData, judged};
+ghost use Rattle.go_model.specs.Outcomes.Walk.{Headers};
+ghost use Rattle.go_expr.specs.Outcomes.{limited_view, outcome_view};
+
+use crate::node_outcome::NodeOutcome;
+use crate::rules::WIDE_INTEGER;
+use go_scan::int_lit_value;
+
+/// An integer literal by its text: L2 where its value is too large.
+pub fn literal(text: &[u8]) -> NodeOutcome
+    ensures { (headers : Headers) (parts : List (OutcomeData ℤ)) → outcome_view result ≡ judged headers (spec.literal text.now) parts }
+{
+    within_limits(int_lit_value(text))
+}
+
+/// A value where it is within the limits, which else breaks L2.
+pub fn within_limits(value: Option<i128>) -> NodeOutcome
+    ensures { outcome_view result ≡ limited_view value }
+{
+    match value {
+        Some(value) => NodeOutcome::Found(value),
+        None => NodeOutcome::Broken(WIDE_INTEGER),
+    }
+}

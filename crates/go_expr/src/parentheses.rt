@@ -1,0 +1,21 @@
+// Parentheses (Go specification, "Operands").
+ghost use Rattle.std.specs.Prelude.{◌≡◌, ℤ, List, ◌∷◌};
+ghost use Rattle.go_model.specs.Outcomes.Constructs.Parentheses as spec;
+ghost use Rattle.go_model.specs.Outcomes.Judged.{OutcomeData, judged};
+ghost use Rattle.go_model.specs.Outcomes.Walk.{Headers};
+ghost use Rattle.go_expr.specs.Outcomes.{outcome_view};
+
+use crate::node_outcome::NodeOutcome;
+
+/// An expression in parentheses, by the outcome of what stands in them.
+pub fn parentheses(part: NodeOutcome) -> NodeOutcome
+    ensures { (headers : Headers) (parts : List (OutcomeData ℤ)) → outcome_view result
+        ≡ judged headers spec.parentheses (outcome_view part ∷ parts) }
+{
+    match part {
+        NodeOutcome::Found(value) => NodeOutcome::Found(value),
+        NodeOutcome::Waits(place) => NodeOutcome::Waits(place),
+        NodeOutcome::Broken(_) => NodeOutcome::Nothing,
+        NodeOutcome::Nothing => NodeOutcome::Nothing,
+    }
+}

@@ -1,0 +1,8 @@
+// The rules that expressions can break, in the order of their table.
+use go_base::{Family, Rule};
+
+/// An integer constant outside -2^127 to 2^127-1 (Go specification, "Constants").
+pub const WIDE_INTEGER: Rule = Rule {
+    family: Family::L,
+    number: 2,
+};

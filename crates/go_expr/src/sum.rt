@@ -1,0 +1,59 @@
+// Sums (Go specification, "Arithmetic operators", "Constant expressions").
+ghost use Rattle.std.specs.Prelude.{◌≡◌, ℤ, List, ◌∷◌};
+ghost use Rattle.go_num.specs.Arithmetic.{binary_value, limited};
+ghost use Rattle.go_num.specs.declared.arithmetic.IntOp.TheVariants.{Add};
+ghost use Rattle.go_model.specs.Outcomes.Constructs.Sum as spec;
+ghost use Rattle.go_model.specs.Outcomes.Judged.{OutcomeData, judged};
+ghost use Rattle.go_model.specs.Outcomes.Judged as outcomes;
+ghost use Rattle.go_model.specs.Outcomes.Walk.{Headers};
+ghost use Rattle.go_expr.specs.Outcomes.{limited_view, outcome_view};
+
+use crate::literal::within_limits;
+use crate::node_outcome::NodeOutcome;
+use go_num::{IntOp, int_binary};
+
+/// A sum, by the outcomes of its operands: L2 where its value is outside the limits.
+pub fn sum(left: NodeOutcome, right: NodeOutcome) -> NodeOutcome
+    ensures { (headers : Headers) (parts : List (OutcomeData ℤ)) → outcome_view result
+        ≡ judged headers spec.sum (outcome_view left ∷ (outcome_view right ∷ parts)) }
+{
+    match left {
+        NodeOutcome::Found(value) => added(value, right),
+        NodeOutcome::Waits(place) => waited(place, right),
+        NodeOutcome::Broken(_) => NodeOutcome::Nothing,
+        NodeOutcome::Nothing => NodeOutcome::Nothing,
+    }
+}
+
+// A sum whose left operand has this value.
+fn added(value: i128, right: NodeOutcome) -> NodeOutcome
+    ensures { (headers : Headers) (parts : List (OutcomeData ℤ)) → outcome_view result
+        ≡ judged headers spec.sum (outcomes.Found value ∷ (outcome_view right ∷ parts)) }
+{
+    match right {
+        NodeOutcome::Found(other) => within_limits(sum_of(value, other)),
+        NodeOutcome::Waits(place) => NodeOutcome::Waits(place),
+        NodeOutcome::Broken(_) => NodeOutcome::Nothing,
+        NodeOutcome::Nothing => NodeOutcome::Nothing,
+    }
+}
+
+// A sum whose left operand waits for the declaration at this place.
+fn waited(place: usize, right: NodeOutcome) -> NodeOutcome
+    ensures { (headers : Headers) (parts : List (OutcomeData ℤ)) → outcome_view result
+        ≡ judged headers spec.sum (outcomes.Waits place ∷ (outcome_view right ∷ parts)) }
+{
+    match right {
+        NodeOutcome::Found(_) => NodeOutcome::Waits(place),
+        NodeOutcome::Waits(_) => NodeOutcome::Waits(place),
+        NodeOutcome::Broken(_) => NodeOutcome::Nothing,
+        NodeOutcome::Nothing => NodeOutcome::Nothing,
+    }
+}
+
+// The sum of two values, where it is within the limits.
+fn sum_of(left: i128, right: i128) -> Option<i128>
+    ensures { result ≡ limited (binary_value Add left right) }
+{
+    int_binary(IntOp::Add, left, right).ok()
+}
