@@ -3,13 +3,18 @@
 
 usage: bench/rules.py --check
 
-Of each row of the tables: the definitions, the constant and the functions stand in the named files; the number's
-definition and the constant have the family and the number of the code, and one name, the constant's in capitals; each
-edit is a file of some crate's must-fail/; crates/go_rows/data/rules.txt has rows `CODE: ` and `CODE not: `. Each
-definition and each constant of a rule is in the tables, and so is each code in what a row of go_rows/data wants.
+Of each row of the tables:
+- The definitions, the constant and the functions stand in the named files. The number's definition and the constant
+  have the family and the number of the code, and one name, the constant's in capitals.
+- Each function names the constant, or a call of it does, as `told_with` says.
+- Each edit is one of a function's crate, and changes the function's file, the constant's, or one that the function's
+  file imports from. No two crates have an edit of one name.
+- crates/go_rows/data/rules.txt has a row `CODE: ` for it, in the order of the tables, which runs the program, and one
+  row `CODE not: ` or more.
+Each definition and each constant of a rule is in the tables, and so is each code in what a row of go_rows/data wants.
 Prints what is wrong, and exits with 1 where something is.
 """
-import pathlib, re, sys
+import collections, pathlib, re, sys
 
 ROOT = pathlib.Path(__file__).resolve().parent.parent
 CRATES = ROOT / 'crates'
@@ -17,6 +22,21 @@ HEAD = ['Code', 'Phase', 'Place', 'Broken where', 'Definition', 'Number', 'Const
 CODE = r'[SMPCRINUL]\d+'
 NUMBER = re.compile(r'^ *(\w+) = record \{ family = ([A-Z]); number = (\d+) \}', re.M)
 CONSTANT = re.compile(r'^ *pub const (\w+): Rule = Rule \{\s*family: Family::([A-Z]),\s*number: (\d+),\s*\};', re.M)
+WORD = re.compile(r'\b[A-Z]+(?:_[A-Z]+)+\b')
+FUNCTION = re.compile(r'^( *)(?:pub(?:\(crate\))? )?fn (\w+)(.*?)^\1\}$', re.M | re.S)
+# The programs that are told in words: the code and the words, and the sections of the row.
+IN_WORDS = {
+    ('S1', 'a byte FF'): {'a.go, quoted': '"package p\\n"\n"\\n"\n"const \\xFF = 1\\n"\n'},
+    ('U3', '`//go:build x` on the line before the package clause'): {'a.go': '//go:build x\npackage p\n'},
+    ('L6', '`const X = !1` with 997 times `!`'): {
+        'a.go, quoted': '"package p\\n"\n"\\n"\n"const X = "\n"!" * 997\n"1\\n"\n'
+    },
+    ('M1', 'no go.mod'): {'no go.mod': '', 'a.go': 'package p\n'},
+    ('U6', 'a file `a b.go`'): {'a b.go': 'package p\n'},
+    ('L1', 'a file of 16,777,217 bytes'): {'a.go, quoted': '"package p"\n" " * 16777208\n'},
+    ('P2', '`import "m"` in the package m'): {'a.go': 'package p\n\nimport "m"\n'},
+    ('P3', '`package p` and `package q` in two files of a folder'): {'a.go': 'package p\n', 'b.go': 'package q\n'},
+}
 wrong = []
 
 
@@ -75,13 +95,79 @@ def check_row(row):
     number, constant = numbered(row, 'Number', NUMBER), numbered(row, 'Constant', CONSTANT)
     if number and constant and number[0].upper() != constant[0]:
         say(f'{row["Code"]}: the constant {constant[0]} is not named as the definition {number[0]}')
+    check_told(row)
+    check_edits(row)
+    return number, constant
+
+
+def crate_of(path):
+    return path.split('/')[0]
+
+
+def told_by_calls(name, body, constants):
+    """Where a body calls the function: the constants of the first statement from there on that names some."""
+    statements, told = body.split(';'), set()
+    for i, statement in enumerate(statements):
+        if re.search(rf'\b{name}\(', statement):
+            each = (constants.intersection(WORD.findall(later)) for later in statements[i:])
+            told |= next(filter(None, each), set())
+    return told
+
+
+def told_with(name, path, constants):
+    """The constants that a function names; where it names none, those that tell what calls of it in its crate find;
+    where there are none, those of its file, and of a crate without rules those of the files that import from it."""
+    crate, own, calls = crate_of(path), set(), set()
+    for file in sorted((CRATES / crate / 'src').rglob('*.rt')):
+        for _, function, body in FUNCTION.findall(file.read_text()):
+            if function == name and file == CRATES / path:
+                own |= constants.intersection(WORD.findall(body))
+            calls |= told_by_calls(name, body, constants)
+    files = [text_of(CRATES / path)]
+    if not (CRATES / crate / 'src/rules.rt').is_file():
+        texts = (file.read_text() for file in CRATES.glob('*/src/**/*.rt'))
+        files = [text for text in texts if f'use {crate}::' in text]
+    return own or calls or constants.intersection(WORD.findall('\n'.join(files)))
+
+
+def check_told(row):
+    """Each function tells with the constant of the row."""
+    constants = {name for path in CRATES.glob('*/src/**/*.rt') for name, _, _ in CONSTANT.findall(path.read_text())}
+    for name, path in named(row, 'Function'):
+        for constant, _ in named(row, 'Constant'):
+            if constant not in told_with(name, path, constants):
+                say(f'{row["Code"]}: {name} in {path} does not tell with {constant}')
+
+
+def check_edits(row):
+    """Each edit changes a file of a function, of the constant, or one that a function's file imports from."""
     edits = re.findall(r'`([^`]+)`', row['Edit'])
     if not edits:
         say(f'{row["Code"]}: no edit ({row["Definition"]})')
+    functions = {path for _, path in named(row, 'Function')}
+    constants = {path for _, path in named(row, 'Constant')}
+    crates = {crate_of(path) for path in functions}
     for edit in edits:
-        if not list(CRATES.glob(f'*/must-fail/{edit}.edit')):
-            say(f'{row["Code"]}: no file must-fail/{edit}.edit')
-    return number, constant
+        near = []
+        for crate in sorted(crates):
+            for file in re.findall(r'^file: (.*)$', text_of(CRATES / crate / f'must-fail/{edit}.edit'), re.M):
+                used = 'crate::' + re.sub(r'^src/|\.rt$', '', file).replace('/', '::')
+                near.append(f'{crate}/{file}' in functions | constants)
+                near += [re.search(rf'\b{used}\b', text_of(CRATES / path)) for path in functions]
+        if not near:
+            say(f'{row["Code"]}: no edit {edit} in {sorted(crates)}')
+        elif not any(near):
+            say(f'{row["Code"]}: the edit {edit} changes no file of the functions')
+
+
+def check_names_of_edits():
+    """No two crates have an edit of one name."""
+    crates = collections.defaultdict(list)
+    for path in sorted(CRATES.glob('*/must-fail/*.edit')):
+        crates[path.stem].append(path.parts[-3])
+    for edit, several in crates.items():
+        if len(several) > 1:
+            say(f'{edit}: an edit of {several}')
 
 
 def check_all_told(pairs, folder, suffix, pattern):
@@ -92,15 +178,46 @@ def check_all_told(pairs, folder, suffix, pattern):
                 say(f'{family}{number}: {name} of {path.relative_to(CRATES)} is not in the tables')
 
 
-def check_rows(codes):
+def sections_of(row):
+    """What the sections of a row of rules.txt hold, without marks, but for what is wanted."""
+    parts = re.split(r'^-- (.*) --\n', row, flags=re.M)[1:]
+    given = {head: re.sub(r'/\*![^*]*\*/', '', text) for head, text in zip(parts[::2], parts[1::2])}
+    return {head: text for head, text in given.items() if not head.startswith('report')}
+
+
+def sections_wanted(row):
+    """The same, as the column Program says; None where it cannot be read."""
+    code, cell = row['Code'], row['Program']
+    programs = re.findall('`([^`]+)`', cell)
+    if (code, cell) in IN_WORDS:
+        return IN_WORDS[code, cell]
+    if programs and cell == 'go.mod: ' + ', then '.join(f'`{line}`' for line in programs):
+        return {'go.mod': ''.join(line + '\n' for line in programs), 'a.go': 'package p\n'}
+    if len(programs) != 1 or cell != f'`{programs[0]}`':
+        return None
+    before = '' if programs[0].startswith('package ') else 'package p\n\n'
+    beside = {'q/q.go': 'package q\n'} if '"m/q"' in programs[0] else {}
+    return {'a.go': f'{before}{programs[0]}\n', **beside}
+
+
+def check_programs(rows):
+    """Of each code rules.txt has as many rows as the tables, which run the programs in their order."""
+    texts = re.split('^=== ', text_of(CRATES / 'go_rows/data/rules.txt'), flags=re.M)[1:]
+    for code in dict.fromkeys(row['Code'] for row in rows):
+        of_code = [row for row in rows if row['Code'] == code]
+        runs = [sections_of(text) for text in texts if text.startswith(f'{code}: ')]
+        if len(runs) != len(of_code):
+            say(f'{code}: rules.txt has {len(runs)} rows `{code}: `, the tables have {len(of_code)}')
+        if not any(text.startswith(f'{code} not: ') for text in texts):
+            say(f'{code}: rules.txt has no row `{code} not: `')
+        for row, run in zip(of_code, runs):
+            if run != sections_wanted(row):
+                say(f'{code}: the row of rules.txt runs {run}, and not {row["Program"]}')
+
+
+def check_codes_told(codes):
+    """Each code that a row wants is in the tables."""
     data = CRATES / 'go_rows/data'
-    rules = text_of(data / 'rules.txt')
-    if not rules:
-        say('crates/go_rows/data/rules.txt is not there')
-    for code in codes:
-        for kind in (f'{code}: ', f'{code} not: '):
-            if not re.search('^=== ' + re.escape(kind), rules, re.M):
-                say(f'{code}: rules.txt has no row `{kind}`')
     told = {}
     for path in sorted(data.glob('*.txt')):
         for line in path.read_text(errors='replace').splitlines():
@@ -121,7 +238,9 @@ def main():
     check_all_told({number for number, _ in checked}, 'specs', '.antt', NUMBER)
     check_all_told({constant for _, constant in checked}, 'src', '.rt', CONSTANT)
     codes = list(dict.fromkeys(row['Code'] for row in rows))
-    check_rows(codes)
+    check_names_of_edits()
+    check_programs(rows)
+    check_codes_told(codes)
     for text in wrong:
         print(text)
     print(f'{len(codes)} rules, {len(wrong)} wrong')
