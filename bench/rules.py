@@ -115,19 +115,21 @@ def told_by_calls(name, body, constants):
 
 
 def told_with(name, path, constants):
-    """The constants that a function names; where it names none, those that tell what calls of it in its crate find;
-    where there are none, those of its file, and of a crate without rules those of the files that import from it."""
-    crate, own, calls = crate_of(path), set(), set()
+    """The constants that a function names; where it names none, those of the functions of its crate that it calls; else
+    those that tell what calls of it in its crate find; where there are none, those of its file, and of a crate without
+    rules those of the files that import from it."""
+    crate, own, calls, bodies = crate_of(path), '', set(), {}
     for file in sorted((CRATES / crate / 'src').rglob('*.rt')):
         for _, function, body in FUNCTION.findall(file.read_text()):
-            if function == name and file == CRATES / path:
-                own |= constants.intersection(WORD.findall(body))
+            bodies[function] = constants.intersection(WORD.findall(body))
+            own += body if function == name and file == CRATES / path else ''
             calls |= told_by_calls(name, body, constants)
+    called = set().union(*(bodies[word] for word in re.findall(r'\b(\w+)\(', own) if word in bodies))
     files = [text_of(CRATES / path)]
     if not (CRATES / crate / 'src/rules.rt').is_file():
         texts = (file.read_text() for file in CRATES.glob('*/src/**/*.rt'))
         files = [text for text in texts if f'use {crate}::' in text]
-    return own or calls or constants.intersection(WORD.findall('\n'.join(files)))
+    return constants.intersection(WORD.findall(own)) or called or calls or constants.intersection(WORD.findall('\n'.join(files)))
 
 
 def check_told(row):
