@@ -129,7 +129,8 @@ def told_with(name, path, constants):
     if not (CRATES / crate / 'src/rules.rt').is_file():
         texts = (file.read_text() for file in CRATES.glob('*/src/**/*.rt'))
         files = [text for text in texts if f'use {crate}::' in text]
-    return constants.intersection(WORD.findall(own)) or called or calls or constants.intersection(WORD.findall('\n'.join(files)))
+    named_in = lambda text: constants.intersection(WORD.findall(text))
+    return named_in(own) or called or calls or named_in('\n'.join(files))
 
 
 def check_told(row):
