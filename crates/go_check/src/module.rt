@@ -116,7 +116,7 @@ fn add_report(own: &Package, verdict: Verdict, state: &mut State) -> Result<(), 
         ≡ map reports.package_view state.old.reports.items
         ++ phases.package_report (package_view own.now) (verdict_view verdict) ∷ []) }
 {
-    state.marks.push(is_accepted(&verdict))?;
+    state.marks.push(verdict.is_accepted())?;
     state.reports.push(package_report(own, verdict)?)?;
     Ok(())
 }
@@ -126,16 +126,6 @@ fn imports_accepted(marks: &[bool], imports: &[usize]) -> bool
     ensures { result ≡ list_all (marking.is_marked marks.now) imports.now }
 {
     imports.iter().all(|import| is_marked(marks, *import))
-}
-
-fn is_accepted(verdict: &Verdict) -> bool
-    ensures { result ≡ phases.is_accepted (verdict_view verdict.now) }
-{
-    match verdict {
-        Verdict::Accepted(_) => true,
-        Verdict::Refused(_) => false,
-        Verdict::Skipped => false,
-    }
 }
 
 fn package_report(own: &Package, verdict: Verdict) -> Result<PackageReport, NoMemory>

@@ -1,4 +1,8 @@
 // Reports of modules. Every place is written out, so that a report needs no module to be read.
+ghost use Rattle.std.specs.Prelude.{◌≡◌};
+ghost use Rattle.go_model.specs.Phases.{is_accepted};
+ghost use Rattle.go_model.specs.Report.{verdict_view};
+
 use crate::lines::Records;
 use go_base::Name;
 use go_module::Placed;
@@ -28,4 +32,17 @@ pub enum Verdict {
     Accepted(Records),
     Refused(Vec<Placed>),
     Skipped,
+}
+
+impl Verdict {
+    /// Whether the package is accepted.
+    pub fn is_accepted(&self) -> bool
+        ensures { result ≡ is_accepted (verdict_view self.now) }
+    {
+        match self {
+            Verdict::Accepted(_) => true,
+            Verdict::Refused(_) => false,
+            Verdict::Skipped => false,
+        }
+    }
 }

@@ -54,17 +54,7 @@ fn verdict_has_beyond(verdict: &Verdict) -> bool
 fn all_accepted(packages: &[PackageReport]) -> bool
     ensures { result ≡ list_all (λ own. is_accepted (verdict_view own.verdict)) packages.now }
 {
-    packages.iter().all(|own| is_accepted(&own.verdict))
-}
-
-fn is_accepted(verdict: &Verdict) -> bool
-    ensures { result ≡ is_accepted (verdict_view verdict.now) }
-{
-    match verdict {
-        Verdict::Accepted(_) => true,
-        Verdict::Refused(_) => false,
-        Verdict::Skipped => false,
-    }
+    packages.iter().all(|own| own.verdict.is_accepted())
 }
 
 fn has_beyond(list: &[Placed]) -> bool
