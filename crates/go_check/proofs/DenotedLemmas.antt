@@ -1,5 +1,5 @@
 -- What the identifiers of packages denote, by the scopes of these.
-use Rattle.std.proofs.Common.{◌≡◌, ℕ, zero, suc, Some, List, [], ◌∷◌, length, map, refl, sym, ap, ◌∙◌, subst}
+use Rattle.std.proofs.Common.{◌≡◌, ℕ, zero, suc, Some, List, [], ◌∷◌, length, map, sym, ap, ◌∙◌, subst}
 use Rattle.std.specs.Prelude.{slice_get}
 use Rattle.std.specs.Option.{option_map}
 use Rattle.std.proofs.lemmas.List.{length-map}
@@ -10,7 +10,7 @@ use Rattle.go_module.specs.Modules.Module.{ModuleData}
 use Rattle.go_scope.specs.Collecting.{IsCollected}
 use Rattle.go_check.specs.declared.denoted.Denoted.{Denoted}
 use Rattle.go_check.specs.declared.names.Names.{Names}
-use Rattle.go_check.specs.Packages.Denoted.{AreDenoted, AreUses, HasUses, tables_of}
+use Rattle.go_check.specs.Packages.Denoted.{AreDenoted, HasUses, tables_of}
 use Rattle.go_check.specs.Packages.Names.{AreNames, ImportsSound, sound_at}
 
 abbrev uses_in : List Scopes → List (List (NodeId × ObjId))

@@ -1,4 +1,4 @@
-// What the identifiers of packages denote, as the rules on values ask it (Go specification, "Declarations and scope").
+// What the identifiers of packages denote, as values and lines ask it (Go specification, "Declarations and scope").
 ghost use Rattle.std.specs.Prelude.{◌≡◌, ℕ, IfOk, map};
 ghost use Rattle.go_module.specs.Modules.Module.{ModuleData};
 ghost use Rattle.go_check.specs.Packages.Denoted.{AreDenoted};

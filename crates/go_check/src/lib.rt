@@ -1,8 +1,8 @@
 //! What checking a module tells.
 //!
 //! `check_module` answers with the report of a module: of each package, in import order, the rules that its names or
-//! its values break, or its lines. The scopes of all packages are collected first. Headers are found in go_decl, records
-//! in go_expr.
+//! its values break, or its lines. The scopes of all packages are collected first. Headers are found in go_decl,
+//! outcomes of nodes in go_expr.
 #![tactic(auto)]
 
 mod rules;

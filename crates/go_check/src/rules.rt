@@ -1,4 +1,4 @@
-// The rules on values, in the order of their table.
+// The rules on values that are told at declarations and specs.
 use go_base::{Family, Rule};
 
 /// A declaration that needs its own header (Go specification, "Declarations and scope").

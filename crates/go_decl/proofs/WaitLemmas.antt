@@ -13,7 +13,7 @@ use Rattle.go_model.specs.Names.Declarations.{Declaration, rests_on}
 use Rattle.go_model.specs.Names.Occurrences.{nodes_in}
 use Rattle.go_module.proofs.MemberLemmas.{contains_none}
 use Rattle.go_model.specs.declared.meaning.Meaning.{Meaning}
-use Rattle.go_model.specs.declared.meaning.Meaning.TheVariants.{Own, Outer, Predeclared, Other}
+use Rattle.go_model.specs.declared.meaning.Meaning.TheVariants.{Own, Predeclared}
 use Rattle.go_model.specs.Outline.{is_predeclared}
 use Rattle.go_model.specs.Values.Meaning.{KnownValues, denoted_meaning, declared_meaning, outer_meaning}
 use Rattle.go_model.specs.Outcomes.Judged.{Broken, Found, Nothing, OutcomeData}

@@ -96,22 +96,22 @@ fn push_awaited_in(
         ≡ places.old ++ awaited_by_nodes (means_by around.now) (slot_of table.now) (tree_of node.now)) }
 {
     let list = evaluate(alloc, around, table, node)?;
-    push_waits(&list, places)?;
+    push_each(&list, places)?;
     Ok(())
 }
 
 // Pushes the places of the declarations for whose headers these nodes wait.
-fn push_waits(list: &[Evaluated], places: &mut Numbers) -> Result<(), NoMemory>
+fn push_each(list: &[Evaluated], places: &mut Numbers) -> Result<(), NoMemory>
     ensures { OnOk result (places.new ≡ places.old
         ++ flat_map (λ e. awaited_in e.outcome) (evaluated_views list.now)) }
 {
     for node in list {
-        push_wait(node, places)?;
+        push_one(node, places)?;
     }
     Ok(())
 }
 
-fn push_wait(node: &Evaluated, places: &mut Numbers) -> Result<(), NoMemory>
+fn push_one(node: &Evaluated, places: &mut Numbers) -> Result<(), NoMemory>
     ensures { OnOk result (places.new ≡ places.old ++ awaited_in (evaluated_view node.now).outcome) }
 {
     match node.outcome {

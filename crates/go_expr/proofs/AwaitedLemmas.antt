@@ -1,5 +1,5 @@
 -- Where the outcome of a node waits: for what an identifier in it means.
-use Rattle.std.proofs.Common.{◌≡◌, ℕ, ℤ, pos, Bool, true, false, Option, Some, None, List, [], ◌∷◌, ◌⊎◌, inl, inr, sym, ap, ◌∙◌}
+use Rattle.std.proofs.Common.{◌≡◌, ℕ, ℤ, pos, Bool, true, false, Option, Some, None, [], ◌∷◌, ◌⊎◌, inl, inr, ap, ◌∙◌}
 use Rattle.std.specs.Prelude.{is_some}
 use Rattle.go_base.specs.declared.rule.Rule.{Rule}
 use Rattle.go_num.specs.declared.arithmetic.IntOp.TheVariants.{Add}
@@ -20,8 +20,8 @@ use Rattle.go_model.specs.Outcomes.Judged.{Broken, Found, Nothing, OutcomeData, 
 use Rattle.go_model.specs.Outcomes.Operands.{at_whole}
 use Rattle.go_model.specs.Outcomes.Walk.{Headers, outcome}
 use Rattle.go_model.specs.Values.Quests.{Asked, Decided, Done, Lacks}
-use Rattle.go_expr.specs.Outcomes.{outcome_by}
-use Rattle.go_expr.proofs.OutcomeLemmas.{outcome_by_is}
+use Rattle.go_expr.specs.Outcomes.{outcome_by_operands}
+use Rattle.go_expr.proofs.NodeOutcomeLemmas.{by_operands_is}
 
 -- a test that is decided never waits
 never_waits : (headers : Headers) (own : Rule) (x : ℤ) (b : Bool) (d : ℕ) → tested headers (at_whole own (Done b) ∷ []) (Done x) ≡ Waits d → ⊥
@@ -74,21 +74,21 @@ module _ (headers : Headers) where
 
 -- what holds of each place that an identifier means holds of each place that a node waits for
 module _ (P : ℕ → Type 0) (means : ℕ → Meaning) (headers : Headers) (each : (id place : ℕ) → means id ≡ Own place → P place) where
-  by_waits : (t : Tree) (d : ℕ) → outcome_by means headers t ≡ Waits d → P d
+  by_waits : (t : Tree) (d : ℕ) → outcome_by_operands means headers t ≡ Waits d → P d
   by_waits (branch id from to IntLit text parts) d e = absurd (never_waits headers wide_integer (pos (int_lit_value text)) (is_some (limited (pos (int_lit_value text)))) d e)
   by_waits (branch id from to Name text parts) d e = each id d (name_waits headers (means id) d e)
-  by_waits (branch id from to SelectorExpr text (more_trees a (more_trees b no_trees))) d e = by_either (selector_waits headers (means (id_of b)) (outcome_by means headers a) d e) (by_waits a d)
+  by_waits (branch id from to SelectorExpr text (more_trees a (more_trees b no_trees))) d e = by_either (selector_waits headers (means (id_of b)) (outcome_by_operands means headers a) d e) (by_waits a d)
     where
-      by_either : (means (id_of b) ≡ Own d) ⊎ (outcome_by means headers a ≡ Waits d) → (outcome_by means headers a ≡ Waits d → P d) → P d
+      by_either : (means (id_of b) ≡ Own d) ⊎ (outcome_by_operands means headers a ≡ Waits d) → (outcome_by_operands means headers a ≡ Waits d → P d) → P d
       by_either (inl own) inner = each (id_of b) d own
       by_either (inr waits) inner = inner waits
-  by_waits (branch id from to ParenExpr text (more_trees a no_trees)) d e = by_waits a d (parentheses_wait headers (outcome_by means headers a) d e)
-  by_waits (branch id from to AddExpr text (more_trees a (more_trees b no_trees))) d e = by_either (sum_waits headers (outcome_by means headers a) (outcome_by means headers b) d e) (by_waits a d) (by_waits b d)
+  by_waits (branch id from to ParenExpr text (more_trees a no_trees)) d e = by_waits a d (parentheses_wait headers (outcome_by_operands means headers a) d e)
+  by_waits (branch id from to AddExpr text (more_trees a (more_trees b no_trees))) d e = by_either (sum_waits headers (outcome_by_operands means headers a) (outcome_by_operands means headers b) d e) (by_waits a d) (by_waits b d)
     where
-      by_either : (outcome_by means headers a ≡ Waits d) ⊎ (outcome_by means headers b ≡ Waits d) → (outcome_by means headers a ≡ Waits d → P d) → (outcome_by means headers b ≡ Waits d → P d) → P d
+      by_either : (outcome_by_operands means headers a ≡ Waits d) ⊎ (outcome_by_operands means headers b ≡ Waits d) → (outcome_by_operands means headers a ≡ Waits d → P d) → (outcome_by_operands means headers b ≡ Waits d → P d) → P d
       by_either (inl waits) left right = left waits
       by_either (inr waits) left right = right waits
   by_waits (branch id from to kind text parts) d e = absurd (nothing_waits d e)
 
   pub awaited_means : (t : Tree) (d : ℕ) → outcome means headers t ≡ Waits d → P d
-  awaited_means t d e = by_waits t d (outcome_by_is means headers t ∙ e)
+  awaited_means t d e = by_waits t d (by_operands_is means headers t ∙ e)

@@ -1,3 +1,3 @@
 pub mod AwaitedLemmas
 pub mod EvaluatedLemmas
-pub mod OutcomeLemmas
+pub mod NodeOutcomeLemmas

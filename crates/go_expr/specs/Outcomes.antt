@@ -1,5 +1,5 @@
 -- The outcome of a node as the code finds it: from those of its operands, or from those of its inner parts.
--- Says what the values of the program stand for. That both ways lead to the outcome of the node: `OutcomeLemmas`.
+-- Says what the values of the program stand for. That both ways lead to the outcome of the node: `NodeOutcomeLemmas`.
 use Rattle.std.specs.Prelude.{ℕ, ℤ, Option, Some, None, List, [], ◌∷◌}
 use Rattle.std.specs.Option.{option_map_or}
 use Rattle.go_tree.specs.declared.node_kind.NodeKind.TheVariants.{AddExpr, IntLit, Name, ParenExpr, SelectorExpr}
@@ -31,15 +31,15 @@ limited_view (Some v) = outcomes.Found v
 limited_view None = outcomes.Broken wide_integer (Whole ∷ [])
 
 -- from the outcomes of its operands
-abbrev pub outcome_by : (ℕ → Meaning) → Headers → Tree → OutcomeData ℤ
-outcome_by means headers (branch id from to IntLit text parts) = judged headers (literal text) []
-outcome_by means headers (branch id from to Name text parts) = judged headers (name (means id)) []
-outcome_by means headers (branch id from to SelectorExpr text (more_trees x (more_trees f no_trees))) = judged headers (selector (means (id_of f))) (outcome_by means headers x ∷ [])
-outcome_by means headers (branch id from to ParenExpr text (more_trees x no_trees)) = judged headers parentheses (outcome_by means headers x ∷ [])
-outcome_by means headers (branch id from to AddExpr text (more_trees x (more_trees y no_trees))) = judged headers sum (outcome_by means headers x ∷ (outcome_by means headers y ∷ []))
-outcome_by means headers t = outcomes.Nothing
+abbrev pub outcome_by_operands : (ℕ → Meaning) → Headers → Tree → OutcomeData ℤ
+outcome_by_operands means headers (branch id from to IntLit text parts) = judged headers (literal text) []
+outcome_by_operands means headers (branch id from to Name text parts) = judged headers (name (means id)) []
+outcome_by_operands means headers (branch id from to SelectorExpr text (more_trees x (more_trees f no_trees))) = judged headers (selector (means (id_of f))) (outcome_by_operands means headers x ∷ [])
+outcome_by_operands means headers (branch id from to ParenExpr text (more_trees x no_trees)) = judged headers parentheses (outcome_by_operands means headers x ∷ [])
+outcome_by_operands means headers (branch id from to AddExpr text (more_trees x (more_trees y no_trees))) = judged headers sum (outcome_by_operands means headers x ∷ (outcome_by_operands means headers y ∷ []))
+outcome_by_operands means headers t = outcomes.Nothing
 
--- the one of a list, and the two of it
+-- the only item of a list of one; the two of a list of two
 abbrev pub only_of : {X : Type 0} → List X → Option X
 only_of (x ∷ []) = Some x
 only_of xs = None
@@ -49,19 +49,19 @@ both_of (x ∷ (y ∷ [])) = Some (x, y)
 both_of xs = None
 
 -- from the outcomes of its inner parts
-abbrev pub selector_from : Headers → Meaning → List (OutcomeData ℤ) → OutcomeData ℤ
-selector_from headers meaning xs = option_map_or (λ x. judged headers (selector meaning) (x ∷ [])) (only_of xs) outcomes.Nothing
+abbrev pub selector_by_parts : Headers → Meaning → List (OutcomeData ℤ) → OutcomeData ℤ
+selector_by_parts headers meaning xs = option_map_or (λ x. judged headers (selector meaning) (x ∷ [])) (only_of xs) outcomes.Nothing
 
-abbrev pub parentheses_from : Headers → List (OutcomeData ℤ) → OutcomeData ℤ
-parentheses_from headers xs = option_map_or (λ x. judged headers parentheses (x ∷ [])) (only_of xs) outcomes.Nothing
+abbrev pub parentheses_by_parts : Headers → List (OutcomeData ℤ) → OutcomeData ℤ
+parentheses_by_parts headers xs = option_map_or (λ x. judged headers parentheses (x ∷ [])) (only_of xs) outcomes.Nothing
 
-abbrev pub sum_from : Headers → List (OutcomeData ℤ) → OutcomeData ℤ
-sum_from headers xs = option_map_or (λ p. judged headers sum (p.0 ∷ (p.1 ∷ []))) (both_of xs) outcomes.Nothing
+abbrev pub sum_by_parts : Headers → List (OutcomeData ℤ) → OutcomeData ℤ
+sum_by_parts headers xs = option_map_or (λ p. judged headers sum (p.0 ∷ (p.1 ∷ []))) (both_of xs) outcomes.Nothing
 
-abbrev pub outcome_from : (ℕ → Meaning) → Headers → Tree → List (OutcomeData ℤ) → OutcomeData ℤ
-outcome_from means headers (branch id from to IntLit text parts) xs = judged headers (literal text) []
-outcome_from means headers (branch id from to Name text parts) xs = judged headers (name (means id)) []
-outcome_from means headers (branch id from to SelectorExpr text (more_trees x (more_trees f no_trees))) xs = selector_from headers (means (id_of f)) xs
-outcome_from means headers (branch id from to ParenExpr text parts) xs = parentheses_from headers xs
-outcome_from means headers (branch id from to AddExpr text parts) xs = sum_from headers xs
-outcome_from means headers t xs = outcomes.Nothing
+abbrev pub outcome_by_parts : (ℕ → Meaning) → Headers → Tree → List (OutcomeData ℤ) → OutcomeData ℤ
+outcome_by_parts means headers (branch id from to IntLit text parts) xs = judged headers (literal text) []
+outcome_by_parts means headers (branch id from to Name text parts) xs = judged headers (name (means id)) []
+outcome_by_parts means headers (branch id from to SelectorExpr text (more_trees x (more_trees f no_trees))) xs = selector_by_parts headers (means (id_of f)) xs
+outcome_by_parts means headers (branch id from to ParenExpr text parts) xs = parentheses_by_parts headers xs
+outcome_by_parts means headers (branch id from to AddExpr text parts) xs = sum_by_parts headers xs
+outcome_by_parts means headers t xs = outcomes.Nothing

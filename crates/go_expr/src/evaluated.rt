@@ -5,7 +5,8 @@ ghost use Rattle.go_module.specs.Names.Inner.{inner_parts};
 ghost use Rattle.go_model.specs.Outcomes.Walk.{Headers, outcome};
 ghost use Rattle.go_expr.specs.Evaluated as spec;
 ghost use Rattle.go_expr.specs.Evaluated.{all_evaluated, evaluated_views};
-ghost use Rattle.go_expr.specs.Outcomes.{both_of, only_of, outcome_from, outcome_view, parentheses_from, selector_from, sum_from};
+ghost use Rattle.go_expr.specs.Outcomes.{both_of, only_of, outcome_by_parts, outcome_view};
+ghost use Rattle.go_expr.specs.Outcomes.{parentheses_by_parts, selector_by_parts, sum_by_parts};
 ghost use Rattle.go_expr.specs.Table.{slot_of};
 ghost use Rattle.go_expr.specs.View.{means_by};
 
@@ -83,35 +84,40 @@ fn with_outcome<'a>(
 {
     Evaluated {
         node,
-        outcome: made_from(around, table, node, outcomes),
+        outcome: found_by_parts(around, table, node, outcomes),
     }
 }
 
 // The outcome of a node, by its kind, from those of its inner parts.
-fn made_from(
+fn found_by_parts(
     around: &Around,
     table: &[Option<i128>],
     node: &Node,
     outcomes: &[NodeOutcome],
 ) -> NodeOutcome
     ensures { outcome_view result
-        ≡ outcome_from (means_by around.now) (slot_of table.now) (tree_of node.now) (map outcome_view outcomes.now) }
+        ≡ outcome_by_parts (means_by around.now) (slot_of table.now) (tree_of node.now)
+        (map outcome_view outcomes.now) }
 {
     match node.kind() {
         NodeKind::IntLit => literal(node.text()),
         NodeKind::Name => name(table, around.meaning(node.id())),
         NodeKind::SelectorExpr => match node.both_parts() {
-            Some((_, f)) => selector_made(table, around.meaning(f.id()), outcomes),
+            Some((_, f)) => selector_by_parts(table, around.meaning(f.id()), outcomes),
             None => NodeOutcome::Nothing,
         },
-        NodeKind::ParenExpr => parentheses_made(outcomes),
-        NodeKind::AddExpr => sum_made(outcomes),
+        NodeKind::ParenExpr => parentheses_by_parts(outcomes),
+        NodeKind::AddExpr => sum_by_parts(outcomes),
         _ => NodeOutcome::Nothing,
     }
 }
 
-fn selector_made(table: &[Option<i128>], meaning: Meaning, outcomes: &[NodeOutcome]) -> NodeOutcome
-    ensures { outcome_view result ≡ selector_from (slot_of table.now) meaning (map outcome_view outcomes.now) }
+fn selector_by_parts(
+    table: &[Option<i128>],
+    meaning: Meaning,
+    outcomes: &[NodeOutcome],
+) -> NodeOutcome
+    ensures { outcome_view result ≡ selector_by_parts (slot_of table.now) meaning (map outcome_view outcomes.now) }
 {
     match only(outcomes) {
         Some(operand) => selector(table, meaning, operand),
@@ -119,8 +125,8 @@ fn selector_made(table: &[Option<i128>], meaning: Meaning, outcomes: &[NodeOutco
     }
 }
 
-fn parentheses_made(outcomes: &[NodeOutcome]) -> NodeOutcome
-    ensures { (headers : Headers) → outcome_view result ≡ parentheses_from headers (map outcome_view outcomes.now) }
+fn parentheses_by_parts(outcomes: &[NodeOutcome]) -> NodeOutcome
+    ensures { (headers : Headers) → outcome_view result ≡ parentheses_by_parts headers (map outcome_view outcomes.now) }
 {
     match only(outcomes) {
         Some(part) => parentheses(part),
@@ -128,8 +134,8 @@ fn parentheses_made(outcomes: &[NodeOutcome]) -> NodeOutcome
     }
 }
 
-fn sum_made(outcomes: &[NodeOutcome]) -> NodeOutcome
-    ensures { (headers : Headers) → outcome_view result ≡ sum_from headers (map outcome_view outcomes.now) }
+fn sum_by_parts(outcomes: &[NodeOutcome]) -> NodeOutcome
+    ensures { (headers : Headers) → outcome_view result ≡ sum_by_parts headers (map outcome_view outcomes.now) }
 {
     match both(outcomes) {
         Some((left, right)) => sum(left, right),

@@ -11,13 +11,14 @@ use go_scan::int_lit_value;
 
 /// An integer literal by its text: L2 where its value is too large.
 pub fn literal(text: &[u8]) -> NodeOutcome
-    ensures { (headers : Headers) (parts : List (OutcomeData ℤ)) → outcome_view result ≡ judged headers (spec.literal text.now) parts }
+    ensures { (headers : Headers) (parts : List (OutcomeData ℤ)) → outcome_view result
+        ≡ judged headers (spec.literal text.now) parts }
 {
-    within_limits(int_lit_value(text))
+    limited_outcome(int_lit_value(text))
 }
 
-/// A value where it is within the limits, which else breaks L2.
-pub fn within_limits(value: Option<i128>) -> NodeOutcome
+/// What a value comes to: itself where it is within the limits, else it breaks L2.
+pub fn limited_outcome(value: Option<i128>) -> NodeOutcome
     ensures { outcome_view result ≡ limited_view value }
 {
     match value {

@@ -10,10 +10,11 @@ use crate::node_outcome::NodeOutcome;
 use go_model::Meaning;
 use go_module::UNBUILT_FORM;
 
-/// An identifier by its meaning: a declaration of the package has the value of its header, or waits for it, a constant of
-/// another package its value, and a predeclared identifier breaks U0.
+/// An identifier by its meaning: a declaration of the package has the value of its header, or waits for it, a constant
+/// of another package its value, and a predeclared identifier breaks U0.
 pub fn name(table: &[Option<i128>], meaning: Meaning) -> NodeOutcome
-    ensures { (parts : List (OutcomeData ℤ)) → outcome_view result ≡ judged (slot_of table.now) (spec.name meaning) parts }
+    ensures { (parts : List (OutcomeData ℤ)) → outcome_view result
+        ≡ judged (slot_of table.now) (spec.name meaning) parts }
 {
     match meaning {
         Meaning::Own(place) => declared(place, slot(table, place)),
@@ -25,7 +26,8 @@ pub fn name(table: &[Option<i128>], meaning: Meaning) -> NodeOutcome
 
 // A declaration of the package, by the header that it may have.
 fn declared(place: usize, header: Option<i128>) -> NodeOutcome
-    ensures { (parts : List (OutcomeData ℤ)) → outcome_view result ≡ judged (λ _. header) (spec.name (meanings.Own place)) parts }
+    ensures { (parts : List (OutcomeData ℤ)) → outcome_view result
+        ≡ judged (λ _. header) (spec.name (meanings.Own place)) parts }
 {
     match header {
         Some(value) => NodeOutcome::Found(value),

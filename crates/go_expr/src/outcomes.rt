@@ -7,7 +7,7 @@ ghost use Rattle.go_model.specs.Outcomes.Walk as walk;
 ghost use Rattle.go_model.specs.Outcomes.Readings.{record_in};
 ghost use Rattle.go_model.specs.Values.Records as records;
 ghost use Rattle.go_names.specs.Views.{declaration_view};
-ghost use Rattle.go_expr.specs.Outcomes.{outcome_by, outcome_view};
+ghost use Rattle.go_expr.specs.Outcomes.{outcome_by_operands, outcome_view};
 ghost use Rattle.go_expr.specs.Table.{slot_of};
 ghost use Rattle.go_expr.specs.View.{means_by};
 
@@ -31,7 +31,7 @@ pub fn outcome(around: &Around, table: &[Option<i128>], node: &Node) -> NodeOutc
 
 // The outcome as it is found, by the kind of the node, from those of its operands.
 fn found(around: &Around, table: &[Option<i128>], node: &Node) -> NodeOutcome
-    ensures { outcome_view result ≡ outcome_by (means_by around.now) (slot_of table.now) (tree_of node.now) }
+    ensures { outcome_view result ≡ outcome_by_operands (means_by around.now) (slot_of table.now) (tree_of node.now) }
 {
     match node.kind() {
         NodeKind::IntLit => literal(node.text()),

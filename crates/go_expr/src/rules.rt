@@ -1,4 +1,4 @@
-// The rules that expressions can break, in the order of their table.
+// The rule on the value of an expression. U0, which expressions break too, stands in go_module.
 use go_base::{Family, Rule};
 
 /// An integer constant outside -2^127 to 2^127-1 (Go specification, "Constants").

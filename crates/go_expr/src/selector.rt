@@ -12,7 +12,8 @@ use crate::node_outcome::NodeOutcome;
 use go_model::Meaning;
 use go_module::UNBUILT_FORM;
 
-/// `x.f`, by what f means and by the outcome of x: a name of a package is as that name; a selector of a value breaks U0.
+/// `x.f`, by what f means and by the outcome of x: a name of a package is as that name; a selector of a value breaks
+/// U0.
 pub fn selector(table: &[Option<i128>], meaning: Meaning, operand: NodeOutcome) -> NodeOutcome
     ensures { (parts : List (OutcomeData ℤ)) → outcome_view result
         ≡ judged (slot_of table.now) (spec.selector meaning) (outcome_view operand ∷ parts) }

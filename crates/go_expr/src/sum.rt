@@ -6,9 +6,9 @@ ghost use Rattle.go_model.specs.Outcomes.Constructs.Sum as spec;
 ghost use Rattle.go_model.specs.Outcomes.Judged.{OutcomeData, judged};
 ghost use Rattle.go_model.specs.Outcomes.Judged as outcomes;
 ghost use Rattle.go_model.specs.Outcomes.Walk.{Headers};
-ghost use Rattle.go_expr.specs.Outcomes.{limited_view, outcome_view};
+ghost use Rattle.go_expr.specs.Outcomes.{outcome_view};
 
-use crate::literal::within_limits;
+use crate::literal::limited_outcome;
 use crate::node_outcome::NodeOutcome;
 use go_num::{IntOp, int_binary};
 
@@ -18,20 +18,20 @@ pub fn sum(left: NodeOutcome, right: NodeOutcome) -> NodeOutcome
         ≡ judged headers spec.sum (outcome_view left ∷ (outcome_view right ∷ parts)) }
 {
     match left {
-        NodeOutcome::Found(value) => added(value, right),
-        NodeOutcome::Waits(place) => waited(place, right),
+        NodeOutcome::Found(value) => sum_of_found(value, right),
+        NodeOutcome::Waits(place) => sum_of_waiting(place, right),
         NodeOutcome::Broken(_) => NodeOutcome::Nothing,
         NodeOutcome::Nothing => NodeOutcome::Nothing,
     }
 }
 
 // A sum whose left operand has this value.
-fn added(value: i128, right: NodeOutcome) -> NodeOutcome
+fn sum_of_found(value: i128, right: NodeOutcome) -> NodeOutcome
     ensures { (headers : Headers) (parts : List (OutcomeData ℤ)) → outcome_view result
         ≡ judged headers spec.sum (outcomes.Found value ∷ (outcome_view right ∷ parts)) }
 {
     match right {
-        NodeOutcome::Found(other) => within_limits(sum_of(value, other)),
+        NodeOutcome::Found(other) => limited_outcome(sum_of(value, other)),
         NodeOutcome::Waits(place) => NodeOutcome::Waits(place),
         NodeOutcome::Broken(_) => NodeOutcome::Nothing,
         NodeOutcome::Nothing => NodeOutcome::Nothing,
@@ -39,7 +39,7 @@ fn added(value: i128, right: NodeOutcome) -> NodeOutcome
 }
 
 // A sum whose left operand waits for the declaration at this place.
-fn waited(place: usize, right: NodeOutcome) -> NodeOutcome
+fn sum_of_waiting(place: usize, right: NodeOutcome) -> NodeOutcome
     ensures { (headers : Headers) (parts : List (OutcomeData ℤ)) → outcome_view result
         ≡ judged headers spec.sum (outcomes.Waits place ∷ (outcome_view right ∷ parts)) }
 {

@@ -24,11 +24,12 @@ pub record HasUses (m : ModuleData) (q : ℕ) (tables : List (List (NodeId × Ob
   pub at : slice_get tables q ≡ Some table
   pub are : AreUses m q table
 
--- the tables of the packages that were asked, with what is said of the names of each: each package whose names are sound
--- has its uses; the others as their names are
+-- the tables of uses, package after package
 abbrev pub tables_of : Denoted → List (List (NodeId × ObjId))
 tables_of denoted = map (λ t. t.entries) denoted.uses.items
 
+-- of the packages before the place k: each whose names are sound has its uses; of each other that was asked all that its
+-- names break is there, and one that was not asked imports one whose names are not sound
 pub record AreDenoted (m : ModuleData) (k : ℕ) (denoted : Denoted) : Type 0 where
   pub uses_length : length denoted.uses.items ≡ k
   pub verdicts_length : length denoted.verdicts.items ≡ k

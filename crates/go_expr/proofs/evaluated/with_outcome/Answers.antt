@@ -2,10 +2,10 @@ use Rattle.std.proofs.Common.{ℤ, ap, ◌∙◌}
 use Rattle.go_tree.specs.Tree.{tree_of}
 use Rattle.go_expr.specs.Evaluated.{EvaluatedData}
 use Rattle.go_model.specs.Outcomes.Judged.{OutcomeData}
-use Rattle.go_expr.specs.Outcomes.{outcome_from}
+use Rattle.go_expr.specs.Outcomes.{outcome_by_parts}
 use Rattle.go_expr.specs.Table.{slot_of}
 use Rattle.go_expr.specs.View.{means_by}
-use Rattle.go_expr.proofs.OutcomeLemmas.{outcome_from_is}
+use Rattle.go_expr.proofs.NodeOutcomeLemmas.{by_parts_is}
 use Rattle.go_expr.proofs.evaluated.with_outcome.Goals as goal
 
 pub returns : goal.returns
@@ -15,4 +15,4 @@ returns c =
     let t = tree_of c.args.node.now in
     let node : OutcomeData ℤ → EvaluatedData = λ x. record { tree = t; outcome = x } in
     ap node
-    (c.made_from.ensures ∙ ap (outcome_from means headers t) c.requires ∙ outcome_from_is means headers t)
+    (c.found_by_parts.ensures ∙ ap (outcome_by_parts means headers t) c.requires ∙ by_parts_is means headers t)

@@ -1,8 +1,8 @@
 use Rattle.std.proofs.Common.{pos, ap, ◌∙◌}
 use Rattle.go_tree.specs.Lexical.LiteralValues.{int_lit_value}
 use Rattle.go_expr.specs.Outcomes.{limited_view}
-use Rattle.go_expr.proofs.OutcomeLemmas.{limited_outcome}
+use Rattle.go_expr.proofs.NodeOutcomeLemmas.{limited_outcome}
 use Rattle.go_expr.proofs.literal.literal.Goals as goal
 
 pub returns : goal.returns
-returns c = λ headers parts. c.within_limits.ensures ∙ ap limited_view c.int_lit_value.ensures ∙ limited_outcome headers (pos (int_lit_value c.args.text.now))
+returns c = λ headers parts. c.limited_outcome.ensures ∙ ap limited_view c.int_lit_value.ensures ∙ limited_outcome headers (pos (int_lit_value c.args.text.now))

@@ -6,7 +6,7 @@ use Rattle.go_model.specs.Outcomes.Constructs.Sum.{sum}
 use Rattle.go_model.specs.Outcomes.Judged.{judged}
 use Rattle.go_expr.specs.Table.{slot_of}
 use Rattle.go_expr.specs.View.{means_by}
-use Rattle.go_expr.proofs.OutcomeLemmas.{at_literal, at_parentheses, at_sum}
+use Rattle.go_expr.proofs.NodeOutcomeLemmas.{at_literal, at_parentheses, at_sum}
 use Rattle.go_expr.proofs.outcomes.+found.Goals as goal
 
 pub returns-in-IntLit : goal.returns-in-IntLit

@@ -4,7 +4,7 @@ use Rattle.go_model.specs.Outcomes.Constructs.Selector as spec
 use Rattle.go_model.specs.Outcomes.Judged.{judged}
 use Rattle.go_expr.specs.Outcomes.{outcome_view}
 use Rattle.go_expr.specs.Table.{slot_of}
-use Rattle.go_expr.proofs.OutcomeLemmas.{name_selector}
+use Rattle.go_expr.proofs.NodeOutcomeLemmas.{name_selector}
 use Rattle.go_expr.proofs.selector.selector.Goals as goal
 
 pub returns-in-Other : goal.returns-in-Other

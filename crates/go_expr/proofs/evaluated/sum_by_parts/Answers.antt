@@ -3,8 +3,8 @@ use Rattle.std.specs.Option.{option_map_or}
 use Rattle.go_model.specs.Outcomes.Constructs.Sum.{sum}
 use Rattle.go_model.specs.Outcomes.Judged.{Nothing, OutcomeData, judged}
 use Rattle.go_expr.specs.Outcomes.{outcome_view}
-use Rattle.go_expr.proofs.OutcomeLemmas.{both_of-map}
-use Rattle.go_expr.proofs.evaluated.sum_made.Goals as goal
+use Rattle.go_expr.proofs.NodeOutcomeLemmas.{both_of-map}
+use Rattle.go_expr.proofs.evaluated.sum_by_parts.Goals as goal
 
 pub returns-in-Some : goal.returns-in-Some
 returns-in-Some c = λ headers.

@@ -2,7 +2,7 @@ use Rattle.std.proofs.Common.{◌≡◌, ◌++◌, drop}
 use Rattle.std.specs.List.{flat_map}
 use Rattle.go_model.specs.Outcomes.Readings.{awaited_in}
 use Rattle.go_expr.specs.Evaluated.{evaluated_views}
-use Rattle.go_decl.proofs.waits.push_waits.Given as goal
+use Rattle.go_decl.proofs.waits.push_each.Given as goal
 
 abbrev pub invariant-loop-node : goal.invariant-loop-node
 invariant-loop-node l =

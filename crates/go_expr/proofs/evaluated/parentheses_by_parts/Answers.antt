@@ -3,8 +3,8 @@ use Rattle.std.specs.Option.{option_map_or}
 use Rattle.go_model.specs.Outcomes.Constructs.Parentheses.{parentheses}
 use Rattle.go_model.specs.Outcomes.Judged.{Nothing, judged}
 use Rattle.go_expr.specs.Outcomes.{outcome_view}
-use Rattle.go_expr.proofs.OutcomeLemmas.{only_of-map}
-use Rattle.go_expr.proofs.evaluated.parentheses_made.Goals as goal
+use Rattle.go_expr.proofs.NodeOutcomeLemmas.{only_of-map}
+use Rattle.go_expr.proofs.evaluated.parentheses_by_parts.Goals as goal
 
 pub returns-in-Some : goal.returns-in-Some
 returns-in-Some c = λ headers.

@@ -4,8 +4,8 @@ use Rattle.go_model.specs.Outcomes.Constructs.Selector.{selector}
 use Rattle.go_model.specs.Outcomes.Judged.{Nothing, judged}
 use Rattle.go_expr.specs.Outcomes.{outcome_view}
 use Rattle.go_expr.specs.Table.{slot_of}
-use Rattle.go_expr.proofs.OutcomeLemmas.{only_of-map}
-use Rattle.go_expr.proofs.evaluated.selector_made.Goals as goal
+use Rattle.go_expr.proofs.NodeOutcomeLemmas.{only_of-map}
+use Rattle.go_expr.proofs.evaluated.selector_by_parts.Goals as goal
 
 pub returns-in-Some : goal.returns-in-Some
 returns-in-Some c =

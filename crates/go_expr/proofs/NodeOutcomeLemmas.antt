@@ -1,0 +1,124 @@
+-- The outcome of a node, from the outcomes of its operands and from those of its inner parts.
+use Rattle.std.proofs.Common.{◌≡◌, ℕ, ℤ, pos, negsuc, ◌^◌, nat_lt, Bool, true, false, cond, Option, Some, None, List, [], ◌∷◌, map, refl, sym, ap, ◌∙◌}
+use Rattle.std.specs.Prelude.{is_some}
+use Rattle.std.specs.Option.{option_map}
+use Rattle.go_num.specs.Arithmetic.{limited}
+use Rattle.go_tree.specs.declared.node_kind.NodeKind.TheVariants.{AddExpr, IntLit, Name, ParenExpr, SelectorExpr}
+use Rattle.go_tree.specs.Tree.{Tree, branch, id_of, kind_of, more_trees, no_trees, parts_of, text_of}
+use Rattle.go_module.specs.Names.Inner.{inner_parts}
+use Rattle.go_model.specs.declared.meaning.Meaning.{Meaning}
+use Rattle.go_model.specs.declared.meaning.Meaning.TheVariants.{Other, Outer, Own, Predeclared}
+use Rattle.go_model.specs.Outcomes.Constructs.Limits.{wide_integer}
+use Rattle.go_model.specs.Outcomes.Constructs.Literal.{literal}
+use Rattle.go_model.specs.Outcomes.Constructs.Name.{name}
+use Rattle.go_model.specs.Outcomes.Constructs.Parentheses.{parentheses}
+use Rattle.go_model.specs.Outcomes.Constructs.Selector.{selector}
+use Rattle.go_model.specs.Outcomes.Constructs.Sum.{sum}
+use Rattle.go_model.specs.Outcomes.Judged.{Found, OutcomeData, judged, tested}
+use Rattle.go_model.specs.Outcomes.Operands.{at_whole}
+use Rattle.go_model.specs.Outcomes.Walk.{Headers, outcome, outcomes}
+use Rattle.go_model.specs.Values.Quests.{Done}
+use Rattle.go_expr.specs.Outcomes.{both_of, limited_view, only_of, outcome_by_operands, outcome_by_parts, selector_by_parts}
+
+cond_some : (b : Bool) (x y : ℤ) → cond b (Some x) None ≡ Some y → x ≡ y
+cond_some true x y e = cc
+cond_some false x y e = absurd (let never : None ≡ Some y = e in cc)
+
+-- a value within the limits is the value
+limited_is : (x y : ℤ) → limited x ≡ Some y → x ≡ y
+limited_is (pos n) y e = cond_some (nat_lt n (2 ^ 127)) (pos n) y e
+limited_is (negsuc n) y e = cond_some (nat_lt n (2 ^ 127)) (negsuc n) y e
+
+by_limit : (headers : Headers) (x : ℤ) (o : Option ℤ) → limited x ≡ o → limited_view o ≡ tested headers (at_whole wide_integer (Done (is_some o)) ∷ []) (Done x)
+by_limit headers x None e = refl
+by_limit headers x (Some y) e = ap Found (sym (limited_is x y e))
+
+-- what is asked whether it is within the limits, and then given
+pub limited_outcome : (headers : Headers) (x : ℤ) → limited_view (limited x) ≡ tested headers (at_whole wide_integer (Done (is_some (limited x))) ∷ []) (Done x)
+limited_outcome headers x = by_limit headers x (limited x) refl
+
+-- an identifier has no operand
+name_parts : (headers : Headers) (m : Meaning) (xs ys : List (OutcomeData ℤ)) → judged headers (name m) xs ≡ judged headers (name m) ys
+name_parts headers (Own place) xs ys = refl
+name_parts headers (Outer v) xs ys = refl
+name_parts headers Predeclared xs ys = refl
+name_parts headers Other xs ys = refl
+
+-- the name behind a `.` is no operand
+selector_parts : (headers : Headers) (m : Meaning) (x : OutcomeData ℤ) (xs ys : List (OutcomeData ℤ)) → judged headers (selector m) (x ∷ xs) ≡ judged headers (selector m) (x ∷ ys)
+selector_parts headers (Own place) x xs ys = refl
+selector_parts headers (Outer v) x xs ys = refl
+selector_parts headers Predeclared x xs ys = refl
+selector_parts headers Other x xs ys = refl
+
+module _ (means : ℕ → Meaning) (headers : Headers) where
+  -- from the outcomes of its operands
+  pub by_operands_is : (t : Tree) → outcome_by_operands means headers t ≡ outcome means headers t
+  by_operands_is (branch id from to IntLit text parts) = refl
+  by_operands_is (branch id from to Name text parts) = name_parts headers (means id) [] (outcomes means headers parts)
+  by_operands_is (branch id from to SelectorExpr text no_trees) = refl
+  by_operands_is (branch id from to SelectorExpr text (more_trees a no_trees)) = refl
+  by_operands_is (branch id from to SelectorExpr text (more_trees a (more_trees b no_trees))) =
+      ap (λ x. judged headers (selector (means (id_of b))) (x ∷ [])) (by_operands_is a) ∙ selector_parts headers (means (id_of b)) (outcome means headers a) [] (outcome means headers b ∷ [])
+  by_operands_is (branch id from to SelectorExpr text (more_trees a (more_trees b (more_trees c ts)))) = refl
+  by_operands_is (branch id from to ParenExpr text no_trees) = refl
+  by_operands_is (branch id from to ParenExpr text (more_trees a no_trees)) = ap (λ x. judged headers parentheses (x ∷ [])) (by_operands_is a)
+  by_operands_is (branch id from to ParenExpr text (more_trees a (more_trees b ts))) = refl
+  by_operands_is (branch id from to AddExpr text no_trees) = refl
+  by_operands_is (branch id from to AddExpr text (more_trees a no_trees)) = refl
+  by_operands_is (branch id from to AddExpr text (more_trees a (more_trees b no_trees))) = (λ i. judged headers sum (by_operands_is a i ∷ (by_operands_is b i ∷ [])))
+  by_operands_is (branch id from to AddExpr text (more_trees a (more_trees b (more_trees c ts)))) = refl
+  by_operands_is (branch id from to kind text parts) = refl
+
+  -- from the outcomes of its inner parts
+  pub by_parts_is : (t : Tree) → outcome_by_parts means headers t (map (outcome means headers) (inner_parts t)) ≡ outcome means headers t
+  by_parts_is (branch id from to IntLit text parts) = refl
+  by_parts_is (branch id from to Name text parts) = name_parts headers (means id) [] (outcomes means headers parts)
+  by_parts_is (branch id from to SelectorExpr text no_trees) = refl
+  by_parts_is (branch id from to SelectorExpr text (more_trees a no_trees)) = refl
+  by_parts_is (branch id from to SelectorExpr text (more_trees a (more_trees b no_trees))) = selector_parts headers (means (id_of b)) (outcome means headers a) [] (outcome means headers b ∷ [])
+  by_parts_is (branch id from to SelectorExpr text (more_trees a (more_trees b (more_trees c ts)))) = refl
+  by_parts_is (branch id from to ParenExpr text no_trees) = refl
+  by_parts_is (branch id from to ParenExpr text (more_trees a no_trees)) = refl
+  by_parts_is (branch id from to ParenExpr text (more_trees a (more_trees b ts))) = refl
+  by_parts_is (branch id from to AddExpr text no_trees) = refl
+  by_parts_is (branch id from to AddExpr text (more_trees a no_trees)) = refl
+  by_parts_is (branch id from to AddExpr text (more_trees a (more_trees b no_trees))) = refl
+  by_parts_is (branch id from to AddExpr text (more_trees a (more_trees b (more_trees c ts)))) = refl
+  by_parts_is (branch id from to kind text parts) = refl
+
+-- a selector of a name of a package is as that name
+pub name_selector : (headers : Headers) (m : Meaning) (x : OutcomeData ℤ) (xs : List (OutcomeData ℤ)) → (m ≡ Other → ⊥) → judged headers (name m) (x ∷ xs) ≡ judged headers (selector m) (x ∷ xs)
+name_selector headers (Own place) x xs other = refl
+name_selector headers (Outer v) x xs other = refl
+name_selector headers Predeclared x xs other = refl
+name_selector headers Other x xs other = absurd (other refl)
+
+-- the one and the two of what is made of a list
+pub only_of-map : {X Y : Type 0} (f : X → Y) (xs : List X) (x : X) → only_of xs ≡ Some x → only_of (map f xs) ≡ Some (f x)
+only_of-map f [] x e = cc
+only_of-map f (y ∷ []) x e = ap (option_map f) e
+only_of-map f (y ∷ (z ∷ ys)) x e = cc
+
+pub both_of-map : {X Y : Type 0} (f : X → Y) (xs : List X) (x y : X) → both_of xs ≡ Some (x, y) → both_of (map f xs) ≡ Some (f x, f y)
+both_of-map f [] x y e = cc
+both_of-map f (a ∷ []) x y e = cc
+both_of-map f (a ∷ (b ∷ [])) x y e = ap (option_map (λ p. (f p.0, f p.1))) e
+both_of-map f (a ∷ (b ∷ (c ∷ cs))) x y e = cc
+
+-- nodes of a kind
+module _ (means : ℕ → Meaning) (headers : Headers) where
+  pub at_literal : (t : Tree) → kind_of t ≡ IntLit → outcome_by_operands means headers t ≡ judged headers (literal (text_of t)) []
+  at_literal (branch id from to kind text parts) e = ap (λ k. outcome_by_operands means headers (branch id from to k text parts)) e
+
+  pub at_literal_by_parts : (t : Tree) (xs : List (OutcomeData ℤ)) → kind_of t ≡ IntLit → outcome_by_parts means headers t xs ≡ judged headers (literal (text_of t)) []
+  at_literal_by_parts (branch id from to kind text parts) xs e = ap (λ k. outcome_by_parts means headers (branch id from to k text parts) xs) e
+
+  pub at_parentheses : (t a : Tree) → kind_of t ≡ ParenExpr → parts_of t ≡ more_trees a no_trees → outcome_by_operands means headers t ≡ judged headers parentheses (outcome_by_operands means headers a ∷ [])
+  at_parentheses (branch id from to kind text parts) a e is = (λ i. outcome_by_operands means headers (branch id from to (e i) text (is i)))
+
+  pub at_sum : (t a b : Tree) → kind_of t ≡ AddExpr → parts_of t ≡ more_trees a (more_trees b no_trees) → outcome_by_operands means headers t ≡ judged headers sum (outcome_by_operands means headers a ∷ (outcome_by_operands means headers b ∷ []))
+  at_sum (branch id from to kind text parts) a b e is = (λ i. outcome_by_operands means headers (branch id from to (e i) text (is i)))
+
+  pub at_selector_by_parts : (t a b : Tree) (xs : List (OutcomeData ℤ)) → kind_of t ≡ SelectorExpr → parts_of t ≡ more_trees a (more_trees b no_trees) → outcome_by_parts means headers t xs ≡ selector_by_parts headers (means (id_of b)) xs
+  at_selector_by_parts (branch id from to kind text parts) a b xs e is = (λ i. outcome_by_parts means headers (branch id from to (e i) text (is i)) xs)
