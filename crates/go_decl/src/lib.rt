@@ -9,3 +9,6 @@ mod waits;
 
 pub use rounds::headers;
 pub use waits::cyclic_declarations;
+
+#[cfg(test)]
+mod tests;

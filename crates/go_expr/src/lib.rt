@@ -27,3 +27,6 @@ pub use around::{Around, FIRST_NUMBER};
 pub use evaluated::{Evaluated, evaluate};
 pub use node_outcome::NodeOutcome;
 pub use outcomes::{outcome, record, value_over};
+
+#[cfg(test)]
+mod tests;

@@ -1,0 +1,97 @@
+// The headers of two declarations that are made by hand, where memory suffices.
+ghost use Rattle.std.specs.Prelude.{◌≤◌, length};
+
+use crate::{cyclic_declarations, headers};
+use go_base::{Bytes, NoMemory, ObjId};
+use go_expr::Around;
+use go_module::{Built, ObjKind};
+use go_names::Declaration;
+use go_tree::{Node, NodeId, NodeKind};
+use indexmap::IndexMap;
+use std::alloc::Global;
+use std::slice::from_ref;
+use std::test::Fail;
+
+fn leaf(alloc: Global, id: usize, kind: NodeKind, text: &[u8]) -> Result<Node, NoMemory> {
+    Ok(Node {
+        id: NodeId(id),
+        start: 0,
+        end: 0,
+        kind,
+        text: Bytes::new(text.to_vec(alloc)?),
+        parts: Vec::new(alloc),
+    })
+}
+
+fn constant<'a>(name: &'a Node, value: &'a Node) -> Declaration<'a> {
+    Declaration {
+        file: 0,
+        kind: ObjKind::Const,
+        name,
+        types: &[],
+        values: from_ref(value),
+        built: Built::Pair,
+    }
+}
+
+// The headers of these declarations, where X and Y are the nodes 45 and 46, and 47 is a use of Y.
+fn found(alloc: Global, declarations: &[Declaration]) -> Result<Vec<Option<i128>>, NoMemory> {
+    let mut uses = IndexMap::new(alloc);
+    uses.insert(NodeId(47), ObjId(46))?;
+    let mut places = IndexMap::new(alloc);
+    places.insert(ObjId(45), 0)?;
+    places.insert(ObjId(46), 1)?;
+    let around = Around {
+        uses: &uses,
+        places: &places,
+        before: &IndexMap::new(alloc),
+    };
+    headers(alloc, &around, declarations)
+}
+
+#[test]
+fn a_header_follows_from_a_later_one(rt: HostRuntime) -> Result<(), Fail> {
+    let alloc = rt.alloc();
+    // X = Y, Y = 1
+    let x = leaf(alloc, 45, NodeKind::Name, b"X")?;
+    let y = leaf(alloc, 46, NodeKind::Name, b"Y")?;
+    let to_y = leaf(alloc, 47, NodeKind::Name, b"Y")?;
+    let one = leaf(alloc, 48, NodeKind::IntLit, b"1")?;
+    let table = found(alloc, &[constant(&x, &to_y), constant(&y, &one)])?;
+    assert_eq!(rt; table.len(), 2);
+    assert_eq!(rt; table[0], Some(1));
+    assert_eq!(rt; table[1], Some(1));
+    Ok(())
+}
+
+// Which of these declarations wait for themselves, where X and Y are the nodes 45 and 46, and 47 and 49 are their uses.
+fn cyclic(alloc: Global, declarations: &[Declaration]) -> Result<Vec<bool>, NoMemory>
+    requires { 2 ≤ length declarations.now }
+{
+    let mut uses = IndexMap::new(alloc);
+    uses.insert(NodeId(47), ObjId(46))?;
+    uses.insert(NodeId(49), ObjId(45))?;
+    let mut places = IndexMap::new(alloc);
+    places.insert(ObjId(45), 0)?;
+    places.insert(ObjId(46), 1)?;
+    let around = Around {
+        uses: &uses,
+        places: &places,
+        before: &IndexMap::new(alloc),
+    };
+    cyclic_declarations(alloc, &around, &[None, None], declarations)
+}
+
+#[test]
+fn two_declarations_wait_for_each_other(rt: HostRuntime) -> Result<(), Fail> {
+    let alloc = rt.alloc();
+    // X = Y, Y = X
+    let x = leaf(alloc, 45, NodeKind::Name, b"X")?;
+    let y = leaf(alloc, 46, NodeKind::Name, b"Y")?;
+    let to_y = leaf(alloc, 47, NodeKind::Name, b"Y")?;
+    let to_x = leaf(alloc, 49, NodeKind::Name, b"X")?;
+    let marks = cyclic(alloc, &[constant(&x, &to_y), constant(&y, &to_x)])?;
+    assert_eq!(rt; marks.len(), 2);
+    assert!(rt; marks[0] && marks[1]);
+    Ok(())
+}
