@@ -20,7 +20,7 @@ pub struct Denoted {
 }
 
 /// What the identifiers of packages with these names denote. Of their scopes the rest is given back: each has the
-/// whole universe, and together they take more room than the reports. An error is want of memory.
+/// whole universe, and together they take nearly as much room as the reports. An error is want of memory.
 pub fn denoted_by(alloc: Global, names: Names) -> Result<Denoted, NoMemory>
     ensures { IfOk result (λ denoted. (m : ModuleData) (k : ℕ) → AreNames m k names → AreDenoted m k denoted) }
 {
