@@ -1,5 +1,5 @@
 #!/usr/bin/env python3
-"""Writes the grammar's right sides as lines of steps, and the weight of each production.
+"""Writes the grammar's right sides as lines of steps, each below its production, and the weight of each production.
 
 usage: bench/lines.py [--check]
 
@@ -18,6 +18,7 @@ import sys
 from collections import Counter
 from functools import lru_cache
 from pathlib import Path
+from textwrap import wrap
 
 CRATES = Path(__file__).resolve().parent.parent / 'crates'
 GRAMMAR = CRATES / 'go_tree' / 'specs' / 'Grammar'
@@ -253,6 +254,57 @@ def steps_of(side):
     return [' '.join([side[0], *asked, *numbers, *kinds]), *sum(parts, [])]
 
 
+# Productions as they are written (docs/GRAMMAR.md).
+
+def read_token_texts():
+    """How a production writes a token of each kind."""
+    body = re.search(r'pub enum TokenKind {(.*?)\n}', (CRATES / 'go_tree' / 'src' / 'token.rt').read_text(), re.S).group(1)
+    known = {'Ident': 'ident', 'Int': 'int', 'Float': 'float', 'Rune': 'rune', 'Text': 'string', 'End': 'end'}
+    texts = dict(re.findall(r'/// `(\S+)`[^\n]*\n    (\w+),', body))
+    return {**{name: f'"{text}"' for text, name in texts.items()}, **known, 'InsertedSemicolon': '";"'}
+
+
+TOKEN_TEXTS = read_token_texts()
+
+
+def is_pass(side):
+    return side[0] == 'Do' and side[1][0] == 'Pass'
+
+
+def called(production):
+    return production[0] + ''.join(f'({part[0]})' for part in production[1:])
+
+
+def alternatives_of(side):
+    """What a choice is between, each once; a look at the tokens ahead is a choice like any other."""
+    if side[0] not in ('Or', 'When'):
+        return [written(side)]
+    return list(dict.fromkeys(sum(map(alternatives_of, parts_of(side)), [])))
+
+
+def written(side, in_sequence=False):
+    """The right side without what makes nodes."""
+    if side[0] in ('Do', 'Nothing'):
+        return TOKEN_TEXTS[side[1][1][0]] if is_pass(side) else ''
+    if side[0] == 'Call':
+        return called(side[1])
+    if side[0] == 'Seq':
+        return ' '.join(filter(None, (written(part, True) for part in side[1:])))
+    if side[0] == 'Many':
+        return f'{{ {written(side[1])} }}'
+    choices = alternatives_of(side)
+    some = ' | '.join(filter(None, choices))
+    if '' in choices:
+        return some and f'[ {some} ]'
+    return f'( {some} )' if in_sequence and len(choices) > 1 else some
+
+
+def production_text(production):
+    words = f'{called(production)} = {written(right_side(production))} .'.replace('=  .', '= .')
+    return '\n'.join(wrap(words, WIDTH, initial_indent='/// ', subsequent_indent='///     ', break_long_words=False,
+                           break_on_hyphens=False))
+
+
 # Files.
 
 def constant_of(production):
@@ -271,7 +323,7 @@ def rows_of(steps, width=WIDTH):
 
 def line_text(production):
     rows = '\n'.join(rows_of(steps_of(right_side(production))))
-    return f'/// {plain(production)}\npub const {constant_of(production)}: &[Step] = line![\n{rows}\n];\n'
+    return f'{production_text(production)}\npub const {constant_of(production)}: &[Step] = line![\n{rows}\n];\n'
 
 
 IMPORTS = [('crate::line::', ['Asked', 'Step']), ('crate::line_words::', ['line']),

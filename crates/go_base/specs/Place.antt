@@ -1,14 +1,15 @@
 -- Places in a text (Go specification, "Source code representation").
 -- Decides the line and the column of a place, both counted from 1, the column in bytes.
+use Prim.Native.Char.{code}
 use Rattle.std.specs.Prelude.{ℕ, Bool, ◌+◌, ◌==◌, ◌||◌, List, length, take, count_by}
 use Rattle.std.specs.List.{after_last}
 
 abbrev pub is_newline : ℕ → Bool
-is_newline byte = byte == 10
+is_newline byte = byte == code "\n"
 
 -- a blank: white space that ends no line, which is a space, a tab or a carriage return
 abbrev pub is_blank : ℕ → Bool
-is_blank byte = (byte == 32) || ((byte == 9) || (byte == 13))
+is_blank byte = (byte == code " ") || ((byte == code "\t") || (byte == code "\r"))
 
 -- one more than the newlines before the offset
 abbrev pub line_of : List ℕ → ℕ → ℕ

@@ -6,9 +6,8 @@ ghost use Rattle.go_model.specs.Report.{named_view};
 ghost use Rattle.go_check.specs.View.{outline_view};
 
 use go_base::{Name, NoMemory};
-use go_expr::FIRST_NUMBER;
 use go_model::{DeclaredObject, NamedObject};
-use go_module::{At, ObjId, Package, universe};
+use go_module::{At, FIRST_NUMBER, ObjId, Package, universe};
 use indexmap::IndexMap;
 use std::alloc::Global;
 

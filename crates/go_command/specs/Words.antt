@@ -1,6 +1,7 @@
 -- The words of the command.
 -- Decides which words name a root, and a root of stubs: `ROOT`, or `ROOT --stubs ROOT2`. A root is not empty, and
 -- the first does not begin with `-`.
+use Prim.Native.Char.{code}
 use Rattle.std.specs.Prelude.{ℕ, ◌==◌, nat_eq, not, ◌&&◌, List, [], ◌∷◌, Bool, true, false, Option, Some, None, codes, if◌then◌else◌}
 use Rattle.std.specs.Borrow.{Bor}
 use Rattle.std.specs.Cmp.Lexicographic.{pointwise}
@@ -12,7 +13,7 @@ pub record Roots : Type 0 where
 
 abbrev pub is_root : List ℕ → Bool
 is_root [] = false
-is_root (b ∷ bs) = not (b == 45)
+is_root (b ∷ bs) = not (b == code "-")
 
 -- `--stubs`
 abbrev pub is_flag : List ℕ → Bool

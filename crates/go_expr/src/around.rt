@@ -5,12 +5,9 @@ ghost use Rattle.go_model.specs.Values.Meaning as spec;
 ghost use Rattle.go_expr.specs.View.{denotes_by, means_by, places_by};
 
 use go_model::Meaning;
-use go_module::ObjId;
+use go_module::{FIRST_NUMBER, ObjId};
 use go_tree::NodeId;
 use indexmap::IndexMap;
-
-/// The number of a module's first node; lower ones are those of predeclared identifiers.
-pub const FIRST_NUMBER: usize = 45;
 
 /// What is known round the declarations of a package: what its names denote, the places of its declarations by their
 /// numbers, and the values of the constants of packages that stand before.

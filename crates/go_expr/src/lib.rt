@@ -23,7 +23,7 @@ mod sum;
 mod evaluated;
 mod outcomes;
 
-pub use around::{Around, FIRST_NUMBER};
+pub use around::Around;
 pub use evaluated::{Evaluated, evaluate};
 pub use node_outcome::NodeOutcome;
 pub use outcomes::{outcome, record, value_over};

@@ -1,6 +1,7 @@
 -- Comments (Go specification), and build constraints, which the go command reads.
 -- Decides where build constraints stand: the line comments before the package clause that begin
 -- their line, blanks aside, with `//go:build` and white space or the end of the file.
+use Prim.Native.Char.{code}
 use Rattle.std.specs.Prelude.{◌≡◌, ℕ, ◌+◌, ◌-◌, ◌<◌, ◌≤◌, ◌==◌, ◌&&◌, ◌||◌, ◌↔◌, nat_eq, Bool, true, false, List, ◌++◌, drop, length, slice_index, AllPairs, Contains, codes}
 use Rattle.std.specs.List.{starts_with}
 use Rattle.go_base.specs.Place.{is_blank}
@@ -13,7 +14,7 @@ begins_with_mark bytes = (slice_index bytes 0 == 239) && ((slice_index bytes 1 =
 
 -- a line begins at the first byte, behind the byte order mark, and behind each newline
 abbrev pub is_line_start : List ℕ → ℕ → Bool
-is_line_start bytes at = (at == 0) || ((slice_index bytes (at - 1) == 10) || ((at == 3) && begins_with_mark bytes))
+is_line_start bytes at = (at == 0) || ((slice_index bytes (at - 1) == code "\n") || ((at == 3) && begins_with_mark bytes))
 
 -- between the offset and the beginning of its line stand blanks alone
 pub record BeginsLine (bytes : List ℕ) (at : ℕ) : Type 0 where

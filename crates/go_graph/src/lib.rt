@@ -25,7 +25,7 @@ mod predecessors;
 pub use cycles::{cyclic_edges, cyclic_vertices};
 pub use graph::is_graph;
 pub use laws::{behind_edges, no_vertex_is_left, one_order};
-pub use numbers::{Numbers, is_marked, row_at};
+pub use numbers::{Numbers, empty_rows, is_marked, row_at};
 pub use ordering::order;
 pub use reach::reached;
 

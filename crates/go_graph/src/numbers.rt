@@ -1,5 +1,5 @@
 // Lists of numbers, rows of them, and marks.
-ghost use Rattle.std.specs.Prelude.{◌≡◌, [], ◌∷◌, ◌++◌, OnOk};
+ghost use Rattle.std.specs.Prelude.{◌≡◌, [], ◌∷◌, ◌++◌, IfOk, OnOk, replicate};
 ghost use Rattle.go_graph.specs.Graph.{is_marked, row_at};
 
 use go_base::NoMemory;
@@ -44,6 +44,17 @@ impl Numbers {
         self.items.push(number)?;
         Ok(())
     }
+}
+
+/// So many rows with nothing in them. The only error is want of memory.
+pub fn empty_rows(alloc: Global, count: usize) -> Result<Vec<Numbers>, NoMemory>
+    ensures { IfOk result (λ rows. rows.items ≡ replicate count []) }
+{
+    let mut rows = Vec::new(alloc);
+    for _ in 0..count {
+        rows.push(Numbers::new(alloc))?;
+    }
+    Ok(rows)
 }
 
 /// The row at a place, and an empty one where there is none.

@@ -1,9 +1,9 @@
 // Edges turned round: for each vertex those whose edges lead to it.
-ghost use Rattle.std.specs.Prelude.{◌≡◌, ◌<◌, [], ◌∷◌, All, IfOk, OnOk, length, replicate};
+ghost use Rattle.std.specs.Prelude.{◌≡◌, ◌<◌, [], ◌∷◌, All, IfOk, OnOk, length};
 ghost use Rattle.go_graph.specs.Graph.{IsGraph};
 ghost use Rattle.go_graph.specs.OpenEdges.{Adds, ArePredecessors};
 
-use crate::numbers::Numbers;
+use crate::numbers::{Numbers, empty_rows};
 use go_base::NoMemory;
 use std::alloc::Global;
 
@@ -16,17 +16,6 @@ pub fn predecessors(alloc: Global, graph: &[Numbers]) -> Result<Vec<Numbers>, No
     let mut rows = empty_rows(alloc, graph.len())?;
     for (vertex, row) in graph.iter().enumerate() {
         add_to_each(row.as_slice(), vertex, &mut rows)?;
-    }
-    Ok(rows)
-}
-
-// So many rows with nothing in them.
-fn empty_rows(alloc: Global, count: usize) -> Result<Vec<Numbers>, NoMemory>
-    ensures { IfOk result (λ rows. rows.items ≡ replicate count []) }
-{
-    let mut rows = Vec::new(alloc);
-    for _ in 0..count {
-        rows.push(Numbers::new(alloc))?;
     }
     Ok(rows)
 }

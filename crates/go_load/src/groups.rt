@@ -1,5 +1,5 @@
 // The files of packages.
-ghost use Rattle.std.specs.Prelude.{◌≡◌, IfOk, OnOk, length, map, replicate, vec_len, []};
+ghost use Rattle.std.specs.Prelude.{◌≡◌, IfOk, OnOk, length, map, vec_len};
 ghost use Rattle.std.specs.Cmp.Lexicographic.{slice_cmp};
 ghost use Rattle.std.specs.List.Sorted.{IsStrictlySortedBy};
 ghost use Rattle.std.specs.Ordering.{nat_cmp};
@@ -9,7 +9,7 @@ ghost use Rattle.go_load.specs.Packages.PathSets.{home_place, put_in};
 use crate::path_set::PathSet;
 use crate::paths::ImportPath;
 use go_base::NoMemory;
-use go_graph::Numbers;
+use go_graph::{Numbers, empty_rows};
 use std::alloc::Global;
 
 /// The files of each package, where `places` are the paths of packages in ascending order.
@@ -28,17 +28,6 @@ pub fn groups(
         add_file(&mut files, places, home, i)?;
     }
     Ok(files)
-}
-
-// Rows without numbers.
-fn empty_rows(alloc: Global, count: usize) -> Result<Vec<Numbers>, NoMemory>
-    ensures { IfOk result (λ rows. rows.items ≡ replicate count []) }
-{
-    let mut rows = Vec::new(alloc);
-    for _ in 0..count {
-        rows.push(Numbers::new(alloc))?;
-    }
-    Ok(rows)
 }
 
 // Adds a file to the package that is its home.

@@ -8,12 +8,9 @@ use crate::load_fault::LoadFault;
 use crate::places::placed_list;
 use crate::source::{ReadSource, read_source};
 use go_base::NoMemory;
-use go_module::{Placed, Text, breaks_none};
+use go_module::{FIRST_NUMBER, Placed, Text, breaks_none};
 use go_tree::{File, NodeId};
 use std::alloc::Global;
-
-/// The number of the first node of a module.
-const FIRST_NUMBER: usize = 45;
 
 // The trees of the texts so far, the number of the next node, and what the texts break.
 #[derive(Drop)]

@@ -1,5 +1,6 @@
 -- The go directive of go.mod (Go modules reference, "go directive").
 -- Decides which lines declare a version of the language, and which versions are Go 1.21.
+use Prim.Native.Char.{code}
 use Rattle.std.specs.Prelude.{ℕ, ◌==◌, ◌&&◌, ◌||◌, nat_eq, nat_le, Bool, if◌then◌else◌}
 use Rattle.std.specs.Prelude.{List, codes, drop, length, slice_index, Option, Some, None}
 use Rattle.std.specs.List.{list_all, starts_with, prefix_len, take_while, before_first, after_first}
@@ -10,10 +11,10 @@ use Rattle.go_mod.specs.ModuleLines.{is_text, first_word, argument}
 abbrev pub is_number : List ℕ → Bool
 is_number text =
     is_text text (codes "0")
-    || ((nat_le 49 (slice_index text 0) && nat_le (slice_index text 0) 57) && list_all is_ascii_digit text)
+    || ((nat_le (code "1") (slice_index text 0) && nat_le (slice_index text 0) (code "9")) && list_all is_ascii_digit text)
 
 abbrev pub is_dot : ℕ → Bool
-is_dot b = b == 46
+is_dot b = b == code "."
 
 -- the first number, before the first dot
 abbrev pub major : List ℕ → List ℕ

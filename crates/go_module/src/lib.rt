@@ -49,7 +49,7 @@ pub use declaration::Built;
 pub use go_base::ObjId;
 pub use inner::Inner;
 pub use laws::one_list;
-pub use module::{Module, Package, SourceFile};
+pub use module::{FIRST_NUMBER, Module, Package, SourceFile};
 pub use node_parts::{all_but_first, part_list, three_parts};
 pub use object::{Method, ObjKind, Object};
 pub use object_table::{add_objects, copy_object, object_id};

@@ -5,6 +5,9 @@ use go_base::{Bytes, LineStarts, Name, NoMemory};
 use go_tree::File;
 use std::alloc::Global;
 
+/// The number of a module's first node; lower ones are those of predeclared identifiers.
+pub const FIRST_NUMBER: usize = 45;
+
 /// A module: its path, the second number of the version of Go that its go.mod names, 21 for `go 1.21`,
 /// and its packages in import order.
 #[derive(Debug, Drop)]

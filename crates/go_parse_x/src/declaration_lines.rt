@@ -7,7 +7,9 @@ use crate::start_sets::{
 };
 use go_tree::{Form, Items, NodeKind, Production, TokenKind};
 
-/// Decl
+/// Decl = "const" ( ConstSpec | "(" [ ConstSpec [ More(ConstSpecs) ] ] ")" ) | "var" ( VarSpec |
+///     "(" [ VarSpec [ More(VarSpecs) ] ] ")" ) | "type" ( TypeSpec | "(" [ TypeSpec [
+///     More(TypeSpecs) ] ] ")" ) .
 pub const DECL: &[Step] = line![
     Or 21 [KwConst], Seq 1, Open, Seq 1, Pass KwConst, Or 3 [Ident], Seq 1, Call ConstSpec,
     Close ConstDecl, Seq 11, Seq 1, Pass LeftParen, Seq 7, Or 5 [Ident], Seq 1, Call ConstSpec,
@@ -20,7 +22,7 @@ pub const DECL: &[Step] = line![
     Nothing, Pass RightParen, Close TypeGroup,
 ];
 
-/// ConstSpec
+/// ConstSpec = Idents [ [ AnyType ] "=" Exprs(Plain) ] .
 pub const CONST_SPEC: &[Step] = line![
     Seq 1, Open, Seq 11, Seq 1, Call Idents,
     Or 7 [Ident KwChan KwFunc KwInterface KwMap KwStruct Mul Arrow Assign LeftParen LeftBracket],
@@ -28,38 +30,40 @@ pub const CONST_SPEC: &[Step] = line![
     Close ConstSpec,
 ];
 
-/// VarSpec
+/// VarSpec = Idents ( AnyType [ "=" Exprs(Plain) ] | "=" Exprs(Plain) ) .
 pub const VAR_SPEC: &[Step] = line![
     Seq 1, Open, Seq 13, Seq 1, Call Idents, Or 7 TYPES, Seq 1, Call AnyType, Or 3 [Assign], Seq 1,
     Pass Assign, Call Exprs Plain, Nothing, Seq 1, Pass Assign, Call Exprs Plain, Close VarSpec,
 ];
 
-/// Idents
+/// Idents = Name { "," Name } .
 pub const IDENTS: &[Step] = line![
     Seq 1, Open, Seq 6, Seq 1, Call Name, Many [Comma], Seq 1, Pass Comma, Call Name,
     Close IdentList,
 ];
 
-/// Exprs Plain
+/// Exprs(Plain) = Expr(Plain) { "," Expr(Plain) } .
 pub const EXPRS_PLAIN: &[Step] = line![
     Seq 1, Open, Seq 6, Seq 1, Call Expr Plain, Many [Comma], Seq 1, Pass Comma, Call Expr Plain,
     Close ExprList,
 ];
 
-/// Exprs Header
+/// Exprs(Header) = Expr(Header) { "," Expr(Header) } .
 pub const EXPRS_HEADER: &[Step] = line![
     Seq 1, Open, Seq 6, Seq 1, Call Expr Header, Many [Comma], Seq 1, Pass Comma, Call Expr Header,
     Close ExprList,
 ];
 
-/// TypeSpec
+/// TypeSpec = Name ( "=" AnyType | TypeNoBracket | "[" TypeSpecBracket ) .
 pub const TYPE_SPEC: &[Step] = line![
     Seq 1, Open, Seq 1, Call Name, Or 5 [Assign], Seq 1, Pass Assign, Seq 1, Call AnyType,
     Close AliasSpec, Or 3 TYPES_NO_BRACKET, Seq 1, Call TypeNoBracket, Close TypeSpec, Seq 1, Open,
     Seq 1, Pass LeftBracket, Call TypeSpecBracket,
 ];
 
-/// TypeSpecBracket
+/// TypeSpecBracket = "]" AnyType | "..." "]" AnyType | ExprNoName "]" AnyType | Name ( [ CallOrDot
+///     ] Tails "]" AnyType | ( "," Name { "," Name } Union | ConstraintAfterName ) [
+///     More(TypeParamGroups) ] "]" ( "=" AnyType | AnyType ) ) .
 pub const TYPE_SPEC_BRACKET: &[Step] = line![
     Or 7 [RightBracket], Seq 1, Pass RightBracket, Seq 1, Call AnyType, Seq 1, Close SliceType,
     Close TypeSpec, Or 9 [Ellipsis], Seq 1, Pass Ellipsis, Seq 1, Pass RightBracket, Seq 1,
@@ -75,19 +79,20 @@ pub const TYPE_SPEC_BRACKET: &[Step] = line![
     Call AnyType, Close GenericTypeSpec,
 ];
 
-/// TypeParams
+/// TypeParams = "[" TypeParam [ More(TypeParamGroups) ] "]" .
 pub const TYPE_PARAMS: &[Step] = line![
     Seq 1, Open, Seq 9, Seq 1, Pass LeftBracket, Seq 1, Call TypeParam, Seq 3, Or 1 [Comma],
     Call More TypeParamGroups, Nothing, Pass RightBracket, Close TypeParams,
 ];
 
-/// TypeParam
+/// TypeParam = Name { "," Name } Union .
 pub const TYPE_PARAM: &[Step] = line![
     Seq 1, Open, Seq 8, Seq 1, Call Name, Seq 4, Many [Comma], Seq 1, Pass Comma, Call Name,
     Call Union, Close TypeParam,
 ];
 
-/// ConstraintAfterName
+/// ConstraintAfterName = ( TypeName | BracketType | RecvChan | MapType | ChanType | FuncType |
+///     StructType | InterfaceType | "~" AnyType ) { "|" Term } .
 pub const CONSTRAINT_AFTER_NAME: &[Step] = line![
     Seq 1, Open, Seq 28, Seq 23, Or 1 [Ident], Call TypeName, Or 1 [LeftBracket], Call BracketType,
     Or 1 [Arrow], Call RecvChan, Or 9 TYPE_WORDS, Or 1 [KwMap], Call MapType, Or 1 [KwChan],
@@ -96,67 +101,67 @@ pub const CONSTRAINT_AFTER_NAME: &[Step] = line![
     Many [Or], Seq 1, Pass Or, Call Term, Close Union,
 ];
 
-/// More ImportSpecs
+/// More(ImportSpecs) = ";" [ ImportSpec [ More(ImportSpecs) ] ] .
 pub const MORE_IMPORT_SPECS: &[Step] = line![
     Seq 3, Or 1 [Semicolon], Pass Semicolon, Pass InsertedSemicolon, Or 5 [Ident Text Dot], Seq 1,
     Call ImportSpec, Or 1 SEMICOLONS, Call More ImportSpecs, Nothing, Nothing,
 ];
 
-/// More ConstSpecs
+/// More(ConstSpecs) = ";" [ ConstSpec [ More(ConstSpecs) ] ] .
 pub const MORE_CONST_SPECS: &[Step] = line![
     Seq 3, Or 1 [Semicolon], Pass Semicolon, Pass InsertedSemicolon, Or 5 [Ident], Seq 1,
     Call ConstSpec, Or 1 SEMICOLONS, Call More ConstSpecs, Nothing, Nothing,
 ];
 
-/// More VarSpecs
+/// More(VarSpecs) = ";" [ VarSpec [ More(VarSpecs) ] ] .
 pub const MORE_VAR_SPECS: &[Step] = line![
     Seq 3, Or 1 [Semicolon], Pass Semicolon, Pass InsertedSemicolon, Or 5 [Ident], Seq 1,
     Call VarSpec, Or 1 SEMICOLONS, Call More VarSpecs, Nothing, Nothing,
 ];
 
-/// More TypeSpecs
+/// More(TypeSpecs) = ";" [ TypeSpec [ More(TypeSpecs) ] ] .
 pub const MORE_TYPE_SPECS: &[Step] = line![
     Seq 3, Or 1 [Semicolon], Pass Semicolon, Pass InsertedSemicolon, Or 5 [Ident], Seq 1,
     Call TypeSpec, Or 1 SEMICOLONS, Call More TypeSpecs, Nothing, Nothing,
 ];
 
-/// More TypeParamGroups
+/// More(TypeParamGroups) = "," [ TypeParam [ More(TypeParamGroups) ] ] .
 pub const MORE_TYPE_PARAM_GROUPS: &[Step] = line![
     Seq 1, Pass Comma, Or 5 [Ident], Seq 1, Call TypeParam, Or 1 [Comma], Call More TypeParamGroups,
     Nothing, Nothing,
 ];
 
-/// More Types
+/// More(Types) = "," [ AnyType [ More(Types) ] ] .
 pub const MORE_TYPES: &[Step] = line![
     Seq 1, Pass Comma, Or 5 TYPES, Seq 1, Call AnyType, Or 1 [Comma], Call More Types, Nothing,
     Nothing,
 ];
 
-/// More Parameters
+/// More(Parameters) = "," [ Param [ More(Parameters) ] ] .
 pub const MORE_PARAMETERS: &[Step] = line![
     Seq 1, Pass Comma, Or 5 PARAMETERS, Seq 1, Call Param, Or 1 [Comma], Call More Parameters,
     Nothing, Nothing,
 ];
 
-/// More Fields
+/// More(Fields) = ";" [ Field [ More(Fields) ] ] .
 pub const MORE_FIELDS: &[Step] = line![
     Seq 3, Or 1 [Semicolon], Pass Semicolon, Pass InsertedSemicolon, Or 5 [Ident Mul], Seq 1,
     Call Field, Or 1 SEMICOLONS, Call More Fields, Nothing, Nothing,
 ];
 
-/// More Elems
+/// More(Elems) = ";" [ Elem [ More(Elems) ] ] .
 pub const MORE_ELEMS: &[Step] = line![
     Seq 3, Or 1 [Semicolon], Pass Semicolon, Pass InsertedSemicolon, Or 5 TERMS, Seq 1, Call Elem,
     Or 1 SEMICOLONS, Call More Elems, Nothing, Nothing,
 ];
 
-/// More Indexes
+/// More(Indexes) = "," [ Expr(Plain) [ More(Indexes) ] ] .
 pub const MORE_INDEXES: &[Step] = line![
     Seq 1, Pass Comma, Or 5 EXPRESSIONS, Seq 1, Call Expr Plain, Or 1 [Comma], Call More Indexes,
     Nothing, Nothing,
 ];
 
-/// More Elements
+/// More(Elements) = "," [ Element [ More(Elements) ] ] .
 pub const MORE_ELEMENTS: &[Step] = line![
     Seq 1, Pass Comma, Or 5 ELEMENTS, Seq 1, Call Element, Or 1 [Comma], Call More Elements,
     Nothing, Nothing,

@@ -7,57 +7,58 @@ use crate::start_sets::{
 };
 use go_tree::{Form, Items, NodeKind, Production, TokenKind};
 
-/// Expr Plain
+/// Expr(Plain) = Conjunction(Plain) { OrTail(Plain) } .
 pub const EXPR_PLAIN: &[Step] = line![
     Seq 1, Call Conjunction Plain, Many [LogicalOr], Call OrTail Plain,
 ];
 
-/// Expr Header
+/// Expr(Header) = Conjunction(Header) { OrTail(Header) } .
 pub const EXPR_HEADER: &[Step] = line![
     Seq 1, Call Conjunction Header, Many [LogicalOr], Call OrTail Header,
 ];
 
-/// OrTail Plain
+/// OrTail(Plain) = "||" Conjunction(Plain) .
 pub const OR_TAIL_PLAIN: &[Step] = line![
     Seq 1, Reopen, Seq 3, Seq 1, Pass LogicalOr, Call Conjunction Plain, Close LogicalOrExpr,
 ];
 
-/// OrTail Header
+/// OrTail(Header) = "||" Conjunction(Header) .
 pub const OR_TAIL_HEADER: &[Step] = line![
     Seq 1, Reopen, Seq 3, Seq 1, Pass LogicalOr, Call Conjunction Header, Close LogicalOrExpr,
 ];
 
-/// Conjunction Plain
+/// Conjunction(Plain) = Comparison(Plain) { AndTail(Plain) } .
 pub const CONJUNCTION_PLAIN: &[Step] = line![
     Seq 1, Call Comparison Plain, Many [LogicalAnd], Call AndTail Plain,
 ];
 
-/// Conjunction Header
+/// Conjunction(Header) = Comparison(Header) { AndTail(Header) } .
 pub const CONJUNCTION_HEADER: &[Step] = line![
     Seq 1, Call Comparison Header, Many [LogicalAnd], Call AndTail Header,
 ];
 
-/// AndTail Plain
+/// AndTail(Plain) = "&&" Comparison(Plain) .
 pub const AND_TAIL_PLAIN: &[Step] = line![
     Seq 1, Reopen, Seq 3, Seq 1, Pass LogicalAnd, Call Comparison Plain, Close LogicalAndExpr,
 ];
 
-/// AndTail Header
+/// AndTail(Header) = "&&" Comparison(Header) .
 pub const AND_TAIL_HEADER: &[Step] = line![
     Seq 1, Reopen, Seq 3, Seq 1, Pass LogicalAnd, Call Comparison Header, Close LogicalAndExpr,
 ];
 
-/// Comparison Plain
+/// Comparison(Plain) = Sum(Plain) { CompareTail(Plain) } .
 pub const COMPARISON_PLAIN: &[Step] = line![
     Seq 1, Call Sum Plain, Many COMPARISONS, Call CompareTail Plain,
 ];
 
-/// Comparison Header
+/// Comparison(Header) = Sum(Header) { CompareTail(Header) } .
 pub const COMPARISON_HEADER: &[Step] = line![
     Seq 1, Call Sum Header, Many COMPARISONS, Call CompareTail Header,
 ];
 
-/// CompareTail Plain
+/// CompareTail(Plain) = "==" Sum(Plain) | "!=" Sum(Plain) | "<" Sum(Plain) | "<=" Sum(Plain) | ">"
+///     Sum(Plain) | ">=" Sum(Plain) .
 pub const COMPARE_TAIL_PLAIN: &[Step] = line![
     Or 7 [Equal], Seq 1, Reopen, Seq 3, Seq 1, Pass Equal, Call Sum Plain, Close EqualExpr,
     Or 7 [NotEqual], Seq 1, Reopen, Seq 3, Seq 1, Pass NotEqual, Call Sum Plain, Close NotEqualExpr,
@@ -68,7 +69,8 @@ pub const COMPARE_TAIL_PLAIN: &[Step] = line![
     Close GreaterEqualExpr,
 ];
 
-/// CompareTail Header
+/// CompareTail(Header) = "==" Sum(Header) | "!=" Sum(Header) | "<" Sum(Header) | "<=" Sum(Header) |
+///     ">" Sum(Header) | ">=" Sum(Header) .
 pub const COMPARE_TAIL_HEADER: &[Step] = line![
     Or 7 [Equal], Seq 1, Reopen, Seq 3, Seq 1, Pass Equal, Call Sum Header, Close EqualExpr,
     Or 7 [NotEqual], Seq 1, Reopen, Seq 3, Seq 1, Pass NotEqual, Call Sum Header,
@@ -79,17 +81,18 @@ pub const COMPARE_TAIL_HEADER: &[Step] = line![
     Close GreaterEqualExpr,
 ];
 
-/// Sum Plain
+/// Sum(Plain) = Product(Plain) { AddTail(Plain) } .
 pub const SUM_PLAIN: &[Step] = line![
     Seq 1, Call Product Plain, Many SUMS, Call AddTail Plain,
 ];
 
-/// Sum Header
+/// Sum(Header) = Product(Header) { AddTail(Header) } .
 pub const SUM_HEADER: &[Step] = line![
     Seq 1, Call Product Header, Many SUMS, Call AddTail Header,
 ];
 
-/// AddTail Plain
+/// AddTail(Plain) = "+" Product(Plain) | "-" Product(Plain) | "|" Product(Plain) | "^"
+///     Product(Plain) .
 pub const ADD_TAIL_PLAIN: &[Step] = line![
     Or 7 [Add], Seq 1, Reopen, Seq 3, Seq 1, Pass Add, Call Product Plain, Close AddExpr,
     Or 7 [Sub], Seq 1, Reopen, Seq 3, Seq 1, Pass Sub, Call Product Plain, Close SubExpr, Or 7 [Or],
@@ -97,7 +100,8 @@ pub const ADD_TAIL_PLAIN: &[Step] = line![
     Seq 1, Pass Xor, Call Product Plain, Close XorExpr,
 ];
 
-/// AddTail Header
+/// AddTail(Header) = "+" Product(Header) | "-" Product(Header) | "|" Product(Header) | "^"
+///     Product(Header) .
 pub const ADD_TAIL_HEADER: &[Step] = line![
     Or 7 [Add], Seq 1, Reopen, Seq 3, Seq 1, Pass Add, Call Product Header, Close AddExpr,
     Or 7 [Sub], Seq 1, Reopen, Seq 3, Seq 1, Pass Sub, Call Product Header, Close SubExpr,
@@ -105,17 +109,18 @@ pub const ADD_TAIL_HEADER: &[Step] = line![
     Reopen, Seq 3, Seq 1, Pass Xor, Call Product Header, Close XorExpr,
 ];
 
-/// Product Plain
+/// Product(Plain) = Unary(Plain) { MulTail(Plain) } .
 pub const PRODUCT_PLAIN: &[Step] = line![
     Seq 1, Call Unary Plain, Many PRODUCTS, Call MulTail Plain,
 ];
 
-/// Product Header
+/// Product(Header) = Unary(Header) { MulTail(Header) } .
 pub const PRODUCT_HEADER: &[Step] = line![
     Seq 1, Call Unary Header, Many PRODUCTS, Call MulTail Header,
 ];
 
-/// MulTail Plain
+/// MulTail(Plain) = "*" Unary(Plain) | "/" Unary(Plain) | "%" Unary(Plain) | "<<" Unary(Plain) |
+///     ">>" Unary(Plain) | "&" Unary(Plain) | "&^" Unary(Plain) .
 pub const MUL_TAIL_PLAIN: &[Step] = line![
     Or 7 [Mul], Seq 1, Reopen, Seq 3, Seq 1, Pass Mul, Call Unary Plain, Close MulExpr, Or 7 [Quo],
     Seq 1, Reopen, Seq 3, Seq 1, Pass Quo, Call Unary Plain, Close QuoExpr, Or 7 [Rem], Seq 1,
@@ -126,7 +131,8 @@ pub const MUL_TAIL_PLAIN: &[Step] = line![
     Call Unary Plain, Close AndNotExpr,
 ];
 
-/// MulTail Header
+/// MulTail(Header) = "*" Unary(Header) | "/" Unary(Header) | "%" Unary(Header) | "<<" Unary(Header)
+///     | ">>" Unary(Header) | "&" Unary(Header) | "&^" Unary(Header) .
 pub const MUL_TAIL_HEADER: &[Step] = line![
     Or 7 [Mul], Seq 1, Reopen, Seq 3, Seq 1, Pass Mul, Call Unary Header, Close MulExpr, Or 7 [Quo],
     Seq 1, Reopen, Seq 3, Seq 1, Pass Quo, Call Unary Header, Close QuoExpr, Or 7 [Rem], Seq 1,
@@ -137,7 +143,9 @@ pub const MUL_TAIL_HEADER: &[Step] = line![
     Call Unary Header, Close AndNotExpr,
 ];
 
-/// Unary Plain
+/// Unary(Plain) = Name [ AfterName ] | Operand { Suffix } | "+" Unary(Plain) | "-" Unary(Plain) |
+///     "!" Unary(Plain) | "^" Unary(Plain) | "*" Unary(Plain) | "&" Unary(Plain) | "<-"
+///     Unary(Plain) .
 pub const UNARY_PLAIN: &[Step] = line![
     Or 5 [Ident], Seq 1, Call Name, Or 1 SUFFIXES_OR_VALUE, Call AfterName, Nothing, Or 4 OPERANDS,
     Seq 1, Call Operand, Many SUFFIXES, Call Suffix, Or 7 [Add], Seq 1, Open, Seq 3, Seq 1,
@@ -150,7 +158,9 @@ pub const UNARY_PLAIN: &[Step] = line![
     Close ArrowExpr,
 ];
 
-/// Unary Header
+/// Unary(Header) = Name { Suffix } | Operand { Suffix } | "+" Unary(Header) | "-" Unary(Header) |
+///     "!" Unary(Header) | "^" Unary(Header) | "*" Unary(Header) | "&" Unary(Header) | "<-"
+///     Unary(Header) .
 pub const UNARY_HEADER: &[Step] = line![
     Or 4 [Ident], Seq 1, Call Name, Many SUFFIXES, Call Suffix, Or 4 OPERANDS, Seq 1, Call Operand,
     Many SUFFIXES, Call Suffix, Or 7 [Add], Seq 1, Open, Seq 3, Seq 1, Pass Add, Call Unary Header,
@@ -162,7 +172,8 @@ pub const UNARY_HEADER: &[Step] = line![
     Close AddressExpr, Seq 1, Open, Seq 3, Seq 1, Pass Arrow, Call Unary Header, Close ArrowExpr,
 ];
 
-/// Operand
+/// Operand = BasicLit | "(" Expr(Plain) ")" | ( BracketType | MapType | StructType ) [ Value ] |
+///     ChanType | InterfaceType | FuncOperand .
 pub const OPERAND: &[Step] = line![
     Or 1 LITERALS, Call BasicLit, Or 9 [LeftParen], Seq 1, Open, Seq 5, Seq 1, Pass LeftParen,
     Seq 1, Call Expr Plain, Pass RightParen, Close ParenExpr, Or 13 [KwMap KwStruct LeftBracket],
@@ -171,20 +182,23 @@ pub const OPERAND: &[Step] = line![
     Call ChanType, Or 1 [KwInterface], Call InterfaceType, Call FuncOperand,
 ];
 
-/// BasicLit
+/// BasicLit = int | float | rune | StringLit .
 pub const BASIC_LIT: &[Step] = line![
     Or 5 [Int], Seq 1, Open, Seq 1, Pass Int, Close IntLit, Or 5 [Float], Seq 1, Open, Seq 1,
     Pass Float, Close FloatLit, Or 5 [Rune], Seq 1, Open, Seq 1, Pass Rune, Close RuneLit,
     Call StringLit,
 ];
 
-/// FuncOperand
+/// FuncOperand = "func" Signature [ Block ] .
 pub const FUNC_OPERAND: &[Step] = line![
     Seq 1, Open, Seq 1, Pass KwFunc, Seq 1, Call Signature, When Brace 3, Seq 1, Call Block,
     Close FuncLit, Close FuncType,
 ];
 
-/// AfterName
+/// AfterName = "." ( "(" ( "type" ")" | Expr(Plain) ")" ) { Suffix } | Name [ AfterSelector ] ) |
+///     "[" ( ":" ( "]" | Expr(Plain) ( "]" | ":" Expr(Plain) "]" ) ) { Suffix } | Expr(Plain) ( [
+///     More(Indexes) ] "]" [ AfterIndex ] | ":" ( "]" | Expr(Plain) ( "]" | ":" Expr(Plain) "]" ) )
+///     { Suffix } ) ) | ( "(" CallRest | Value ) { Suffix } .
 pub const AFTER_NAME: &[Step] = line![
     Or 28 [Dot], Seq 1, Reopen, Seq 1, Pass Dot, Or 16 [LeftParen], Seq 1, Pass LeftParen, Seq 11,
     Or 5 [KwType], Seq 1, Pass KwType, Seq 1, Pass RightParen, Close TypeGuardExpr, Seq 1,
@@ -204,7 +218,10 @@ pub const AFTER_NAME: &[Step] = line![
     Seq 1, Call Value, Close CompositeLit, Many SUFFIXES, Call Suffix,
 ];
 
-/// AfterSelector
+/// AfterSelector = "." ( "(" ( "type" ")" | Expr(Plain) ")" ) { Suffix } | Name { Suffix } ) | "["
+///     ( ":" ( "]" | Expr(Plain) ( "]" | ":" Expr(Plain) "]" ) ) { Suffix } | Expr(Plain) ( [
+///     More(Indexes) ] "]" [ AfterIndex ] | ":" ( "]" | Expr(Plain) ( "]" | ":" Expr(Plain) "]" ) )
+///     { Suffix } ) ) | ( "(" CallRest | Value ) { Suffix } .
 pub const AFTER_SELECTOR: &[Step] = line![
     Or 27 [Dot], Seq 1, Reopen, Seq 1, Pass Dot, Or 16 [LeftParen], Seq 1, Pass LeftParen, Seq 11,
     Or 5 [KwType], Seq 1, Pass KwType, Seq 1, Pass RightParen, Close TypeGuardExpr, Seq 1,
@@ -224,13 +241,15 @@ pub const AFTER_SELECTOR: &[Step] = line![
     Close CompositeLit, Many SUFFIXES, Call Suffix,
 ];
 
-/// AfterIndex
+/// AfterIndex = ( Suffix | Value ) { Suffix } .
 pub const AFTER_INDEX: &[Step] = line![
     Seq 7, Or 1 SUFFIXES, Call Suffix, Seq 1, Reopen, Seq 1, Call Value, Close CompositeLit,
     Many SUFFIXES, Call Suffix,
 ];
 
-/// Suffix
+/// Suffix = "." ( "(" ( "type" ")" | Expr(Plain) ")" ) | Name ) | "[" ( ":" ( "]" | Expr(Plain) (
+///     "]" | ":" Expr(Plain) "]" ) ) | Expr(Plain) ( [ More(Indexes) ] "]" | ":" ( "]" |
+///     Expr(Plain) ( "]" | ":" Expr(Plain) "]" ) ) ) ) | "(" CallRest .
 pub const SUFFIX: &[Step] = line![
     Or 25 [Dot], Seq 1, Reopen, Seq 1, Pass Dot, Or 15 [LeftParen], Seq 1, Pass LeftParen, Seq 11,
     Or 5 [KwType], Seq 1, Pass KwType, Seq 1, Pass RightParen, Close TypeGuardExpr, Seq 1,
@@ -247,37 +266,38 @@ pub const SUFFIX: &[Step] = line![
     Close FullSliceExpr, Nothing, Seq 1, Reopen, Seq 1, Pass LeftParen, Call CallRest,
 ];
 
-/// CallRest
+/// CallRest = ")" | Expr(Plain) AfterArg .
 pub const CALL_REST: &[Step] = line![
     Or 3 [RightParen], Seq 1, Pass RightParen, Close CallExpr, Seq 1, Call Expr Plain,
     Call AfterArg,
 ];
 
-/// AfterArg
+/// AfterArg = ")" | "..." [ "," ] ")" | "," CallRest .
 pub const AFTER_ARG: &[Step] = line![
     Or 3 [RightParen], Seq 1, Pass RightParen, Close CallExpr, Or 9 [Ellipsis], Seq 1,
     Pass Ellipsis, Seq 3, Or 1 [Comma], Pass Comma, Nothing, Seq 1, Pass RightParen,
     Close SpreadCallExpr, Seq 1, Pass Comma, Call CallRest,
 ];
 
-/// Value
+/// Value = "{" [ Element [ More(Elements) ] ] "}" .
 pub const VALUE: &[Step] = line![
     Seq 1, Open, Seq 11, Seq 1, Pass LeftBrace, Seq 7, Or 5 ELEMENTS, Seq 1, Call Element,
     Or 1 [Comma], Call More Elements, Nothing, Nothing, Pass RightBrace, Close LiteralValue,
 ];
 
-/// Element
+/// Element = ElementPart [ ":" ElementPart ] .
 pub const ELEMENT: &[Step] = line![
     Seq 1, Call ElementPart, Or 7 [Colon], Seq 1, Reopen, Seq 3, Seq 1, Pass Colon,
     Call ElementPart, Close KeyValueExpr, Nothing,
 ];
 
-/// ElementPart
+/// ElementPart = Expr(Plain) | Value .
 pub const ELEMENT_PART: &[Step] = line![
     Or 1 EXPRESSIONS, Call Expr Plain, Call Value,
 ];
 
-/// ExprNoName
+/// ExprNoName = ( Operand { Suffix } | "+" Unary(Plain) | "-" Unary(Plain) | "!" Unary(Plain) | "^"
+///     Unary(Plain) | "*" Unary(Plain) | "&" Unary(Plain) | "<-" Unary(Plain) ) Tails .
 pub const EXPR_NO_NAME: &[Step] = line![
     Seq 60, Or 4 OPERANDS, Seq 1, Call Operand, Many SUFFIXES, Call Suffix, Or 7 [Add], Seq 1, Open,
     Seq 3, Seq 1, Pass Add, Call Unary Plain, Close PlusExpr, Or 7 [Sub], Seq 1, Open, Seq 3, Seq 1,
@@ -289,14 +309,16 @@ pub const EXPR_NO_NAME: &[Step] = line![
     Close ArrowExpr, Call Tails,
 ];
 
-/// Tails
+/// Tails = { MulTail(Plain) } { AddTail(Plain) } { CompareTail(Plain) } { AndTail(Plain) } {
+///     OrTail(Plain) } .
 pub const TAILS: &[Step] = line![
     Seq 2, Many PRODUCTS, Call MulTail Plain, Seq 2, Many SUMS, Call AddTail Plain, Seq 2,
     Many COMPARISONS, Call CompareTail Plain, Seq 2, Many [LogicalAnd], Call AndTail Plain,
     Many [LogicalOr], Call OrTail Plain,
 ];
 
-/// CallOrDot
+/// CallOrDot = "." ( "(" ( "type" ")" | Expr(Plain) ")" ) { Suffix } | Name [ AfterSelector ] ) |
+///     "(" CallRest { Suffix } .
 pub const CALL_OR_DOT: &[Step] = line![
     Or 28 [Dot], Seq 1, Reopen, Seq 1, Pass Dot, Or 16 [LeftParen], Seq 1, Pass LeftParen, Seq 11,
     Or 5 [KwType], Seq 1, Pass KwType, Seq 1, Pass RightParen, Close TypeGuardExpr, Seq 1,

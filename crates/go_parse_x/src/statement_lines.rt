@@ -6,14 +6,17 @@ use crate::start_sets::{
 };
 use go_tree::{Clauses, Form, NodeKind, Production, TokenKind};
 
-/// Block
+/// Block = "{" [ Stmt ] { ";" [ Stmt ] } "}" .
 pub const BLOCK: &[Step] = line![
     Seq 1, Open, Seq 16, Seq 1, Pass LeftBrace, Seq 3, Or 1 STATEMENTS, Call Stmt, Nothing, Seq 8,
     Many SEMICOLONS, Seq 3, Or 1 [Semicolon], Pass Semicolon, Pass InsertedSemicolon,
     Or 1 STATEMENTS, Call Stmt, Nothing, Pass RightBrace, Close Block,
 ];
 
-/// Stmt
+/// Stmt = Decl | Name ( ":" [ Stmt ] | [ AfterName ] Tails AfterExpr(Plain) ) | ExprNoName
+///     AfterExpr(Plain) | "go" Expr(Plain) | "defer" Expr(Plain) | "return" [ Exprs(Plain) ] |
+///     "break" [ Name ] | "continue" [ Name ] | "goto" Name | "fallthrough" | Block | If | Switch |
+///     Select | For .
 pub const STMT: &[Step] = line![
     Or 1 [KwConst KwType KwVar], Call Decl, Or 19 [Ident], Seq 1, Call Name, Or 9 [Colon], Seq 1,
     Reopen, Seq 5, Seq 1, Pass Colon, Or 1 STATEMENTS, Call Stmt, Nothing, Close LabeledStmt, Seq 3,
@@ -30,27 +33,30 @@ pub const STMT: &[Step] = line![
     Call Switch, Or 1 [KwSelect], Call Select, Call For,
 ];
 
-/// Simple Plain
+/// Simple(Plain) = Expr(Plain) AfterExpr(Plain) .
 pub const SIMPLE_PLAIN: &[Step] = line![
     Seq 1, Call Expr Plain, Call AfterExpr Plain,
 ];
 
-/// Simple Header
+/// Simple(Header) = Expr(Header) AfterExpr(Header) .
 pub const SIMPLE_HEADER: &[Step] = line![
     Seq 1, Call Expr Header, Call AfterExpr Header,
 ];
 
-/// AfterExpr Plain
+/// AfterExpr(Plain) = [ SimpleTail(Plain) ] .
 pub const AFTER_EXPR_PLAIN: &[Step] = line![
     Or 1 STATEMENT_TAILS, Call SimpleTail Plain, Seq 1, Reopen, Seq 1, Nothing, Close ExprStmt,
 ];
 
-/// AfterExpr Header
+/// AfterExpr(Header) = [ SimpleTail(Header) ] .
 pub const AFTER_EXPR_HEADER: &[Step] = line![
     Or 1 STATEMENT_TAILS, Call SimpleTail Header, Seq 1, Reopen, Seq 1, Nothing, Close ExprStmt,
 ];
 
-/// SimpleTail Plain
+/// SimpleTail(Plain) = "<-" Expr(Plain) | "++" | "--" | { "," Expr(Plain) } ( "+=" Exprs(Plain) |
+///     "-=" Exprs(Plain) | "*=" Exprs(Plain) | "/=" Exprs(Plain) | "%=" Exprs(Plain) | "&="
+///     Exprs(Plain) | "|=" Exprs(Plain) | "^=" Exprs(Plain) | "<<=" Exprs(Plain) | ">>="
+///     Exprs(Plain) | "&^=" Exprs(Plain) | "=" Exprs(Plain) | ":=" Exprs(Plain) ) .
 pub const SIMPLE_TAIL_PLAIN: &[Step] = line![
     Or 7 [Arrow], Seq 1, Reopen, Seq 3, Seq 1, Pass Arrow, Call Expr Plain, Close SendStmt,
     Or 5 [Inc], Seq 1, Reopen, Seq 1, Pass Inc, Close IncStmt, Or 5 [Dec], Seq 1, Reopen, Seq 1,
@@ -72,7 +78,10 @@ pub const SIMPLE_TAIL_PLAIN: &[Step] = line![
     Nothing, Seq 1, Pass Define, Seq 1, Call Exprs Plain, Seq 1, Close DefineStmt, Nothing,
 ];
 
-/// SimpleTail Header
+/// SimpleTail(Header) = "<-" Expr(Header) | "++" | "--" | { "," Expr(Header) } ( "+=" Exprs(Header)
+///     | "-=" Exprs(Header) | "*=" Exprs(Header) | "/=" Exprs(Header) | "%=" Exprs(Header) | "&="
+///     Exprs(Header) | "|=" Exprs(Header) | "^=" Exprs(Header) | "<<=" Exprs(Header) | ">>="
+///     Exprs(Header) | "&^=" Exprs(Header) | "=" Exprs(Header) | ":=" Exprs(Header) ) .
 pub const SIMPLE_TAIL_HEADER: &[Step] = line![
     Or 7 [Arrow], Seq 1, Reopen, Seq 3, Seq 1, Pass Arrow, Call Expr Header, Close SendStmt,
     Or 5 [Inc], Seq 1, Reopen, Seq 1, Pass Inc, Close IncStmt, Or 5 [Dec], Seq 1, Reopen, Seq 1,
@@ -94,7 +103,8 @@ pub const SIMPLE_TAIL_HEADER: &[Step] = line![
     Nothing, Seq 1, Pass Define, Seq 1, Call Exprs Header, Seq 1, Close DefineStmt, Nothing,
 ];
 
-/// If
+/// If = "if" ( ";" Expr(Header) | Expr(Header) [ AfterExpr(Header) ";" Expr(Header) ] ) Block [
+///     "else" ( If | Block ) ] .
 pub const IF: &[Step] = line![
     Seq 1, Open, Seq 37, Seq 1, Pass KwIf, Seq 25, Or 9 SEMICOLONS, Seq 7, Seq 1, Open, Seq 3,
     Or 1 [Semicolon], Pass Semicolon, Pass InsertedSemicolon, Close Init, Call Expr Header, Seq 1,
@@ -105,7 +115,8 @@ pub const IF: &[Step] = line![
     Seq 1, Pass KwElse, Or 1 [KwIf], Call If, Call Block, Nothing, Close IfStmt,
 ];
 
-/// Switch
+/// Switch = "switch" [ ";" [ Simple(Header) ] | Simple(Header) [ ";" [ Simple(Header) ] ] ] "{" [
+///     Clause(Cases) ] "}" .
 pub const SWITCH: &[Step] = line![
     Seq 1, Open, Seq 39, Seq 1, Pass KwSwitch, Seq 29,
     Or 27 [Ident Int Float Rune Text KwChan KwFunc KwInterface KwMap KwStruct Add Sub Mul And Xor Arrow Not LeftParen LeftBracket Semicolon InsertedSemicolon],
@@ -117,51 +128,52 @@ pub const SWITCH: &[Step] = line![
     Call Clause Cases, Nothing, Pass RightBrace, Close SwitchStmt,
 ];
 
-/// Select
+/// Select = "select" "{" [ Clause(Comms) ] "}" .
 pub const SELECT: &[Step] = line![
     Seq 1, Open, Seq 9, Seq 1, Pass KwSelect, Seq 1, Pass LeftBrace, Seq 3, Or 1 [KwCase KwDefault],
     Call Clause Comms, Nothing, Pass RightBrace, Close SelectStmt,
 ];
 
-/// Clause Cases
+/// Clause(Cases) = ( "case" Exprs(Plain) | "default" ) ":" ClauseBody(Cases) .
 pub const CLAUSE_CASES: &[Step] = line![
     Seq 1, Open, Seq 9, Or 3 [KwCase], Seq 1, Pass KwCase, Call Exprs Plain, Seq 1, Open, Seq 1,
     Pass KwDefault, Close Default, Seq 1, Pass Colon, Call ClauseBody Cases,
 ];
 
-/// Clause Comms
+/// Clause(Comms) = ( "case" Simple(Plain) | "default" ) ":" ClauseBody(Comms) .
 pub const CLAUSE_COMMS: &[Step] = line![
     Seq 1, Open, Seq 9, Or 3 [KwCase], Seq 1, Pass KwCase, Call Simple Plain, Seq 1, Open, Seq 1,
     Pass KwDefault, Close Default, Seq 1, Pass Colon, Call ClauseBody Comms,
 ];
 
-/// ClauseBody Cases
+/// ClauseBody(Cases) = ";" ClauseBody(Cases) | Stmt AfterClauseStmt(Cases) | [ Clause(Cases) ] .
 pub const CLAUSE_BODY_CASES: &[Step] = line![
     Or 5 SEMICOLONS, Seq 3, Or 1 [Semicolon], Pass Semicolon, Pass InsertedSemicolon,
     Call ClauseBody Cases, Or 3 STATEMENTS, Seq 1, Call Stmt, Call AfterClauseStmt Cases, Seq 1,
     Close CaseClause, Or 1 [KwCase KwDefault], Call Clause Cases, Nothing,
 ];
 
-/// ClauseBody Comms
+/// ClauseBody(Comms) = ";" ClauseBody(Comms) | Stmt AfterClauseStmt(Comms) | [ Clause(Comms) ] .
 pub const CLAUSE_BODY_COMMS: &[Step] = line![
     Or 5 SEMICOLONS, Seq 3, Or 1 [Semicolon], Pass Semicolon, Pass InsertedSemicolon,
     Call ClauseBody Comms, Or 3 STATEMENTS, Seq 1, Call Stmt, Call AfterClauseStmt Comms, Seq 1,
     Close CommClause, Or 1 [KwCase KwDefault], Call Clause Comms, Nothing,
 ];
 
-/// AfterClauseStmt Cases
+/// AfterClauseStmt(Cases) = [ ";" ClauseBody(Cases) ] .
 pub const AFTER_CLAUSE_STMT_CASES: &[Step] = line![
     Or 5 SEMICOLONS, Seq 3, Or 1 [Semicolon], Pass Semicolon, Pass InsertedSemicolon,
     Call ClauseBody Cases, Close CaseClause,
 ];
 
-/// AfterClauseStmt Comms
+/// AfterClauseStmt(Comms) = [ ";" ClauseBody(Comms) ] .
 pub const AFTER_CLAUSE_STMT_COMMS: &[Step] = line![
     Or 5 SEMICOLONS, Seq 3, Or 1 [Semicolon], Pass Semicolon, Pass InsertedSemicolon,
     Call ClauseBody Comms, Close CommClause,
 ];
 
-/// For
+/// For = "for" ( Block | ";" ForClauses | "range" Expr(Header) Block | Expr(Header) ForAfterExpr )
+///     .
 pub const FOR: &[Step] = line![
     Seq 1, Open, Seq 1, Pass KwFor, Or 3 [LeftBrace], Seq 1, Call Block, Close ForStmt,
     Or 9 SEMICOLONS, Seq 7, Seq 1, Open, Seq 3, Or 1 [Semicolon], Pass Semicolon,
@@ -170,7 +182,14 @@ pub const FOR: &[Step] = line![
     Seq 1, Call Expr Header, Call ForAfterExpr,
 ];
 
-/// ForAfterExpr
+/// ForAfterExpr = Block | ";" ForClauses | "<-" Expr(Header) ";" ForClauses | "++" ";" ForClauses |
+///     "--" ";" ForClauses | { "," Expr(Header) } ( "+=" Exprs(Header) ";" ForClauses | "-="
+///     Exprs(Header) ";" ForClauses | "*=" Exprs(Header) ";" ForClauses | "/=" Exprs(Header) ";"
+///     ForClauses | "%=" Exprs(Header) ";" ForClauses | "&=" Exprs(Header) ";" ForClauses | "|="
+///     Exprs(Header) ";" ForClauses | "^=" Exprs(Header) ";" ForClauses | "<<=" Exprs(Header) ";"
+///     ForClauses | ">>=" Exprs(Header) ";" ForClauses | "&^=" Exprs(Header) ";" ForClauses | "=" (
+///     "range" Expr(Header) Block | Exprs(Header) ";" ForClauses ) | ":=" ( "range" Expr(Header)
+///     Block | Exprs(Header) ";" ForClauses ) ) .
 pub const FOR_AFTER_EXPR: &[Step] = line![
     Or 3 [LeftBrace], Seq 1, Call Block, Close ForStmt, Or 15 SEMICOLONS, Seq 5, Seq 1, Reopen,
     Seq 1, Nothing, Close ExprStmt, Seq 7, Seq 1, Reopen, Seq 3, Or 1 [Semicolon], Pass Semicolon,
@@ -217,7 +236,7 @@ pub const FOR_AFTER_EXPR: &[Step] = line![
     Or 1 [Semicolon], Pass Semicolon, Pass InsertedSemicolon, Close Init, Call ForClauses,
 ];
 
-/// ForClauses
+/// ForClauses = [ Expr(Header) ] ";" [ Simple(Header) ] Block .
 pub const FOR_CLAUSES: &[Step] = line![
     Seq 3, Or 1 EXPRESSIONS, Call Expr Header, Nothing, Seq 3, Or 1 [Semicolon], Pass Semicolon,
     Pass InsertedSemicolon, Seq 3, Or 1 EXPRESSIONS, Call Simple Header, Nothing, Seq 1, Call Block,

@@ -4,7 +4,8 @@ use crate::line_words::line;
 use crate::start_sets::{PARAMETERS, SEMICOLONS, TERMS, TYPES, TYPES_NO_BRACKET, TYPES_NO_NAME};
 use go_tree::{Form, Items, NodeKind, Production, TokenKind};
 
-/// AnyType
+/// AnyType = TypeName | ParenType | StarType | BracketType | RecvChan | MapType | ChanType |
+///     FuncType | StructType | InterfaceType .
 pub const ANY_TYPE: &[Step] = line![
     Or 1 [Ident], Call TypeName, Or 1 [LeftParen], Call ParenType, Or 1 [Mul], Call StarType,
     Or 1 [LeftBracket], Call BracketType, Or 1 [Arrow], Call RecvChan, Or 1 [KwMap], Call MapType,
@@ -12,14 +13,16 @@ pub const ANY_TYPE: &[Step] = line![
     Call InterfaceType,
 ];
 
-/// TypeNoBracket
+/// TypeNoBracket = TypeName | ParenType | StarType | RecvChan | MapType | ChanType | FuncType |
+///     StructType | InterfaceType .
 pub const TYPE_NO_BRACKET: &[Step] = line![
     Or 1 [Ident], Call TypeName, Or 1 [LeftParen], Call ParenType, Or 1 [Mul], Call StarType,
     Or 1 [Arrow], Call RecvChan, Or 1 [KwMap], Call MapType, Or 1 [KwChan], Call ChanType,
     Or 1 [KwFunc], Call FuncType, Or 1 [KwStruct], Call StructType, Call InterfaceType,
 ];
 
-/// TypeNoName
+/// TypeNoName = ParenType | StarType | BracketType | RecvChan | MapType | ChanType | FuncType |
+///     StructType | InterfaceType .
 pub const TYPE_NO_NAME: &[Step] = line![
     Or 1 [LeftParen], Call ParenType, Or 1 [Mul], Call StarType, Or 1 [LeftBracket],
     Call BracketType, Or 1 [Arrow], Call RecvChan, Or 1 [KwMap], Call MapType, Or 1 [KwChan],
@@ -27,44 +30,46 @@ pub const TYPE_NO_NAME: &[Step] = line![
     Call InterfaceType,
 ];
 
-/// ResultType
+/// ResultType = TypeName | StarType | BracketType | MapType | ChanType | FuncType | StructType |
+///     InterfaceType .
 pub const RESULT_TYPE: &[Step] = line![
     Or 1 [Ident], Call TypeName, Or 1 [Mul], Call StarType, Or 1 [LeftBracket], Call BracketType,
     Or 1 [KwMap], Call MapType, Or 1 [KwChan], Call ChanType, Or 1 [KwFunc], Call FuncType,
     Or 1 [KwStruct], Call StructType, Call InterfaceType,
 ];
 
-/// ChanElem
+/// ChanElem = TypeName | ParenType | StarType | BracketType | MapType | ChanType | FuncType |
+///     StructType | InterfaceType .
 pub const CHAN_ELEM: &[Step] = line![
     Or 1 [Ident], Call TypeName, Or 1 [LeftParen], Call ParenType, Or 1 [Mul], Call StarType,
     Or 1 [LeftBracket], Call BracketType, Or 1 [KwMap], Call MapType, Or 1 [KwChan], Call ChanType,
     Or 1 [KwFunc], Call FuncType, Or 1 [KwStruct], Call StructType, Call InterfaceType,
 ];
 
-/// TypeName
+/// TypeName = Name [ "." Name ] [ TypeArgs ] .
 pub const TYPE_NAME: &[Step] = line![
     Seq 1, Call Name, Seq 9, When Qualifier 7, Seq 1, Reopen, Seq 3, Seq 1, Pass Dot, Call Name,
     Close SelectorExpr, Nothing, When Bracket 1, Call TypeArgs, Nothing,
 ];
 
-/// TypeArgs
+/// TypeArgs = "[" AnyType [ More(Types) ] "]" .
 pub const TYPE_ARGS: &[Step] = line![
     Seq 1, Reopen, Seq 9, Seq 1, Pass LeftBracket, Seq 1, Call AnyType, Seq 3, Or 1 [Comma],
     Call More Types, Nothing, Pass RightBracket, Close IndexExpr,
 ];
 
-/// ParenType
+/// ParenType = "(" AnyType ")" .
 pub const PAREN_TYPE: &[Step] = line![
     Seq 1, Open, Seq 5, Seq 1, Pass LeftParen, Seq 1, Call AnyType, Pass RightParen,
     Close ParenExpr,
 ];
 
-/// StarType
+/// StarType = "*" AnyType .
 pub const STAR_TYPE: &[Step] = line![
     Seq 1, Open, Seq 3, Seq 1, Pass Mul, Call AnyType, Close StarExpr,
 ];
 
-/// BracketType
+/// BracketType = "[" ( "]" AnyType | "..." "]" AnyType | Expr(Plain) "]" AnyType ) .
 pub const BRACKET_TYPE: &[Step] = line![
     Seq 1, Open, Seq 1, Pass LeftBracket, Or 5 [RightBracket], Seq 1, Pass RightBracket, Seq 1,
     Call AnyType, Close SliceType, Or 7 [Ellipsis], Seq 1, Pass Ellipsis, Seq 1, Pass RightBracket,
@@ -72,49 +77,51 @@ pub const BRACKET_TYPE: &[Step] = line![
     Seq 1, Call AnyType, Close ArrayType,
 ];
 
-/// MapType
+/// MapType = "map" "[" AnyType "]" AnyType .
 pub const MAP_TYPE: &[Step] = line![
     Seq 1, Open, Seq 9, Seq 1, Pass KwMap, Seq 1, Pass LeftBracket, Seq 1, Call AnyType, Seq 1,
     Pass RightBracket, Call AnyType, Close MapType,
 ];
 
-/// RecvChan
+/// RecvChan = "<-" "chan" AnyType .
 pub const RECV_CHAN: &[Step] = line![
     Seq 1, Open, Seq 9, Seq 1, Pass Arrow, Seq 1, Open, Seq 3, Seq 1, Pass KwChan, Call AnyType,
     Close ChanType, Close ArrowExpr,
 ];
 
-/// ChanType
+/// ChanType = "chan" ( "<-" AnyType | ChanElem ) .
 pub const CHAN_TYPE: &[Step] = line![
     Seq 1, Open, Seq 11, Seq 1, Pass KwChan, Or 7 [Arrow], Seq 1, Open, Seq 3, Seq 1, Pass Arrow,
     Call AnyType, Close ArrowExpr, Call ChanElem, Close ChanType,
 ];
 
-/// FuncType
+/// FuncType = "func" Signature .
 pub const FUNC_TYPE: &[Step] = line![
     Seq 1, Open, Seq 3, Seq 1, Pass KwFunc, Call Signature, Close FuncType,
 ];
 
-/// Signature
+/// Signature = Params [ Params | ResultType | RecvChan ] .
 pub const SIGNATURE: &[Step] = line![
     Seq 1, Open, Seq 9, Seq 1, Call Params, When Result 3, Or 1 [LeftParen], Call Params,
     Call ResultType, When Receive 1, Call RecvChan, Nothing, Close Signature,
 ];
 
-/// Params
+/// Params = "(" [ Param [ More(Parameters) ] ] ")" .
 pub const PARAMS: &[Step] = line![
     Seq 1, Open, Seq 11, Seq 1, Pass LeftParen, Seq 7, Or 5 PARAMETERS, Seq 1, Call Param,
     Or 1 [Comma], Call More Parameters, Nothing, Nothing, Pass RightParen, Close Params,
 ];
 
-/// Param
+/// Param = ( "..." AnyType | TypeNoName | Name ParamAfterName ) .
 pub const PARAM: &[Step] = line![
     Seq 1, Open, Or 5 [Ellipsis], Seq 1, Pass Ellipsis, Seq 1, Call AnyType, Close UnnamedVariadic,
     Or 3 TYPES_NO_NAME, Seq 1, Call TypeNoName, Close UnnamedParam, Seq 1, Call Name,
     Call ParamAfterName,
 ];
 
-/// ParamAfterName
+/// ParamAfterName = [ "..." AnyType | TypeNoBracket | "." Name [ TypeArgs ] | "[" ( "]" AnyType |
+///     "..." "]" AnyType | Expr(Plain) ( "]" [ AnyType ] | "," [ AnyType [ More(Types) ] ] "]" ) )
+///     ] .
 pub const PARAM_AFTER_NAME: &[Step] = line![
     Or 5 [Ellipsis], Seq 1, Pass Ellipsis, Seq 1, Call AnyType, Close VariadicParam,
     Or 3 TYPES_NO_BRACKET, Seq 1, Call TypeNoBracket, Close Param, Or 13 [Dot], Seq 11, Seq 7,
@@ -130,20 +137,23 @@ pub const PARAM_AFTER_NAME: &[Step] = line![
     Close IndexExpr, Close UnnamedParam, Close UnnamedParam,
 ];
 
-/// StructType
+/// StructType = "struct" "{" [ Field [ More(Fields) ] ] "}" .
 pub const STRUCT_TYPE: &[Step] = line![
     Seq 1, Open, Seq 13, Seq 1, Pass KwStruct, Seq 1, Pass LeftBrace, Seq 7, Or 5 [Ident Mul],
     Seq 1, Call Field, Or 1 SEMICOLONS, Call More Fields, Nothing, Nothing, Pass RightBrace,
     Close StructType,
 ];
 
-/// Field
+/// Field = ( "*" TypeName [ StringLit ] | Name FieldAfterName ) .
 pub const FIELD: &[Step] = line![
     Seq 1, Open, Or 9 [Mul], Seq 1, Pass Mul, Seq 1, Call TypeName, Seq 3, Or 1 [Text],
     Call StringLit, Nothing, Close EmbeddedPointer, Seq 1, Call Name, Call FieldAfterName,
 ];
 
-/// FieldAfterName
+/// FieldAfterName = "," Name { "," Name } AnyType [ StringLit ] | TypeNoBracket [ StringLit ] | "."
+///     Name [ TypeArgs ] [ StringLit ] | "[" ( "]" AnyType [ StringLit ] | "..." "]" AnyType [
+///     StringLit ] | Expr(Plain) ( "]" ( AnyType [ StringLit ] | [ StringLit ] ) | "," [ AnyType [
+///     More(Types) ] ] "]" [ StringLit ] ) ) | [ StringLit ] .
 pub const FIELD_AFTER_NAME: &[Step] = line![
     Or 16 [Comma], Seq 1, Pass Comma, Seq 1, Call Name, Seq 4, Many [Comma], Seq 1, Pass Comma,
     Call Name, Seq 1, Call AnyType, Seq 3, Or 1 [Text], Call StringLit, Nothing, Close Field,
@@ -164,14 +174,15 @@ pub const FIELD_AFTER_NAME: &[Step] = line![
     Seq 3, Or 1 [Text], Call StringLit, Nothing, Close EmbeddedField,
 ];
 
-/// InterfaceType
+/// InterfaceType = "interface" "{" [ Elem [ More(Elems) ] ] "}" .
 pub const INTERFACE_TYPE: &[Step] = line![
     Seq 1, Open, Seq 13, Seq 1, Pass KwInterface, Seq 1, Pass LeftBrace, Seq 7, Or 5 TERMS, Seq 1,
     Call Elem, Or 1 SEMICOLONS, Call More Elems, Nothing, Nothing, Pass RightBrace,
     Close InterfaceType,
 ];
 
-/// Elem
+/// Elem = ( Name ( Signature | [ "." Name ] [ TypeArgs ] { "|" Term } ) | ( TypeNoName | "~"
+///     AnyType ) { "|" Term } ) .
 pub const ELEM: &[Step] = line![
     Seq 1, Open, Or 26 [Ident], Seq 1, Call Name, Or 3 [LeftParen], Seq 1, Call Signature,
     Close MethodElem, Seq 13, Seq 9, When Qualifier 7, Seq 1, Reopen, Seq 3, Seq 1, Pass Dot,
@@ -181,12 +192,12 @@ pub const ELEM: &[Step] = line![
     Pass Or, Call Term, Close Union,
 ];
 
-/// Union
+/// Union = Term { "|" Term } .
 pub const UNION: &[Step] = line![
     Seq 1, Open, Seq 6, Seq 1, Call Term, Many [Or], Seq 1, Pass Or, Call Term, Close Union,
 ];
 
-/// Term
+/// Term = AnyType | "~" AnyType .
 pub const TERM: &[Step] = line![
     Or 1 TYPES, Call AnyType, Seq 1, Open, Seq 3, Seq 1, Pass Tilde, Call AnyType, Close TildeType,
 ];

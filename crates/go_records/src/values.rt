@@ -146,7 +146,7 @@ fn put_byte(out: &mut Vec<u8>, byte: u8) -> Result<(), AllocError>
 {
     if byte == b'"' || byte == b'\\' {
         out.extend_from_slice(&[b'\\', byte])
-    } else if byte > 31 && byte < 127 {
+    } else if byte >= b' ' && byte <= b'~' {
         out.push(byte)?;
         Ok(())
     } else {

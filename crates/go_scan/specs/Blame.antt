@@ -1,5 +1,6 @@
 -- Which byte is to blame where no token starts.
 -- Says at which offset a byte stands that may not stand there, if one does.
+use Prim.Native.Char.{code}
 use Rattle.std.specs.Prelude.{◌≡◌, ℕ, List, ◌⊎◌}
 use Rattle.go_tree.specs.Lexical.Characters.{IsForbidden}
 use Rattle.go_tree.specs.Lexical.Faults.{CanGoOn}
@@ -10,4 +11,4 @@ pub record IsBlamed (bytes : List ℕ) (from at : ℕ) : Type 0 where
 
 -- a quote that opens a rune literal, an interpreted or a raw string literal
 abbrev pub OpensLiteral : ℕ → Type 0
-OpensLiteral b = (b ≡ 39) ⊎ ((b ≡ 34) ⊎ (b ≡ 96))
+OpensLiteral b = (b ≡ code "'") ⊎ ((b ≡ code "\"") ⊎ (b ≡ code "`"))

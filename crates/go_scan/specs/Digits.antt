@@ -1,5 +1,6 @@
 -- Digits of the bases that number literals are written in.
 -- Says for each base which bytes are its digits, how many it has, and what a floating-point literal in it is made of.
+use Prim.Native.Char.{code}
 use Rattle.std.specs.Prelude.{ℕ, ◌+◌, ◌*◌, ◌==◌, Bool, true, false, if◌then◌else◌, List}
 use Rattle.go_tree.specs.Lexical.Numbers.{is_binary, is_octal, is_decimal, is_hex, is_digits, is_digits_behind_prefix}
 use Rattle.go_tree.specs.Lexical.Literals.{digit_value}
@@ -35,4 +36,4 @@ may_lack_exponent base = true
 
 -- the number that one more digit writes
 abbrev pub next_number : ℕ → ℕ → ℕ → ℕ
-next_number size n b = if b == 95 then n else n * size + digit_value b
+next_number size n b = if b == code "_" then n else n * size + digit_value b

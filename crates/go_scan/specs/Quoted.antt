@@ -1,5 +1,6 @@
 -- The texts of rune and string literals, and of escapes.
 -- Says which bytes are the text of a literal that stands somewhere.
+use Prim.Native.Char.{code}
 use Rattle.std.specs.Prelude.{◌≡◌, ◌≢◌, ◌⊎◌, ℕ, ◌+◌, ◌<◌, ◌≤◌, List, [], ◌∷◌, drop, encode_utf8, length, slice_index, slice_range}
 use Rattle.go_tree.specs.Lexical.Literals.{IsInterpretedLit, IsRawLit, IsRuneLit}
 use Rattle.go_scan.specs.declared.values.Piece.{Piece}
@@ -23,7 +24,7 @@ pub record IsRuneText (text : List ℕ) : Type 0 where
 -- the inside of a rune literal
 pub record IsRuneInside (text : List ℕ) : Type 0 where
   pub some : 0 < length text
-  pub escape : slice_index text 0 ≡ 92 → IsEscapeText (drop 1 text)
+  pub escape : slice_index text 0 ≡ code "\\" → IsEscapeText (drop 1 text)
 
 -- the bytes of what an escape in a string stands for
 abbrev pub piece_text : Piece → List ℕ
@@ -34,7 +35,7 @@ piece_text (Char c) = encode_utf8 c
 pub data Escapes (bytes : List ℕ) (close : ℕ) : ℕ → Type 0 where
   done : close ≤ length bytes → Escapes bytes close close
   byte : {at : ℕ} → at < close → slice_index bytes at ≢ 92 → Escapes bytes close (at + 1) → Escapes bytes close at
-  escape : {at to : ℕ} → slice_index bytes at ≡ 92 → IsEscape 34 (slice_range bytes (at + 1) to) → to ≤ close → Escapes bytes close to → Escapes bytes close at
+  escape : {at to : ℕ} → slice_index bytes at ≡ code "\\" → IsEscape (code "\"") (slice_range bytes (at + 1) to) → to ≤ close → Escapes bytes close to → Escapes bytes close at
 
 -- a string literal of either form
 abbrev pub IsStringLit : List ℕ → ℕ → ℕ → Type 0

@@ -1,6 +1,7 @@
 -- The text of types and values.
 -- Decides how a type and the value of a constant read. A type that a declaration names reads by its object.
-use Rattle.std.specs.Prelude.{ℕ, ◌+◌, ◌-◌, ◌/◌, ◌%◌, ◌==◌, nat_lt, ◌&&◌, ◌||◌, Bool, true, false, if◌then◌else◌, List, [], ◌∷◌, ◌++◌, length, take, find, codes, decimal, Option, Some, None}
+use Prim.Native.Char.{code}
+use Rattle.std.specs.Prelude.{ℕ, ◌+◌, ◌-◌, ◌/◌, ◌%◌, ◌==◌, nat_le, nat_lt, ◌&&◌, ◌||◌, Bool, true, false, if◌then◌else◌, List, [], ◌∷◌, ◌++◌, length, take, find, codes, decimal, Option, Some, None}
 use Rattle.std.specs.Fmt.{signed_decimal}
 use Rattle.std.specs.List.{flat_map}
 use Rattle.std.specs.Option.{option_map_or}
@@ -37,24 +38,24 @@ truth_text false = codes "false"
 
 -- two digits in base 16
 abbrev pub digit_text : ℕ → ℕ
-digit_text digit = if nat_lt digit 10 then 48 + digit else 87 + digit
+digit_text digit = if nat_lt digit 10 then code "0" + digit else (code "a" - 10) + digit
 
 -- a byte of a string: one outside 20 to 7E in base 16; a quote and a `\` behind a `\`
 abbrev pub byte_text : ℕ → List ℕ
 byte_text b =
-    if (b == 34) || (b == 92) then 92 ∷ b ∷ []
-    else if nat_lt 31 b && nat_lt b 127 then b ∷ []
-    else 92 ∷ 120 ∷ digit_text (b / 16) ∷ digit_text (b % 16) ∷ []
+    if (b == code "\"") || (b == code "\\") then code "\\" ∷ b ∷ []
+    else if nat_le (code " ") b && nat_le b (code "~") then b ∷ []
+    else code "\\" ∷ code "x" ∷ digit_text (b / 16) ∷ digit_text (b % 16) ∷ []
 
 -- of a longer string the number of the bytes that are left out
 abbrev pub most_printed : ℕ
 most_printed = 64
 
 abbrev pub rest_text : ℕ → List ℕ
-rest_text size = if nat_lt most_printed size then 43 ∷ decimal (size - most_printed) else []
+rest_text size = if nat_lt most_printed size then code "+" ∷ decimal (size - most_printed) else []
 
 abbrev pub string_text : List ℕ → List ℕ
-string_text text = 34 ∷ (flat_map byte_text (take most_printed text) ++ 34 ∷ rest_text (length text))
+string_text text = code "\"" ∷ (flat_map byte_text (take most_printed text) ++ code "\"" ∷ rest_text (length text))
 
 abbrev pub value_text : Value → List ℕ
 value_text (Truth b) = truth_text b

@@ -1,6 +1,7 @@
 -- Import declarations; Package clause; Source file organization (Go specification).
 -- Decides which imports of reached packages name nothing, lie on a cycle, or lie outside the language that
 -- is checked, and which reached packages have files of different packages: P1, P2, P3, U7.
+use Prim.Native.Char.{code}
 use Rattle.std.specs.Prelude.{◌≡◌, ◌↔◌, ℕ, Bool, true, false, not, Some, Contains, ◌||◌, ◌==◌, if◌then◌else◌, is_none, List, [], ◌∷◌, ◌++◌, length, map, slice_get, unwrap_or, codes}
 use Rattle.std.specs.Option.{option_map_or}
 use Rattle.std.specs.List.{flat_map, list_any, range_with_len}
@@ -42,7 +43,7 @@ begins_with byte (b ∷ bytes) = b == byte
 
 -- C, unsafe, and paths that begin with `.` or `/`
 abbrev pub is_special : List ℕ → Bool
-is_special path = same_text path (codes "C") || (same_text path (codes "unsafe") || (begins_with 46 path || begins_with 47 path))
+is_special path = same_text path (codes "C") || (same_text path (codes "unsafe") || (begins_with (code ".") path || begins_with (code "/") path))
 
 abbrev pub broken_import : List (List ℕ) → List Bool → Bool → ℕ → ImportSpec → List Broken
 broken_import paths stubs from_stub file spec =

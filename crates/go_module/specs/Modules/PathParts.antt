@@ -1,5 +1,6 @@
 -- Paths of files and of packages, as lists of bytes.
 -- Decides what the elements and the folders of a path are, and which path an import names.
+use Prim.Native.Char.{code}
 use Rattle.std.specs.Prelude.{◌==◌, ◌||◌, ℕ, Bool, List, [], ◌∷◌, ◌++◌}
 use Rattle.std.specs.Prelude.{codes, filter, length, map, slice_index, take}
 use Rattle.std.specs.Char.{is_ascii_alphanumeric}
@@ -7,7 +8,7 @@ use Rattle.std.specs.List.{after_last, before_last, list_all, list_any, range_wi
 
 -- `/` separates the elements of a path
 abbrev pub is_slash : ℕ → Bool
-is_slash byte = byte == 47
+is_slash byte = byte == code "/"
 
 -- the last element of a path: the name of the file or of the folder
 abbrev pub last_element : List ℕ → List ℕ
@@ -33,4 +34,4 @@ is_plain path = list_all is_plain_byte path
 -- the path that imports the package in a folder of a module
 abbrev pub import_path_of : List ℕ → List ℕ → List ℕ
 import_path_of module_path [] = module_path
-import_path_of module_path (byte ∷ bytes) = module_path ++ 47 ∷ byte ∷ bytes
+import_path_of module_path (byte ∷ bytes) = module_path ++ code "/" ∷ byte ∷ bytes

@@ -1,5 +1,6 @@
 -- Source code representation (Go specification): "Characters", "Letters and digits"; "Tokens" (white space).
 -- Decides which character stands at an offset, and what letters, digits and white space are.
+use Prim.Native.Char.{code}
 use Rattle.std.specs.Prelude.{◌≡◌, ℕ, ◌+◌, ◌-◌, ◌<◌, ◌==◌, ◌&&◌, ◌||◌, nat_lt, Bool, true, false, List, drop, length, Option, Some, None, slice_index}
 use Rattle.bstr.specs.Utf8.{Decoded, decoded}
 use Rattle.ucd_category.specs.declared.GeneralCategory.{GeneralCategory}
@@ -26,14 +27,14 @@ is_digit_category _ = false
 
 -- letter = unicode_letter | "_"
 abbrev pub is_letter : ℕ → Bool
-is_letter c = (c == 95) || is_letter_category (general_category c)
+is_letter c = (c == code "_") || is_letter_category (general_category c)
 
 abbrev pub is_letter_or_digit : ℕ → Bool
 is_letter_or_digit c = is_letter c || is_digit_category (general_category c)
 
 -- "White space, formed from spaces (U+0020), horizontal tabs (U+0009), carriage returns (U+000D), and newlines (U+000A)"
 abbrev pub is_white_space : ℕ → Bool
-is_white_space b = (b == 32) || ((b == 9) || ((b == 13) || (b == 10)))
+is_white_space b = (b == code " ") || ((b == code "\t") || ((b == code "\r") || (b == code "\n")))
 
 -- U+FEFF
 abbrev pub byte_order_mark : ℕ

@@ -1,5 +1,6 @@
 -- Where no token starts (Go specification): "Source code representation", "Tokens".
 -- Decides which rule a text breaks where it has no next token, and at which byte.
+use Prim.Native.Char.{code}
 use Rattle.std.specs.Prelude.{◌≡◌, ◌≢◌, ℕ, ◌+◌, ◌<◌, true, List, [], ◌++◌, Option, ◌⊎◌, slice_index, slice_range}
 use Rattle.go_base.specs.declared.rule.Family.TheVariants.{S}
 use Rattle.go_base.specs.declared.rule.Rule.{Rule}
@@ -13,7 +14,7 @@ use Rattle.go_tree.specs.Lexical.Scan.{IsPlace, IsNext}
 
 -- an escape from `from` on could still go on at `to`
 pub record IsEscapeFront (quote : ℕ) (bytes : List ℕ) (from to : ℕ) : Type 0 where
-  pub opens : slice_index bytes from ≡ 92
+  pub opens : slice_index bytes from ≡ code "\\"
   pub behind : from < to
   pub rest : List ℕ
   pub some : rest ≢ []
@@ -23,12 +24,12 @@ pub record IsEscapeFront (quote : ℕ) (bytes : List ℕ) (from to : ℕ) : Type
 pub data CanGoOn (bytes : List ℕ) (from : ℕ) : ℕ → Type 0 where
   line : {to : ℕ} → OpensLine bytes from → Run in_line_comment bytes (from + 2) to → CanGoOn bytes from to
   general : {to : ℕ} → OpensGeneral bytes from → Run in_general_comment bytes (from + 2) to → IsOpen bytes (from + 2) to → CanGoOn bytes from to
-  raw : {to : ℕ} → slice_index bytes from ≡ 96 → Run in_raw bytes (from + 1) to → CanGoOn bytes from to
-  string : {to : ℕ} → slice_index bytes from ≡ 34 → AreCharacters 34 bytes (from + 1) to → CanGoOn bytes from to
-  string_escape : {at to : ℕ} → slice_index bytes from ≡ 34 → AreCharacters 34 bytes (from + 1) at → IsEscapeFront 34 bytes at to → CanGoOn bytes from to
-  rune : slice_index bytes from ≡ 39 → CanGoOn bytes from (from + 1)
-  rune_escape : {to : ℕ} → slice_index bytes from ≡ 39 → IsEscapeFront 39 bytes (from + 1) to → CanGoOn bytes from to
-  rune_closes : {to : ℕ} → slice_index bytes from ≡ 39 → IsCharacter 39 bytes (from + 1) to → CanGoOn bytes from to
+  raw : {to : ℕ} → slice_index bytes from ≡ code "`" → Run in_raw bytes (from + 1) to → CanGoOn bytes from to
+  string : {to : ℕ} → slice_index bytes from ≡ code "\"" → AreCharacters (code "\"") bytes (from + 1) to → CanGoOn bytes from to
+  string_escape : {at to : ℕ} → slice_index bytes from ≡ code "\"" → AreCharacters (code "\"") bytes (from + 1) at → IsEscapeFront (code "\"") bytes at to → CanGoOn bytes from to
+  rune : slice_index bytes from ≡ code "'" → CanGoOn bytes from (from + 1)
+  rune_escape : {to : ℕ} → slice_index bytes from ≡ code "'" → IsEscapeFront (code "'") bytes (from + 1) to → CanGoOn bytes from to
+  rune_closes : {to : ℕ} → slice_index bytes from ≡ code "'" → IsCharacter (code "'") bytes (from + 1) to → CanGoOn bytes from to
 
 -- a byte that may not stand there: where the next token should start, or where what starts there
 -- could still go on

@@ -1,6 +1,7 @@
 -- Lexical elements (Go specification): "Comments", "Tokens", "Semicolons".
 -- Decides the tokens of a text: what stands between two of them, and where semicolons are inserted. Where no token
 -- starts: `Faults`.
+use Prim.Native.Char.{code}
 use Rattle.std.specs.Prelude.{◌≡◌, ◌≢◌, ℕ, ◌+◌, ◌<◌, ◌≤◌, Bool, true, if◌then◌else◌, List, [], ◌∷◌, length, Option, Some, None, slice_index}
 use Rattle.go_tree.specs.declared.token.Token.{Token}
 use Rattle.go_tree.specs.declared.token.TokenKind.{TokenKind}
@@ -21,8 +22,8 @@ pub data Space (bytes : List ℕ) (from : ℕ) : ℕ → Type 0 where
 pub record IsFirstNewline (bytes : List ℕ) (from to at : ℕ) : Type 0 where
   pub behind : from ≤ at
   pub before : at < to
-  pub newline : slice_index bytes at ≡ 10
-  pub first : (n : ℕ) → from ≤ n → n < at → slice_index bytes n ≡ 10 → ⊥
+  pub newline : slice_index bytes at ≡ code "\n"
+  pub first : (n : ℕ) → from ≤ n → n < at → slice_index bytes n ≡ code "\n" → ⊥
 
 -- space that is passed over, where `stops` says whether the end of a line inserts a semicolon
 abbrev pub Passed : Bool → List ℕ → ℕ → ℕ → Type 0

@@ -1,6 +1,6 @@
 use Rattle.std.proofs.Common.{◌≡◌, []}
 use Rattle.std.specs.Prelude.{replicate}
-use Rattle.go_graph.proofs.predecessors.empty_rows.Given as goal
+use Rattle.go_graph.proofs.numbers.empty_rows.Given as goal
 
 abbrev pub invariant-loop : goal.invariant-loop
 invariant-loop l = l.rows.items ≡ replicate l.counter []
