@@ -1,5 +1,5 @@
 -- What stays of records and headers as the map of headers grows: a declaration has at most one header.
-use Rattle.std.proofs.Common.{◌≡◌, ℕ, ℤ, Option, Some, None, List, [], ◌∷◌, ◌++◌, refl, sym, ap, ◌∙◌, subst, inl, inr, ⊎_elim}
+use Rattle.std.proofs.Common.{◌≡◌, ℕ, ℤ, Option, Some, None, List, [], ◌∷◌, ◌++◌, ◌⊎◌, refl, sym, ap, ◌∙◌, subst, inl, inr, ⊎_elim}
 use Rattle.std.specs.Prelude.{option_and_then}
 use Rattle.std.proofs.lemmas.Bool.{cases_eq, eq-eqb, ne_eqb}
 use Rattle.go_tree.specs.Tree.{Tree}
@@ -9,7 +9,7 @@ use Rattle.go_model.specs.Outcomes.Judged.{Broken, Found, Nothing, OutcomeData, 
 use Rattle.go_model.specs.Outcomes.Readings.{record_in}
 use Rattle.go_model.specs.Outcomes.Walk.{Headers, outcome}
 use Rattle.go_model.specs.Values.Records.{bound_value, record_of, value_over}
-use Rattle.go_model.specs.Values.Headers.{headers_of, Follows, Justified, Holds, Known}
+use Rattle.go_model.specs.Values.Headers.{headers_of, Follows, Justified, Known}
 use Rattle.go_model.specs.Values.Quests.{IsPart}
 use Rattle.go_model.proofs.OutcomeLemmas.{outcome_stays}
 
@@ -31,93 +31,99 @@ value-part means known more part (Some t) v e = record_of-part means known more 
 pub value_over-part : (means : ℕ → Meaning) (known more : Headers) → IsPart known more → (d : Declaration) (v : ℤ) → value_over means known d ≡ Some v → value_over means more d ≡ Some v
 value_over-part means known more part d v e = value-part means known more part (bound_value d.built d.values) v e
 
-module _ (means : ℕ → Meaning) (declarations : List Declaration) where
-  pub Follows-part : (known more : Headers) → IsPart known more → (d : ℕ) (h : ℤ) → Follows means declarations known d h → Follows means declarations more d h
+-- what a longer list has for a declaration
+pub headers_of-here : (before : Headers) (p : ℕ × ℤ) (list : List (ℕ × ℤ)) (d : ℕ) → p.0 ≡ d → headers_of before (p ∷ list) d ≡ Some p.1
+headers_of-here before p list d e = rw (eq-eqb p.0 d e) refl
+
+pub headers_of-there : (before : Headers) (p : ℕ × ℤ) (list : List (ℕ × ℤ)) (d : ℕ) → (p.0 ≡ d → ⊥) → headers_of before (p ∷ list) d ≡ headers_of before list d
+headers_of-there before p list d ne = rw (ne_eqb p.0 d ne) refl
+
+module _ (before : Headers) (means : ℕ → Meaning) (declarations : List Declaration) where
+  pub Follows-part : (known more : Headers) → IsPart known more → (d : ℕ) (h : ℤ) → Follows before means declarations known d h → Follows before means declarations more d h
   Follows-part known more part d h f =
-      record { declaration = f.declaration; declared = f.declared; value = value_over-part means known more part f.declaration h f.value }
+      record { declaration = f.declaration; declared = f.declared; fresh = f.fresh; value = value_over-part means known more part f.declaration h f.value }
 
   -- over one map a declaration has one header
-  pub Follows-same : (known : Headers) (d : ℕ) (h h' : ℤ) → Follows means declarations known d h → Follows means declarations known d h' → h ≡ h'
+  pub Follows-same : (known : Headers) (d : ℕ) (h h' : ℤ) → Follows before means declarations known d h → Follows before means declarations known d h' → h ≡ h'
   Follows-same known d h h' f g =
       let same : f.declaration ≡ g.declaration = cc (f.declared, g.declared) in
       let at : value_over means known f.declaration ≡ value_over means known g.declaration = ap (value_over means known) same in
       cc (f.value, g.value)
 
--- what a longer list has for a declaration
-pub headers_of-here : (p : ℕ × ℤ) (before : List (ℕ × ℤ)) (d : ℕ) → p.0 ≡ d → headers_of (p ∷ before) d ≡ Some p.1
-headers_of-here p before d e = rw (eq-eqb p.0 d e) refl
-
-pub headers_of-there : (p : ℕ × ℤ) (before : List (ℕ × ℤ)) (d : ℕ) → (p.0 ≡ d → ⊥) → headers_of (p ∷ before) d ≡ headers_of before d
-headers_of-there p before d ne = rw (ne_eqb p.0 d ne) refl
-
--- what the list has for a declaration stands in it
-pub headers_of-holds : (list : List (ℕ × ℤ)) (d : ℕ) (h : ℤ) → headers_of list d ≡ Some h → Holds list d h
-headers_of-holds [] d h e = cc
-headers_of-holds (p ∷ before) d h e =
-    ⊎_elim
-    (λ here. inl (here, cc (headers_of-here p before d here, e)))
-    (λ ne. inr (headers_of-holds before d h (sym (headers_of-there p before d ne) ∙ e)))
-    (cases_eq p.0 d)
-
-module _ (means : ℕ → Meaning) (declarations : List Declaration) where
   -- a list stays a part of itself with one more pair
-  grows : (p : ℕ × ℤ) (before : List (ℕ × ℤ)) → Follows means declarations (headers_of before) p.0 p.1 → ((d : ℕ) (h : ℤ) → headers_of before d ≡ Some h → Follows means declarations (headers_of before) d h) → IsPart (headers_of before) (headers_of (p ∷ before))
-  grows p before f stay d h e =
+  grows : (p : ℕ × ℤ) (list : List (ℕ × ℤ)) → Follows before means declarations (headers_of before list) p.0 p.1 → ((d : ℕ) (h : ℤ) → headers_of before list d ≡ Some h → (before d ≡ Some h) ⊎ Follows before means declarations (headers_of before list) d h) → IsPart (headers_of before list) (headers_of before (p ∷ list))
+  grows p list f stay d h e =
       ⊎_elim
-      (λ here. let g = subst (λ n. Follows means declarations (headers_of before) n p.1) here f in
-      headers_of-here p before d here ∙ ap Some (Follows-same means declarations (headers_of before) d p.1 h g (stay d h e)))
-      (λ ne. headers_of-there p before d ne ∙ e)
+      (λ here. let g = subst (λ n. Follows before means declarations (headers_of before list) n p.1) here f in
+      headers_of-here before p list d here ∙ ap Some (by_either g (stay d h e)))
+      (λ ne. headers_of-there before p list d ne ∙ e)
+      (cases_eq p.0 d)
+    where
+      by_either : Follows before means declarations (headers_of before list) d p.1 → (before d ≡ Some h) ⊎ Follows before means declarations (headers_of before list) d h → p.1 ≡ h
+      by_either g (inl was) = absurd (let never : None ≡ Some h = sym g.fresh ∙ was in cc)
+      by_either g (inr k) = Follows-same (headers_of before list) d p.1 h g k
+
+  -- each header of a justified list was known before, or follows from the whole list too
+  pub stays : (list : List (ℕ × ℤ)) → Justified before means declarations list → (d : ℕ) (h : ℤ) → headers_of before list d ≡ Some h → (before d ≡ Some h) ⊎ Follows before means declarations (headers_of before list) d h
+  stays [] j d h e = inl e
+  stays (p ∷ list) j d h e =
+      let part = grows p list j.1 (stays list j.0) in
+      ⊎_elim
+      (λ here. let same : p.1 ≡ h = cc (headers_of-here before p list d here, e) in
+      let g = subst (λ n. Follows before means declarations (headers_of before list) n p.1) here j.1 in
+      inr (Follows-part (headers_of before list) (headers_of before (p ∷ list)) part d h (subst (λ v. Follows before means declarations (headers_of before list) d v) same g)))
+      (λ ne. let e' = sym (headers_of-there before p list d ne) ∙ e in
+      over part (stays list j.0 d h e'))
+      (cases_eq p.0 d)
+    where
+      over : IsPart (headers_of before list) (headers_of before (p ∷ list)) → (before d ≡ Some h) ⊎ Follows before means declarations (headers_of before list) d h → (before d ≡ Some h) ⊎ Follows before means declarations (headers_of before (p ∷ list)) d h
+      over part (inl was) = inl was
+      over part (inr f) = inr (Follows-part (headers_of before list) (headers_of before (p ∷ list)) part d h f)
+
+  -- what is known before stays
+  pub kept : (list : List (ℕ × ℤ)) → Justified before means declarations list → IsPart before (headers_of before list)
+  kept [] j d h e = e
+  kept (p ∷ list) j d h e = grows p list j.1 (stays list j.0) d h (kept list j.0 d h e)
+
+  -- a map has all headers of a justified list where it has those before and each that follows from it
+  pub has_all : (known : Headers) → IsPart before known → ((d : ℕ) (h : ℤ) → Follows before means declarations known d h → known d ≡ Some h) → (list : List (ℕ × ℤ)) → Justified before means declarations list → IsPart (headers_of before list) known
+  has_all known base closed [] j d h e = base d h e
+  has_all known base closed (p ∷ list) j d h e =
+      let part = has_all known base closed list j.0 in
+      ⊎_elim
+      (λ here. let same : p.1 ≡ h = cc (headers_of-here before p list d here, e) in
+      let f = Follows-part (headers_of before list) known part p.0 p.1 j.1 in
+      closed d h (subst (λ v. Follows before means declarations known d v) same (subst (λ n. Follows before means declarations known n p.1) here f)))
+      (λ ne. part d h (sym (headers_of-there before p list d ne) ∙ e))
       (cases_eq p.0 d)
 
-  -- each header of a justified list follows from the whole list too
-  pub stays : (list : List (ℕ × ℤ)) → Justified means declarations list → (d : ℕ) (h : ℤ) → headers_of list d ≡ Some h → Follows means declarations (headers_of list) d h
-  stays [] j d h e = cc
-  stays (p ∷ before) j d h e =
-      let part = grows p before j.1 (stays before j.0) in
+  -- each header that follows from a map, which is known from a justified list, follows from it alone
+  closed_under : (list : List (ℕ × ℤ)) → Justified before means declarations list → (other : List (ℕ × ℤ)) → Justified before means declarations other → IsPart (headers_of before other) (headers_of before (other ++ list))
+  closed_under list j [] k d h e = kept list j d h e
+  closed_under list j (p ∷ other) k d h e =
       ⊎_elim
-      (λ here. let same : p.1 ≡ h = cc (headers_of-here p before d here, e) in
-      let g = subst (λ n. Follows means declarations (headers_of before) n p.1) here j.1 in
-      Follows-part means declarations (headers_of before) (headers_of (p ∷ before)) part d h (subst (λ v. Follows means declarations (headers_of before) d v) same g))
-      (λ ne. let e' = sym (headers_of-there p before d ne) ∙ e in
-      Follows-part means declarations (headers_of before) (headers_of (p ∷ before)) part d h (stays before j.0 d h e'))
+      (λ here. headers_of-here before p (other ++ list) d here ∙ sym (headers_of-here before p other d here) ∙ e)
+      (λ ne. headers_of-there before p (other ++ list) d ne ∙ closed_under list j other k.0 d h (sym (headers_of-there before p other d ne) ∙ e))
       (cases_eq p.0 d)
 
-module _ (means : ℕ → Meaning) (declarations : List Declaration) where
   -- two justified lists, one after the other, are justified
-  headers_of-append : (list before : List (ℕ × ℤ)) → IsPart (headers_of list) (headers_of (list ++ before))
-  headers_of-append [] before d h e = cc
-  headers_of-append (p ∷ list) before d h e =
-      ⊎_elim
-      (λ here. headers_of-here p (list ++ before) d here ∙ sym (headers_of-here p list d here) ∙ e)
-      (λ ne. headers_of-there p (list ++ before) d ne ∙ headers_of-append list before d h (sym (headers_of-there p list d ne) ∙ e))
-      (cases_eq p.0 d)
-
-  Justified-append : (list before : List (ℕ × ℤ)) → Justified means declarations list → Justified means declarations before → Justified means declarations (list ++ before)
-  Justified-append [] before j k = k
-  Justified-append (p ∷ list) before j k = (
-    Justified-append list before j.0 k,
-    Follows-part means declarations (headers_of list) (headers_of (list ++ before)) (headers_of-append list before) p.0 p.1 j.1,
+  both_justified : (list : List (ℕ × ℤ)) → Justified before means declarations list → (other : List (ℕ × ℤ)) → Justified before means declarations other → Justified before means declarations (other ++ list)
+  both_justified list j [] k = j
+  both_justified list j (p ∷ other) k = (
+    both_justified list j other k.0,
+    Follows-part (headers_of before other) (headers_of before (other ++ list)) (closed_under list j other k.0) p.0 p.1 k.1,
   )
 
-  Holds-before : (list before : List (ℕ × ℤ)) (d : ℕ) (h : ℤ) → Holds before d h → Holds (list ++ before) d h
-  Holds-before [] before d h x = x
-  Holds-before (p ∷ list) before d h x = inr (Holds-before list before d h x)
+  -- the later of two justified lists is part of both together
+  later_part : (list : List (ℕ × ℤ)) → Justified before means declarations list → (other : List (ℕ × ℤ)) → Justified before means declarations other → IsPart (headers_of before list) (headers_of before (other ++ list))
+  later_part list j [] k d h e = e
+  later_part list j (p ∷ other) k d h e =
+      let both = both_justified list j (p ∷ other) k in
+      grows p (other ++ list) both.1 (stays (other ++ list) both.0) d h (later_part list j other k.0 d h e)
 
-  Holds-after : (list before : List (ℕ × ℤ)) (d : ℕ) (h : ℤ) → Holds list d h → Holds (list ++ before) d h
-  Holds-after [] before d h x = absurd x
-  Holds-after (p ∷ list) before d h (inl x) = inl x
-  Holds-after (p ∷ list) before d h (inr x) = inr (Holds-after list before d h x)
-
-  -- a justified list has one header for a declaration
-  headers_of-held : (list : List (ℕ × ℤ)) → Justified means declarations list → (d : ℕ) (h : ℤ) → Holds list d h → headers_of list d ≡ Some h
-  headers_of-held [] j d h x = absurd x
-  headers_of-held (p ∷ before) j d h (inl x) = headers_of-here p before d x.0 ∙ ap Some x.1
-  headers_of-held (p ∷ before) j d h (inr x) = grows means declarations p before j.1 (stays means declarations before j.0) d h (headers_of-held before j.0 d h x)
-
-  -- a declaration has at most one header
-  pub Known-same : (d : ℕ) (h h' : ℤ) → Known means declarations d h → Known means declarations d h' → h ≡ h'
+  -- an object has at most one header
+  pub Known-same : (d : ℕ) (h h' : ℤ) → Known before means declarations d h → Known before means declarations d h' → h ≡ h'
   Known-same d h h' k k' =
-      let both = Justified-append k.list k'.list k.justified k'.justified in
-      let one = headers_of-held (k.list ++ k'.list) both d h (Holds-after k.list k'.list d h k.holds) in
-      let other = headers_of-held (k.list ++ k'.list) both d h' (Holds-before k.list k'.list d h' k'.holds) in
+      let one = closed_under k'.list k'.justified k.list k.justified d h k.has in
+      let other = later_part k'.list k'.justified k.list k.justified d h' k'.has in
       cc (one, other)

@@ -6,7 +6,7 @@ use Rattle.go_base.specs.declared.rule.Broken.{Broken}
 use Rattle.go_model.specs.declared.meaning.Meaning.{Meaning}
 use Rattle.go_module.specs.Names.Declarations.{Declaration, declarations_of}
 use Rattle.go_module.specs.Order.{IsListOf}
-use Rattle.go_model.specs.Values.Meaning.{KnownValues, meaning_in}
+use Rattle.go_model.specs.Values.Meaning.{meaning_in}
 use Rattle.go_module.specs.Modules.Module.{ModuleData, PackageData}
 use Rattle.go_module.specs.Places.{placed_by}
 use Rattle.go_model.specs.Outcomes.Walk.{Headers}
@@ -17,7 +17,7 @@ use Rattle.go_model.specs.Values.Rules.{broken_values}
 use Rattle.go_model.specs.Values.Waiting.{Chain}
 use Rattle.go_module.specs.Names.Rules.BrokenNames.{broken_names}
 use Rattle.go_module.specs.Names.Imports.{known_in}
-use Rattle.go_model.specs.Phases.{HasHeaders, BreaksValues, IsVerdict, by_names, by_values, sound, is_accepted, package_report, ArePackageLines, known_after, AreReports, all_told, skips, checks, ReportOf}
+use Rattle.go_model.specs.Phases.{HasHeaders, BreaksValues, IsVerdict, by_names, by_values, sound, is_accepted, package_report, ArePackageLines, AreReports, no_headers, all_told, skips, checks, ReportOf}
 use Rattle.go_model.proofs.LineOrderLemmas.{one_list_in_order}
 use Rattle.go_module.proofs.BrokenListLemmas.{one_list, none_of_none}
 
@@ -35,25 +35,25 @@ same_bool false false f g = refl
 no_list : (found : List Broken) (b : Broken) (bs : List Broken) → found ≡ [] → IsListOf found (b ∷ bs) → ⊥
 no_list found b bs e i = let none = none_of_none (b ∷ bs) (subst (λ (f : List Broken). IsListOf f (b ∷ bs)) e i) in cc none
 
-module _ (means : ℕ → Meaning) (declarations : List Declaration) where
+module _ (before : Headers) (means : ℕ → Meaning) (declarations : List Declaration) where
   -- there is one map of headers at most
-  one_map : (v w : Headers) (c d : ℕ → Bool) → HasHeaders means declarations v c → HasHeaders means declarations w d → v ≡ w
+  one_map : (v w : Headers) (c d : ℕ → Bool) → HasHeaders before means declarations v c → HasHeaders before means declarations w d → v ≡ w
   one_map v w c d has other = fun_ext (λ n. same_option (v n) (w n) (λ h e. (other.known n h).1 ((has.known n h).0 e)) (λ h e. (has.known n h).1 ((other.known n h).0 e)))
 
-  one_mark : (v w : Headers) (c d : ℕ → Bool) → HasHeaders means declarations v c → HasHeaders means declarations w d → c ≡ d
+  one_mark : (v w : Headers) (c d : ℕ → Bool) → HasHeaders before means declarations v c → HasHeaders before means declarations w d → c ≡ d
   one_mark v w c d has other =
       let over = subst (λ (hs : Headers). (n : ℕ) → (d n ≡ true) ↔ Chain means declarations hs n n) (sym (one_map v w c d has other)) other.is_cyclic in
       fun_ext (λ n. same_bool (c n) (d n) (λ e. (over n).1 ((has.is_cyclic n).0 e)) (λ e. (has.is_cyclic n).1 ((over n).0 e)))
 
-module _ (m : ModuleData) (k : ℕ) (p : PackageData) (before : KnownValues) where
+module _ (m : ModuleData) (k : ℕ) (p : PackageData) (before : Headers) where
   same_headers : (v w : Headers) (xs ys : List Broken) → BreaksValues m k p before v xs → BreaksValues m k p before w ys → v ≡ w
-  same_headers v w xs ys a b = one_map (meaning_in m k p before) (declarations_of p) v w a.cyclic b.cyclic a.has_headers b.has_headers
+  same_headers v w xs ys a b = one_map before (meaning_in m k p before) (declarations_of p) v w a.cyclic b.cyclic a.has_headers b.has_headers
 
   same_values : (v w : Headers) (xs ys : List Broken) → BreaksValues m k p before v xs → BreaksValues m k p before w ys → xs ≡ ys
   same_values v w xs ys a b =
       let means = meaning_in m k p before in
       let headers = same_headers v w xs ys a b in
-      let marks = one_mark means (declarations_of p) v w a.cyclic b.cyclic a.has_headers b.has_headers in
+      let marks = one_mark before means (declarations_of p) v w a.cyclic b.cyclic a.has_headers b.has_headers in
       let there : IsListOf (broken_values means v a.cyclic p) ys = subst (λ (c : ℕ → Bool). IsListOf (broken_values means v c p) ys) (sym marks) (subst (λ (hs : Headers). IsListOf (broken_values means hs b.cyclic p) ys) (sym headers) b.is_list) in
       one_list (broken_values means v a.cyclic p) xs ys a.is_list there
 
@@ -71,15 +71,15 @@ module _ (m : ModuleData) (k : ℕ) (p : PackageData) (before : KnownValues) whe
   -- a verdict and what is known behind it
   record Given : Type 0 where
     verdict : VerdictData
-    known : KnownValues
+    known : Headers
 
-  abbrev given : VerdictData → KnownValues → Given
+  abbrev given : VerdictData → Headers → Given
   given x after = record { verdict = x; known = after }
 
   abbrev sound_by : Headers → List LineData → Given
-  sound_by v lines = given (accepted lines (named_in (outline_of m) lines)) (known_after before (meaning_in m k p before) v (declarations_of p))
+  sound_by v lines = given (accepted lines (named_in (outline_of m) lines)) v
 
-  one_verdict : (x y : VerdictData) (after later : KnownValues) → IsVerdict m k p before x after → IsVerdict m k p before y later → given x after ≡ given y later
+  one_verdict : (x y : VerdictData) (after later : Headers) → IsVerdict m k p before x after → IsVerdict m k p before y later → given x after ≡ given y later
   one_verdict x y after later (by_names b bs i) (by_names c cs j) = ap (λ list. given (refused (map (placed_by p) list)) before) (one_list (broken_names (known_in m) k p) (b ∷ bs) (c ∷ cs) i j)
   one_verdict x y after later (by_names b bs i) (by_values w c cs j) = absurd (no_list (broken_names (known_in m) k p) b bs j.sound_names i)
   one_verdict x y after later (by_names b bs i) (sound w ys j there) = absurd (no_list (broken_names (known_in m) k p) b bs j.sound_names i)
@@ -94,7 +94,7 @@ module _ (m : ModuleData) (k : ℕ) (p : PackageData) (before : KnownValues) whe
       λ n. sound_by (headers n) (lines n)
 
 -- packages have one list of reports at most
-one_list_of_reports : (m : ModuleData) (k : ℕ) (marks : List Bool) (before : KnownValues) (ps : List PackageData) (left right : List PackageReportData) → AreReports m k marks before ps left → AreReports m k marks before ps right → left ≡ right
+one_list_of_reports : (m : ModuleData) (k : ℕ) (marks : List Bool) (before : Headers) (ps : List PackageData) (left right : List PackageReportData) → AreReports m k marks before ps left → AreReports m k marks before ps right → left ≡ right
 one_list_of_reports m k marks before [] left right (all_told _ _ _) (all_told _ _ _) = refl
 one_list_of_reports m k marks before (p ∷ ps) left right (skips _ _ _ _ _ xs e rest) (skips _ _ _ _ _ ys f other) =
     ap (λ rs. package_report p skipped ∷ rs) (one_list_of_reports m (k + 1) (marks ++ false ∷ []) before ps xs ys rest other)
@@ -113,5 +113,5 @@ one_report m a b i j =
     let path : a.path ≡ b.path = i.path_is ∙ sym j.path_is in
     let version : a.version ≡ b.version = i.version_is ∙ sym j.version_is in
     let first : a.first ≡ b.first = i.first_is ∙ sym j.first_is in
-    let packages : a.packages ≡ b.packages = one_list_of_reports m 0 [] [] m.packages a.packages b.packages i.packages j.packages in
+    let packages : a.packages ≡ b.packages = one_list_of_reports m 0 [] no_headers m.packages a.packages b.packages i.packages j.packages in
     λ n. record { path = path n; version = version n; first = first n; packages = packages n }

@@ -12,11 +12,12 @@ use Rattle.go_module.specs.Scopes.{same_object}
 use Rattle.go_model.specs.Outline.{is_predeclared, outline_of}
 use Rattle.go_model.specs.declared.meaning.Meaning.{Meaning}
 use Rattle.go_module.specs.Names.Declarations.{Declaration}
+use Rattle.go_model.specs.Outcomes.Walk.{Headers}
 use Rattle.go_model.specs.Values.Headers.{Known}
 
--- a declaration has at most one header
-abbrev pub OneHeader : (ℕ → Meaning) → List Declaration → Type 0
-OneHeader means declarations = (d : ℕ) (h k : ℤ) → Known means declarations d h → Known means declarations d k → h ≡ k
+-- an object has at most one header
+abbrev pub OneHeader : Headers → (ℕ → Meaning) → List Declaration → Type 0
+OneHeader before means declarations = (d : ℕ) (h k : ℤ) → Known before means declarations d h → Known before means declarations d k → h ≡ k
 
 -- a universe name, or an object whose declaration the outline of the module has
 abbrev pub IsDeclared : ModuleData → ObjId → Type 0

@@ -3,63 +3,52 @@
 -- breaks a rule ends it, names before values. What the phases before break: `Loading` of go_load; names:
 -- `Names` of go_module; values: `Rules`; the lines of an accepted package: `PackageLines`. Files are known by
 -- their numbers, which differ in each module that is loaded.
-use Rattle.std.specs.Prelude.{◌≡◌, ℕ, ℤ, ◌+◌, ◌↔◌, Bool, true, false, Some, List, [], ◌∷◌, ◌++◌, map}
-use Rattle.std.specs.List.{flat_map, list_all}
+use Rattle.std.specs.Prelude.{◌≡◌, ℕ, ℤ, ◌+◌, ◌↔◌, Bool, true, false, None, Some, List, [], ◌∷◌, ◌++◌, map}
+use Rattle.std.specs.List.{list_all}
 use Rattle.std.specs.Map.{lookup}
-use Rattle.std.specs.Option.{option_map_or}
-use Rattle.go_module.specs.IndexMap.{insert_all}
 use Rattle.go_base.specs.declared.rule.Broken.{Broken}
 use Rattle.go_model.specs.declared.meaning.Meaning.{Meaning}
-use Rattle.go_base.specs.declared.ids.ObjId.{ObjId}
-use Rattle.go_module.specs.Names.Declarations.{Declaration, declarations_of, number_of}
+use Rattle.go_module.specs.Names.Declarations.{Declaration, declarations_of}
 use Rattle.go_module.specs.Order.{IsListOf}
 use Rattle.go_model.specs.Values.Headers.{Known}
-use Rattle.go_model.specs.Values.Meaning.{KnownValues, meaning_in, uses_table}
+use Rattle.go_model.specs.Values.Meaning.{meaning_in, uses_table}
 use Rattle.go_module.specs.Modules.Module.{ModuleData, PackageData}
 use Rattle.go_model.specs.Outline.{outline_of}
 use Rattle.go_model.specs.PackageLines.{AreLines, named_in}
 use Rattle.go_module.specs.Graph.{is_marked}
 use Rattle.go_module.specs.Places.{placed_by}
 use Rattle.go_model.specs.Outcomes.Walk.{Headers}
-use Rattle.go_model.specs.Values.Records.{value_over}
 use Rattle.go_model.specs.Report.{LineData, VerdictData, accepted, refused, skipped, PackageReportData, ReportData}
 use Rattle.go_model.specs.Values.Rules.{broken_values}
-use Rattle.go_module.specs.Scopes.{same_node, same_object}
+use Rattle.go_module.specs.Scopes.{same_node}
 use Rattle.go_model.specs.Values.Waiting.{Chain}
 use Rattle.go_module.specs.Names.Rules.BrokenNames.{broken_names}
 use Rattle.go_module.specs.Names.Imports.{known_in}
 
--- the headers of a package's declarations, and which of these wait for themselves
-pub record HasHeaders (means : ℕ → Meaning) (declarations : List Declaration) (headers : Headers) (cyclic : ℕ → Bool) : Type 0 where
-  pub known : (d : ℕ) (h : ℤ) → (headers d ≡ Some h) ↔ Known means declarations d h
+-- the headers that are known: those before and those of a package's declarations; and which of these wait for themselves
+pub record HasHeaders (before : Headers) (means : ℕ → Meaning) (declarations : List Declaration) (headers : Headers) (cyclic : ℕ → Bool) : Type 0 where
+  pub known : (d : ℕ) (h : ℤ) → (headers d ≡ Some h) ↔ Known before means declarations d h
   pub is_cyclic : (d : ℕ) → (cyclic d ≡ true) ↔ Chain means declarations headers d d
 
--- the values of a package's declarations, behind those that were known before
-abbrev pub values_of : (ℕ → Meaning) → Headers → List Declaration → List (ObjId × ℤ)
-values_of means headers declarations = flat_map (λ d. option_map_or (λ v. (number_of d, v) ∷ []) (value_over means headers d) []) declarations
-
-abbrev pub known_after : KnownValues → (ℕ → Meaning) → Headers → List Declaration → KnownValues
-known_after before means headers declarations = insert_all same_object before (values_of means headers declarations)
-
 -- what the values of a package break, as one list
-pub record BreaksValues (m : ModuleData) (k : ℕ) (p : PackageData) (before : KnownValues) (headers : Headers) (list : List Broken) : Type 0 where
+pub record BreaksValues (m : ModuleData) (k : ℕ) (p : PackageData) (before headers : Headers) (list : List Broken) : Type 0 where
   pub sound_names : broken_names (known_in m) k p ≡ []
   pub cyclic : ℕ → Bool
-  pub has_headers : HasHeaders (meaning_in m k p before) (declarations_of p) headers cyclic
+  pub has_headers : HasHeaders before (meaning_in m k p before) (declarations_of p) headers cyclic
   pub is_list : IsListOf (broken_values (meaning_in m k p before) headers cyclic p) list
 
 -- the lines of the package at a place, over these headers
-abbrev pub ArePackageLines : ModuleData → ℕ → PackageData → KnownValues → Headers → List LineData → Type 0
+abbrev pub ArePackageLines : ModuleData → ℕ → PackageData → Headers → Headers → List LineData → Type 0
 ArePackageLines m k p before headers lines = AreLines (outline_of m) k p (λ id. lookup (same_node id) (uses_table m k p)) (meaning_in m k p before) headers lines
 
--- the verdict on the package at a place, whose imports are accepted, and what is known behind it
-pub data IsVerdict (m : ModuleData) (k : ℕ) (p : PackageData) (before : KnownValues) : VerdictData → KnownValues → Type 0 where
+-- the verdict on the package at a place, whose imports are accepted, and the headers of accepted packages behind it
+pub data IsVerdict (m : ModuleData) (k : ℕ) (p : PackageData) (before : Headers) : VerdictData → Headers → Type 0 where
   by_names : (b : Broken) (bs : List Broken) → IsListOf (broken_names (known_in m) k p) (b ∷ bs)
       → IsVerdict m k p before (refused (map (placed_by p) (b ∷ bs))) before
   by_values : (headers : Headers) (b : Broken) (bs : List Broken) → BreaksValues m k p before headers (b ∷ bs)
       → IsVerdict m k p before (refused (map (placed_by p) (b ∷ bs))) before
   sound : (headers : Headers) (lines : List LineData) → BreaksValues m k p before headers [] → ArePackageLines m k p before headers lines
-      → IsVerdict m k p before (accepted lines (named_in (outline_of m) lines)) (known_after before (meaning_in m k p before) headers (declarations_of p))
+      → IsVerdict m k p before (accepted lines (named_in (outline_of m) lines)) headers
 
 abbrev pub is_accepted : VerdictData → Bool
 is_accepted (accepted lines named) = true
@@ -72,14 +61,18 @@ imports_accepted marks p = list_all (is_marked marks) p.imports
 abbrev pub package_report : PackageData → VerdictData → PackageReportData
 package_report p verdict = record { path = p.path; name = p.name; verdict = verdict }
 
+-- no header is known
+abbrev pub no_headers : Headers
+no_headers d = None
+
 -- the reports of packages, of which the first has the place k: the marks say which before it are accepted.
 -- A package is skipped where one that it imports is not
-pub data AreReports (m : ModuleData) : ℕ → List Bool → KnownValues → List PackageData → List PackageReportData → Type 0 where
-  all_told : (k : ℕ) (marks : List Bool) (before : KnownValues) → AreReports m k marks before [] []
-  skips : (k : ℕ) (marks : List Bool) (before : KnownValues) (p : PackageData) (ps : List PackageData) (rs : List PackageReportData)
+pub data AreReports (m : ModuleData) : ℕ → List Bool → Headers → List PackageData → List PackageReportData → Type 0 where
+  all_told : (k : ℕ) (marks : List Bool) (before : Headers) → AreReports m k marks before [] []
+  skips : (k : ℕ) (marks : List Bool) (before : Headers) (p : PackageData) (ps : List PackageData) (rs : List PackageReportData)
       → imports_accepted marks p ≡ false → AreReports m (k + 1) (marks ++ false ∷ []) before ps rs
       → AreReports m k marks before (p ∷ ps) (package_report p skipped ∷ rs)
-  checks : (k : ℕ) (marks : List Bool) (before after : KnownValues) (verdict : VerdictData) (p : PackageData) (ps : List PackageData) (rs : List PackageReportData)
+  checks : (k : ℕ) (marks : List Bool) (before after : Headers) (verdict : VerdictData) (p : PackageData) (ps : List PackageData) (rs : List PackageReportData)
       → imports_accepted marks p ≡ true → IsVerdict m k p before verdict after → AreReports m (k + 1) (marks ++ is_accepted verdict ∷ []) after ps rs
       → AreReports m k marks before (p ∷ ps) (package_report p verdict ∷ rs)
 
@@ -88,4 +81,4 @@ pub record ReportOf (m : ModuleData) (report : ReportData) : Type 0 where
   pub path_is : report.path ≡ m.path
   pub version_is : report.version ≡ m.version
   pub first_is : report.first ≡ []
-  pub packages : AreReports m 0 [] [] m.packages report.packages
+  pub packages : AreReports m 0 [] no_headers m.packages report.packages

@@ -1,4 +1,5 @@
 -- The values of declarations: what is known of them, and which rules they break.
+pub mod Declared
 pub mod Meaning
 pub mod Records
 pub mod Headers

@@ -39,9 +39,10 @@ pub fn outcomes_exactly()
         → OutcomeExactly means headers id from to kind text parts }
 {}
 
-/// A declaration has at most one header.
+/// A declaration has at most one header, whatever headers are known before.
 pub fn one_header()
-    ensures { (means : ℕ → Meaning) (declarations : List Declaration) → OneHeader means declarations }
+    ensures { (before : Headers) (means : ℕ → Meaning) (declarations : List Declaration)
+        → OneHeader before means declarations }
 {}
 
 /// A module has at most one report.

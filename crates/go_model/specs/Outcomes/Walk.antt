@@ -14,8 +14,8 @@ use Rattle.go_model.specs.Outcomes.Constructs.Selector.{selector}
 use Rattle.go_model.specs.Outcomes.Operands.{no_construct}
 use Rattle.go_model.specs.Outcomes.Constructs.Sum.{sum}
 
--- a map of headers: what it has for the declaration of the package at each place. Each constant here is an untyped
--- integer constant, so that its header, and the record of an expression, is its value
+-- a map of headers: what it has for each declaring node and universe name, by its number. Each constant here is an
+-- untyped integer constant, so that its header, and the record of an expression, is its value
 abbrev pub Headers : Type 0
 Headers = ℕ → Option ℤ
 

@@ -1,53 +1,42 @@
 -- Declarations and scope; Qualified identifiers; Predeclared identifiers (Go specification).
 -- Decides what an identifier means in a package that is checked, by the object that it denotes and by the
--- values that are known of the constants of packages before it.
-use Rattle.std.specs.Prelude.{ℕ, ℤ, position, if◌then◌else◌, List, [], Option, None, Some}
+-- headers that are known of packages before it.
+use Rattle.std.specs.Prelude.{ℕ, ◌||◌, Bool, is_some, if◌then◌else◌, List, [], Option, None, Some}
 use Rattle.std.specs.Map.{lookup}
 use Rattle.go_module.specs.IndexMap.{insert_all}
 use Rattle.go_tree.specs.declared.node.NodeId.{NodeId}
 use Rattle.go_model.specs.declared.meaning.Meaning.{Meaning}
-use Rattle.go_model.specs.declared.meaning.Meaning.TheVariants.{Own, Outer, Predeclared, Other}
+use Rattle.go_model.specs.declared.meaning.Meaning.TheVariants.{Declared, Predeclared, Other}
 use Rattle.go_base.specs.declared.ids.ObjId.{ObjId}
-use Rattle.go_module.specs.Names.Declarations.{declarations_of, numbers_of}
+use Rattle.go_module.specs.Names.Declarations.{Declaration, declarations_of}
 use Rattle.go_module.specs.Modules.Module.{ModuleData, PackageData}
 use Rattle.go_model.specs.Outline.{is_predeclared}
-use Rattle.go_module.specs.Scopes.{same_node, same_object}
+use Rattle.go_model.specs.Outcomes.Walk.{Headers}
+use Rattle.go_model.specs.Values.Declared.{declared_as}
+use Rattle.go_module.specs.Scopes.{same_node}
 use Rattle.go_module.specs.Names.Imports.{known_in}
 use Rattle.go_module.specs.Names.Tables.{uses_of}
-
--- the values of the constants of packages that are accepted, each by the number of its object
-abbrev pub KnownValues : Type 0
-KnownValues = List (ObjId × ℤ)
 
 -- the object that each identifier of the package at a place denotes, by the identifier's node
 abbrev pub uses_table : ModuleData → ℕ → PackageData → List (NodeId × ObjId)
 uses_table m k p = insert_all same_node [] (uses_of (known_in m) k p)
 
--- a constant of another package, where its value is known
-abbrev pub outer_meaning : Option ℤ → Meaning
-outer_meaning None = Other
-outer_meaning (Some v) = Outer v
+-- an object that is one of these declarations, or has a header before
+abbrev pub declares : Headers → List Declaration → ObjId → Bool
+declares before declarations d = is_some (declared_as declarations d.0) || is_some (before d.0)
 
-abbrev pub declared_meaning : KnownValues → ObjId → Option ℕ → Meaning
-declared_meaning before d (Some place) = Own place
-declared_meaning before d None = outer_meaning (lookup (same_object d) before)
+-- what an object means
+abbrev pub object_meaning : (ObjId → Bool) → ObjId → Meaning
+object_meaning declares d = if is_predeclared d then Predeclared else (if declares d then Declared d else Other)
 
--- what an object means where declarations of the package have these places
-abbrev pub object_meaning : (ObjId → Option ℕ) → KnownValues → ObjId → Meaning
-object_meaning places before d = if is_predeclared d then Predeclared else declared_meaning before d (places d)
+abbrev pub denoted_meaning : (ObjId → Bool) → Option ObjId → Meaning
+denoted_meaning declares None = Other
+denoted_meaning declares (Some d) = object_meaning declares d
 
-abbrev pub denoted_meaning : (ObjId → Option ℕ) → KnownValues → Option ObjId → Meaning
-denoted_meaning places before None = Other
-denoted_meaning places before (Some d) = object_meaning places before d
-
--- what an identifier means, by the objects of identifiers and by the places of objects
-abbrev pub meaning_by : List (NodeId × ObjId) → (ObjId → Option ℕ) → KnownValues → ℕ → Meaning
-meaning_by uses places before id = denoted_meaning places before (lookup (same_node (record { 0 = id })) uses)
-
--- the place of an object among declarations
-abbrev pub place_among : List ObjId → ObjId → Option ℕ
-place_among numbers d = position (same_object d) numbers
+-- what an identifier means, by the objects of identifiers
+abbrev pub meaning_by : List (NodeId × ObjId) → (ObjId → Bool) → ℕ → Meaning
+meaning_by uses declares id = denoted_meaning declares (lookup (same_node (record { 0 = id })) uses)
 
 -- what each identifier of the package at a place means, by the number of its node
-abbrev pub meaning_in : ModuleData → ℕ → PackageData → KnownValues → ℕ → Meaning
-meaning_in m k p before = meaning_by (uses_table m k p) (place_among (numbers_of (declarations_of p))) before
+abbrev pub meaning_in : ModuleData → ℕ → PackageData → Headers → ℕ → Meaning
+meaning_in m k p before = meaning_by (uses_table m k p) (declares before (declarations_of p))

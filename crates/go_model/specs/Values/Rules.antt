@@ -1,7 +1,7 @@
 -- The rules that the values of declarations can break.
 -- Decides where the declarations of a package break them: C1, R37, and what the nodes of expressions break (`Outcomes`).
 -- Which declaration waits for which: `Waiting`. Rules on names: `Names` of go_module; on the form of a file: go_form.
-use Rattle.std.specs.Prelude.{ℕ, ◌+◌, ◌==◌, ◌&&◌, Bool, not, is_some, Option, List, [], ◌∷◌, ◌++◌, length, map}
+use Rattle.std.specs.Prelude.{ℕ, ◌==◌, ◌&&◌, Bool, not, is_some, Option, List, [], ◌∷◌, ◌++◌, length, map}
 use Rattle.std.specs.List.{flat_map, list_all}
 use Rattle.go_base.specs.declared.rule.Broken.{Broken}
 use Rattle.go_base.specs.declared.rule.Rule.{Rule}
@@ -11,7 +11,7 @@ use Rattle.go_model.specs.declared.meaning.Meaning.{Meaning}
 use Rattle.go_module.specs.Broken.{broken_at, told_if}
 use Rattle.go_module.specs.Places.{with_number}
 use Rattle.go_module.specs.Modules.Module.{PackageData}
-use Rattle.go_module.specs.Names.Declarations.{Declaration, Spec, declarations_of, specs_of}
+use Rattle.go_module.specs.Names.Declarations.{Declaration, Spec, declarations_of, number_of, specs_of}
 use Rattle.go_module.specs.Names.Occurrences.{nodes_in}
 use Rattle.go_model.specs.Outcomes.Readings.{broken_spots}
 use Rattle.go_model.specs.Outcomes.Walk.{Headers, outcome}
@@ -27,10 +27,8 @@ unequal_sides = record { family = R; number = 37 }
 abbrev pub cyclic_at : Bool → Declaration → List Broken
 cyclic_at cyclic d = told_if cyclic (broken_at d.file (start_of d.name) cyclic_declaration)
 
--- the declarations from the one at the place n on
-abbrev pub broken_cycles : (ℕ → Bool) → ℕ → List Declaration → List Broken
-broken_cycles cyclic n [] = []
-broken_cycles cyclic n (d ∷ declarations) = cyclic_at (cyclic n) d ++ broken_cycles cyclic (n + 1) declarations
+abbrev pub broken_cycles : (ℕ → Bool) → List Declaration → List Broken
+broken_cycles cyclic declarations = flat_map (λ d. cyclic_at (cyclic (number_of d).0) d) declarations
 
 -- what a node breaks, by its outcome, in the file at a place among those of its package: told where the node breaks it, or
 -- at the offset at which a copy is told
@@ -53,7 +51,7 @@ broken_spec means headers spec = unequal_at means headers spec ++ flat_map (brok
 
 -- what the values of a package break, by the places of its files
 abbrev pub broken_in_files : (ℕ → Meaning) → Headers → (ℕ → Bool) → PackageData → List Broken
-broken_in_files means headers cyclic p = broken_cycles cyclic 0 (declarations_of p) ++ flat_map (broken_spec means headers) (specs_of p)
+broken_in_files means headers cyclic p = broken_cycles cyclic (declarations_of p) ++ flat_map (broken_spec means headers) (specs_of p)
 
 -- what the values of a package break, in any order
 abbrev pub broken_values : (ℕ → Meaning) → Headers → (ℕ → Bool) → PackageData → List Broken

@@ -1,6 +1,6 @@
 -- Declarations and scope; Constant declarations (Go specification).
 -- Decides which declaration waits for the header of which, and which wait for themselves.
-use Rattle.std.specs.Prelude.{◌≡◌, ℕ, Some, List, Contains, slice_get}
+use Rattle.std.specs.Prelude.{◌≡◌, ℕ, Some, List, Contains}
 use Rattle.std.specs.List.{flat_map}
 use Rattle.go_tree.specs.Tree.{Tree}
 use Rattle.go_model.specs.declared.meaning.Meaning.{Meaning}
@@ -8,6 +8,7 @@ use Rattle.go_module.specs.Names.Declarations.{Declaration, rests_on}
 use Rattle.go_module.specs.Names.Occurrences.{nodes_in}
 use Rattle.go_model.specs.Outcomes.Readings.{awaited_in}
 use Rattle.go_model.specs.Outcomes.Walk.{Headers, outcome}
+use Rattle.go_model.specs.Values.Declared.{declared_as}
 
 -- the declarations whose headers the nodes of an expression or a type wait for
 abbrev pub awaited_by_nodes : (ℕ → Meaning) → Headers → Tree → List ℕ
@@ -20,7 +21,7 @@ awaited_by means headers d = flat_map (awaited_by_nodes means headers) (rests_on
 -- the declaration d waits for the declaration e: a node of the parts that its header rests on waits for the header of e
 pub record Waits (means : ℕ → Meaning) (declarations : List Declaration) (headers : Headers) (d e : ℕ) : Type 0 where
   pub declaration : Declaration
-  pub declared : slice_get declarations d ≡ Some declaration
+  pub declared : declared_as declarations d ≡ Some declaration
   pub awaits : Contains (awaited_by means headers declaration) e
 
 -- some waits, one after another, lead from d to e

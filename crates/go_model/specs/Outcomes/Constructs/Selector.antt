@@ -4,7 +4,7 @@
 use Rattle.std.specs.Prelude.{ℤ, false, [], ◌∷◌}
 use Rattle.go_module.specs.Rules.{unbuilt_form}
 use Rattle.go_model.specs.declared.meaning.Meaning.{Meaning}
-use Rattle.go_model.specs.declared.meaning.Meaning.TheVariants.{Own, Outer, Predeclared, Other}
+use Rattle.go_model.specs.declared.meaning.Meaning.TheVariants.{Declared, Predeclared, Other}
 use Rattle.go_model.specs.Outcomes.Judged.{Construct}
 use Rattle.go_model.specs.Outcomes.Constructs.Name.{name}
 use Rattle.go_model.specs.Outcomes.Operands.{at_whole, of_one}
@@ -12,6 +12,5 @@ use Rattle.go_model.specs.Values.Quests.{Done}
 
 abbrev pub selector : Meaning → Construct ℤ ℤ
 selector Other = of_one (λ x. record { tests = at_whole unbuilt_form (Done false) ∷ []; gives = Done x })
-selector (Own place) = name (Own place)
-selector (Outer v) = name (Outer v)
+selector (Declared d) = name (Declared d)
 selector Predeclared = name Predeclared
