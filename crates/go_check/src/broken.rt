@@ -8,7 +8,7 @@ ghost use Rattle.go_model.specs.Values.Rules as rules;
 ghost use Rattle.go_names.specs.Views.{spec_view};
 ghost use Rattle.go_expr.specs.Evaluated.{evaluated_view, evaluated_views};
 ghost use Rattle.go_check.specs.Lines.Nodes.{broken_by};
-ghost use Rattle.go_expr.specs.Table.{slot_of};
+ghost use Rattle.go_expr.specs.Table.{headers_by};
 ghost use Rattle.go_expr.specs.View.{means_by};
 
 use crate::rules::UNEQUAL_SIDES;
@@ -29,7 +29,7 @@ pub fn push_spec(
     found: &mut Vec<Broken>,
 ) -> Result<(), NoMemory>
     ensures { OnOk result (found.new.items ≡ found.old.items
-        ++ rules.broken_spec (means_by around.now) (slot_of table.now) (spec_view spec.now)) }
+        ++ rules.broken_spec (means_by around.now) (headers_by around.now table.now) (spec_view spec.now)) }
 {
     let unequal = are_unequal(around, table, spec.names, spec.values);
     let start = spec.node.start();
@@ -40,7 +40,7 @@ pub fn push_spec(
 
 // Whether the numbers of names and of expressions differ, and all expressions have records.
 fn are_unequal(around: &Around, table: &[Option<i128>], names: &[Node], values: &[Node]) -> bool
-    ensures { result ≡ rules.are_unequal (means_by around.now) (slot_of table.now)
+    ensures { result ≡ rules.are_unequal (means_by around.now) (headers_by around.now table.now)
         (map tree_of names.now) (map tree_of values.now) }
 {
     names.len() != values.len() && have_records(around, table, values)
@@ -48,7 +48,7 @@ fn are_unequal(around: &Around, table: &[Option<i128>], names: &[Node], values: 
 
 // Whether all of these expressions have records.
 fn have_records(around: &Around, table: &[Option<i128>], values: &[Node]) -> bool
-    ensures { result ≡ list_all (λ value. is_some (record_of (means_by around.now) (slot_of table.now) value))
+    ensures { result ≡ list_all (λ value. is_some (record_of (means_by around.now) (headers_by around.now table.now) value))
         (map tree_of values.now) }
 {
     each_has_record(around, table, values)
@@ -56,7 +56,7 @@ fn have_records(around: &Around, table: &[Option<i128>], values: &[Node]) -> boo
 
 // The same, said of the nodes one by one.
 fn each_has_record(around: &Around, table: &[Option<i128>], values: &[Node]) -> bool
-    ensures { result ≡ list_all (λ value. is_some (record_of (means_by around.now) (slot_of table.now)
+    ensures { result ≡ list_all (λ value. is_some (record_of (means_by around.now) (headers_by around.now table.now)
         (tree_of value))) values.now }
 {
     values
@@ -74,7 +74,7 @@ fn push_nodes(
     found: &mut Vec<Broken>,
 ) -> Result<(), NoMemory>
     ensures { OnOk result (found.new.items ≡ found.old.items ++ flat_map
-        (rules.broken_in spec.now.file spec.now.told_at (means_by around.now) (slot_of table.now))
+        (rules.broken_in spec.now.file spec.now.told_at (means_by around.now) (headers_by around.now table.now))
         (map tree_of nodes.now)) }
 {
     for node in nodes {
@@ -93,7 +93,7 @@ fn push_node(
     found: &mut Vec<Broken>,
 ) -> Result<(), NoMemory>
     ensures { OnOk result (found.new.items ≡ found.old.items ++ rules.broken_in spec.now.file spec.now.told_at
-        (means_by around.now) (slot_of table.now) (tree_of node.now)) }
+        (means_by around.now) (headers_by around.now table.now) (tree_of node.now)) }
 {
     let list = evaluate(alloc, around, table, node)?;
     push_each(spec.file, spec.told_at, &list, found)?;

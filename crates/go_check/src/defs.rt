@@ -10,7 +10,7 @@ ghost use Rattle.go_model.specs.PackageLines as spec;
 ghost use Rattle.go_model.specs.Report.{defined, defined_view, line_view};
 ghost use Rattle.go_names.specs.Views.{declaration_view, declarations_view, trees_at};
 ghost use Rattle.go_check.specs.Lines.Found.{def_lines, import_lines, own_file_view};
-ghost use Rattle.go_expr.specs.Table.{slot_of};
+ghost use Rattle.go_expr.specs.Table.{headers_by};
 ghost use Rattle.go_expr.specs.View.{means_by};
 ghost use Rattle.go_check.specs.View.{outline_view};
 
@@ -35,7 +35,7 @@ pub fn found_defs(
     table: &[Option<i128>],
 ) -> Result<Vec<Line>, NoMemory>
     ensures { IfOk result (λ lines. map line_view lines.items ≡ def_lines (outline_view outline.now)
-        (means_by around.now) (slot_of table.now) (own_file_view file.now)) }
+        (means_by around.now) (headers_by around.now table.now) (own_file_view file.now)) }
 {
     let mut lines = Vec::new(alloc);
     push_imports(
@@ -123,7 +123,7 @@ fn push_declarations(
     lines: &mut Vec<Line>,
 ) -> Result<(), NoMemory>
     ensures { OnOk result (map line_view lines.new.items ≡ map line_view lines.old.items ++ flat_map
-        (spec.declaration_defs file.now.stub (file_view file.now.file.now) (means_by around.now) (slot_of table.now))
+        (spec.declaration_defs file.now.stub (file_view file.now.file.now) (means_by around.now) (headers_by around.now table.now))
         (declarations_view declarations.now)) }
 {
     for declaration in declarations {
@@ -142,7 +142,7 @@ fn push_declaration(
     lines: &mut Vec<Line>,
 ) -> Result<(), NoMemory>
     ensures { OnOk result (map line_view lines.new.items ≡ map line_view lines.old.items
-        ++ spec.declaration_defs file.now.stub (file_view file.now.file.now) (means_by around.now) (slot_of table.now)
+        ++ spec.declaration_defs file.now.stub (file_view file.now.file.now) (means_by around.now) (headers_by around.now table.now)
         (declaration_view declaration.now)) }
 {
     if let Some(v) = value_over(around, table, declaration) {

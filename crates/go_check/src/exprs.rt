@@ -11,7 +11,7 @@ ghost use Rattle.go_names.specs.Views.{spec_view, specs_view};
 ghost use Rattle.go_expr.specs.Evaluated.{evaluated_view, evaluated_views};
 ghost use Rattle.go_check.specs.Lines.Nodes.{line_by};
 ghost use Rattle.go_check.specs.Lines.Found.{expr_lines, own_file_view};
-ghost use Rattle.go_expr.specs.Table.{slot_of};
+ghost use Rattle.go_expr.specs.Table.{headers_by};
 ghost use Rattle.go_expr.specs.View.{means_by};
 
 use crate::own_file::OwnFile;
@@ -33,7 +33,7 @@ pub fn found_exprs(
     table: &[Option<i128>],
 ) -> Result<Vec<Line>, NoMemory>
     ensures { IfOk result (λ lines. map line_view lines.items
-        ≡ expr_lines (means_by around.now) (slot_of table.now) (own_file_view file.now)) }
+        ≡ expr_lines (means_by around.now) (headers_by around.now table.now) (own_file_view file.now)) }
 {
     let mut lines = Vec::new(alloc);
     for spec in &written(alloc, &file.specs)? {
@@ -52,7 +52,7 @@ fn push_spec(
     lines: &mut Vec<Line>,
 ) -> Result<(), NoMemory>
     ensures { OnOk result (map line_view lines.new.items ≡ map line_view lines.old.items ++ flat_map
-        (rule.expr_at file.now.stub (file_view file.now.file.now) (means_by around.now) (slot_of table.now))
+        (rule.expr_at file.now.stub (file_view file.now.file.now) (means_by around.now) (headers_by around.now table.now))
         (nodes_in_parts (spec_view spec.now))) }
 {
     push_nodes(alloc, file, around, table, spec.types, lines)?;
@@ -69,7 +69,7 @@ fn push_nodes(
     lines: &mut Vec<Line>,
 ) -> Result<(), NoMemory>
     ensures { OnOk result (map line_view lines.new.items ≡ map line_view lines.old.items ++ flat_map
-        (rule.expr_at file.now.stub (file_view file.now.file.now) (means_by around.now) (slot_of table.now))
+        (rule.expr_at file.now.stub (file_view file.now.file.now) (means_by around.now) (headers_by around.now table.now))
         (flat_map nodes_in (map tree_of nodes.now))) }
 {
     for node in nodes {

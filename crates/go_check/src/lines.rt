@@ -6,7 +6,7 @@ ghost use Rattle.go_model.specs.PackageLines as spec;
 ghost use Rattle.go_model.specs.Report.{line_view};
 ghost use Rattle.go_check.specs.Lines.Found.{def_lines, expr_lines, own_files_in, own_files_view, use_lines};
 ghost use Rattle.go_check.specs.Lines.Ordered.{AddsInOrder};
-ghost use Rattle.go_expr.specs.Table.{slot_of};
+ghost use Rattle.go_expr.specs.Table.{headers_by};
 ghost use Rattle.go_expr.specs.View.{denotes_by, means_by};
 ghost use Rattle.go_check.specs.View.{outline_view};
 
@@ -32,7 +32,7 @@ pub fn lines_of(
 ) -> Result<Vec<Line>, NoMemory>
     ensures { IfOk result (λ lines. (k : ℕ) (p : PackageData) → own_files_view files.now ≡ own_files_in p
         → spec.AreLines (outline_view outline.now) k p (denotes_by around.now) (means_by around.now)
-        (slot_of table.now) (map line_view lines.items)) }
+        (headers_by around.now table.now) (map line_view lines.items)) }
 {
     let defs = all_defs(alloc, outline, files, around, table)?;
     let uses = all_uses(alloc, outline, files, around)?;
@@ -78,7 +78,7 @@ fn all_defs(
     table: &[Option<i128>],
 ) -> Result<Vec<Line>, NoMemory>
     ensures { IfOk result (λ lines. AreInOrder (map (def_lines (outline_view outline.now) (means_by around.now)
-        (slot_of table.now)) (own_files_view files.now)) (map line_view lines.items)) }
+        (headers_by around.now table.now)) (own_files_view files.now)) (map line_view lines.items)) }
 {
     let mut lines = Vec::new(alloc);
     for file in files {
@@ -111,7 +111,7 @@ fn all_exprs(
     around: &Around,
     table: &[Option<i128>],
 ) -> Result<Vec<Line>, NoMemory>
-    ensures { IfOk result (λ lines. AreInOrder (map (expr_lines (means_by around.now) (slot_of table.now))
+    ensures { IfOk result (λ lines. AreInOrder (map (expr_lines (means_by around.now) (headers_by around.now table.now))
         (own_files_view files.now)) (map line_view lines.items)) }
 {
     let mut lines = Vec::new(alloc);

@@ -16,7 +16,7 @@ ghost use Rattle.go_names.specs.Views.{declarations_view};
 ghost use Rattle.go_check.specs.Lines.Found.{own_files_in, own_files_view};
 ghost use Rattle.go_check.specs.Packages.Denoted.{AreDenoted, AreUses};
 ghost use Rattle.go_check.specs.Packages.Names.{ImportsSound, sound_at};
-ghost use Rattle.go_expr.specs.Table.{slot_of};
+ghost use Rattle.go_expr.specs.Table.{headers_by};
 ghost use Rattle.go_check.specs.Packages.Verdicts.{IsAccepting};
 ghost use Rattle.go_expr.specs.View.{IsAround, denotes_by, means_by};
 ghost use Rattle.go_check.specs.View.{outline_view};
@@ -157,9 +157,9 @@ fn accept(
 ) -> Result<Judged, NoMemory>
     ensures verdict { IfOk result (λ judged. (k : ℕ) (p : PackageData) → own_files_view files.now ≡ own_files_in p
         → IsAccepting (outline_view outline.now) k p (denotes_by around.now) (means_by around.now)
-        (slot_of table.now) (verdict_view judged.verdict)) }
+        (headers_by around.now table.now) (verdict_view judged.verdict)) }
     ensures values { IfOk result (λ judged. judged.values.items
-        ≡ phases.values_of (means_by around.now) (slot_of table.now) (declarations_view declarations.now)) }
+        ≡ phases.values_of (means_by around.now) (headers_by around.now table.now) (declarations_view declarations.now)) }
 {
     let lines = lines_of(alloc, outline, files, around, table)?;
     let named = named_in(alloc, outline, &lines)?;
@@ -178,7 +178,7 @@ fn values_of(
     declarations: &[Declaration],
 ) -> Result<Vec<(ObjId, i128)>, NoMemory>
     ensures { IfOk result (λ values. values.items
-        ≡ phases.values_of (means_by around.now) (slot_of table.now) (declarations_view declarations.now)) }
+        ≡ phases.values_of (means_by around.now) (headers_by around.now table.now) (declarations_view declarations.now)) }
 {
     let mut values = Vec::new(alloc);
     for declaration in declarations {

@@ -9,7 +9,7 @@ ghost use Rattle.go_module.specs.Names.Declarations.{declarations_of};
 ghost use Rattle.go_model.specs.Values.Rules as rules;
 ghost use Rattle.go_names.specs.Views.{declaration_view, declarations_view, specs_view};
 ghost use Rattle.go_check.specs.Lines.Found.{all_specs_in, own_files_in, own_files_view};
-ghost use Rattle.go_expr.specs.Table.{slot_of};
+ghost use Rattle.go_expr.specs.Table.{headers_by};
 ghost use Rattle.go_expr.specs.View.{means_by};
 
 use crate::broken::push_spec;
@@ -36,7 +36,7 @@ pub fn broken_values(
 ) -> Result<Vec<Broken>, NoMemory>
     requires files { own_files_view files.now ≡ own_files_in (package_view own.now) }
     requires declarations { declarations_view declarations.now ≡ declarations_of (package_view own.now) }
-    ensures { IfOk result (λ list. IsListOf (rules.broken_values (means_by around.now) (slot_of table.now)
+    ensures { IfOk result (λ list. IsListOf (rules.broken_values (means_by around.now) (headers_by around.now table.now)
         (marking.is_marked cyclic.now) (package_view own.now)) list.items) }
 {
     let mut found = Vec::new(alloc);
@@ -86,7 +86,7 @@ fn push_files(
     found: &mut Vec<Broken>,
 ) -> Result<(), NoMemory>
     ensures { OnOk result (found.new.items ≡ found.old.items
-        ++ flat_map (rules.broken_spec (means_by around.now) (slot_of table.now))
+        ++ flat_map (rules.broken_spec (means_by around.now) (headers_by around.now table.now))
         (all_specs_in (own_files_view files.now))) }
 {
     for file in files {
@@ -104,7 +104,7 @@ fn push_specs(
     found: &mut Vec<Broken>,
 ) -> Result<(), NoMemory>
     ensures { OnOk result (found.new.items ≡ found.old.items
-        ++ flat_map (rules.broken_spec (means_by around.now) (slot_of table.now)) (specs_view specs.now)) }
+        ++ flat_map (rules.broken_spec (means_by around.now) (headers_by around.now table.now)) (specs_view specs.now)) }
 {
     for spec in specs {
         push_spec(alloc, around, table, spec, found)?;

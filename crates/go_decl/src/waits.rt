@@ -8,7 +8,7 @@ ghost use Rattle.go_expr.specs.Evaluated.{evaluated_view, evaluated_views};
 ghost use Rattle.go_model.specs.Outcomes.Readings.{awaited_in};
 ghost use Rattle.go_model.specs.Values.Waiting.{Chain, awaited_by, awaited_by_nodes};
 ghost use Rattle.go_decl.specs.Waits.{waits_of};
-ghost use Rattle.go_expr.specs.Table.{slot_of};
+ghost use Rattle.go_expr.specs.Table.{headers_by};
 ghost use Rattle.go_expr.specs.View.{PlacesBelow, means_by};
 
 use go_base::NoMemory;
@@ -28,7 +28,7 @@ pub fn cyclic_declarations(
     requires { PlacesBelow (length declarations.now) around.now }
     ensures length { IfOk result (λ cyclic. length cyclic.items ≡ length declarations.now) }
     ensures exact { IfOk result (λ cyclic. (d : ℕ) → (is_marked cyclic.items d ≡ true)
-        ↔ Chain (means_by around.now) (declarations_view declarations.now) (slot_of table.now) d d) }
+        ↔ Chain (means_by around.now) (declarations_view declarations.now) (headers_by around.now table.now) d d) }
 {
     let waits = waits_of(alloc, around, table, declarations)?;
     cyclic_vertices(alloc, &waits)
@@ -42,7 +42,7 @@ fn waits_of(
     declarations: &[Declaration],
 ) -> Result<Vec<Numbers>, NoMemory>
     ensures { IfOk result (λ waits. waits.items
-        ≡ waits_of (means_by around.now) (slot_of table.now) (declarations_view declarations.now)) }
+        ≡ waits_of (means_by around.now) (headers_by around.now table.now) (declarations_view declarations.now)) }
 {
     let mut waits = Vec::new(alloc);
     for declaration in declarations {
@@ -59,7 +59,7 @@ fn awaited_by(
     declaration: &Declaration,
 ) -> Result<Numbers, NoMemory>
     ensures { IfOk result (λ places. places
-        ≡ awaited_by (means_by around.now) (slot_of table.now) (declaration_view declaration.now)) }
+        ≡ awaited_by (means_by around.now) (headers_by around.now table.now) (declaration_view declaration.now)) }
 {
     let mut places = Numbers::new(alloc);
     push_awaited(alloc, around, table, declaration.types, &mut places)?;
@@ -76,7 +76,7 @@ fn push_awaited(
     places: &mut Numbers,
 ) -> Result<(), NoMemory>
     ensures { OnOk result (places.new ≡ places.old
-        ++ flat_map (awaited_by_nodes (means_by around.now) (slot_of table.now)) (map tree_of nodes.now)) }
+        ++ flat_map (awaited_by_nodes (means_by around.now) (headers_by around.now table.now)) (map tree_of nodes.now)) }
 {
     for node in nodes {
         push_awaited_in(alloc, around, table, node, places)?;
@@ -93,7 +93,7 @@ fn push_awaited_in(
     places: &mut Numbers,
 ) -> Result<(), NoMemory>
     ensures { OnOk result (places.new
-        ≡ places.old ++ awaited_by_nodes (means_by around.now) (slot_of table.now) (tree_of node.now)) }
+        ≡ places.old ++ awaited_by_nodes (means_by around.now) (headers_by around.now table.now) (tree_of node.now)) }
 {
     let list = evaluate(alloc, around, table, node)?;
     push_each(&list, places)?;

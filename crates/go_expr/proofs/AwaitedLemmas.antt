@@ -1,6 +1,7 @@
 -- Where the outcome of a node waits: for what an identifier in it means.
-use Rattle.std.proofs.Common.{◌≡◌, ℕ, ℤ, pos, Bool, true, false, Option, Some, None, [], ◌∷◌, ◌⊎◌, inl, inr, ap, ◌∙◌}
+use Rattle.std.proofs.Common.{◌≡◌, ℕ, ℤ, pos, Bool, true, false, Option, Some, None, [], ◌∷◌, ◌⊎◌, inl, inr, refl, subst, ◌∙◌}
 use Rattle.std.specs.Prelude.{is_some}
+use Rattle.go_base.specs.declared.ids.ObjId.{ObjId}
 use Rattle.go_base.specs.declared.rule.Rule.{Rule}
 use Rattle.go_num.specs.declared.arithmetic.IntOp.TheVariants.{Add}
 use Rattle.go_num.specs.Arithmetic.{binary_value, limited}
@@ -9,7 +10,7 @@ use Rattle.go_tree.specs.Lexical.LiteralValues.{int_lit_value}
 use Rattle.go_tree.specs.Tree.{Tree, branch, id_of, more_trees, no_trees}
 use Rattle.go_module.specs.Rules.{unbuilt_form}
 use Rattle.go_model.specs.declared.meaning.Meaning.{Meaning}
-use Rattle.go_model.specs.declared.meaning.Meaning.TheVariants.{Other, Outer, Own, Predeclared}
+use Rattle.go_model.specs.declared.meaning.Meaning.TheVariants.{Declared, Other, Predeclared}
 use Rattle.go_model.specs.declared.outcome.Spot.TheVariants.{Whole}
 use Rattle.go_model.specs.Outcomes.Constructs.Limits.{wide_integer}
 use Rattle.go_model.specs.Outcomes.Constructs.Name.{name}
@@ -34,20 +35,27 @@ nothing_waits d e = cc
 found_waits : (x : ℤ) (d : ℕ) → Found x ≡ Waits d → ⊥
 found_waits x d e = cc
 
-own_waits : (place : ℕ) (o : Option ℤ) (d : ℕ) → made (elim o as (λ _. Asked ℤ) [ None ↦ Lacks place | Some h ↦ Decided h ]) ≡ Waits d → Own place ≡ Own d
-own_waits place None d e = let same : ◌≡◌ {A = OutcomeData ℤ} (Waits place) (Waits d) = e in let is : place ≡ d = cc in ap Own is
-own_waits place (Some h) d e = absurd (found_waits h d e)
+-- an object that an identifier means has that number
+pub record Names (m : Meaning) (d : ℕ) : Type 0 where
+  pub object : ObjId
+  pub means : m ≡ Declared object
+  pub number : object.0 ≡ d
+
+declared_waits : (object : ObjId) (o : Option ℤ) (d : ℕ) → made (elim o as (λ _. Asked ℤ) [ None ↦ Lacks object.0 | Some h ↦ Decided h ]) ≡ Waits d → Names (Declared object) d
+declared_waits object None d e =
+    let same : ◌≡◌ {A = OutcomeData ℤ} (Waits object.0) (Waits d) = e in
+    let is : object.0 ≡ d = cc in
+    record { object = object; means = refl; number = is }
+declared_waits object (Some h) d e = absurd (found_waits h d e)
 
 module _ (headers : Headers) where
-  name_waits : (m : Meaning) (d : ℕ) → judged headers (name m) [] ≡ Waits d → m ≡ Own d
-  name_waits (Own place) d e = own_waits place (headers place) d e
-  name_waits (Outer v) d e = absurd (found_waits v d e)
+  name_waits : (m : Meaning) (d : ℕ) → judged headers (name m) [] ≡ Waits d → Names m d
+  name_waits (Declared object) d e = declared_waits object (headers object.0) d e
   name_waits Predeclared d e = absurd (let never : ◌≡◌ {A = OutcomeData ℤ} (Broken unbuilt_form (Whole ∷ [])) (Waits d) = e in cc)
   name_waits Other d e = absurd (nothing_waits d e)
 
-  selector_waits : (m : Meaning) (x : OutcomeData ℤ) (d : ℕ) → judged headers (selector m) (x ∷ []) ≡ Waits d → (m ≡ Own d) ⊎ (x ≡ Waits d)
-  selector_waits (Own place) x d e = inl (own_waits place (headers place) d e)
-  selector_waits (Outer v) x d e = absurd (found_waits v d e)
+  selector_waits : (m : Meaning) (x : OutcomeData ℤ) (d : ℕ) → judged headers (selector m) (x ∷ []) ≡ Waits d → Names m d ⊎ (x ≡ Waits d)
+  selector_waits (Declared object) x d e = inl (declared_waits object (headers object.0) d e)
   selector_waits Predeclared x d e = absurd (let never : ◌≡◌ {A = OutcomeData ℤ} (Broken unbuilt_form (Whole ∷ [])) (Waits d) = e in cc)
   selector_waits Other (Found v) d e = absurd (let never : ◌≡◌ {A = OutcomeData ℤ} (Broken unbuilt_form (Whole ∷ [])) (Waits d) = e in cc)
   selector_waits Other (Broken rule spots) d e = absurd (nothing_waits d e)
@@ -72,15 +80,18 @@ module _ (headers : Headers) where
   sum_waits (Broken rule spots) y d e = absurd (nothing_waits d e)
   sum_waits Nothing y d e = absurd (nothing_waits d e)
 
--- what holds of each place that an identifier means holds of each place that a node waits for
-module _ (P : ℕ → Type 0) (means : ℕ → Meaning) (headers : Headers) (each : (id place : ℕ) → means id ≡ Own place → P place) where
+-- what holds of each object that an identifier means holds of each that a node waits for
+module _ (P : ℕ → Type 0) (means : ℕ → Meaning) (headers : Headers) (each : (id : ℕ) (object : ObjId) → means id ≡ Declared object → P object.0) where
+  named : (id d : ℕ) → Names (means id) d → P d
+  named id d n = subst P n.number (each id n.object n.means)
+
   by_waits : (t : Tree) (d : ℕ) → outcome_by_operands means headers t ≡ Waits d → P d
   by_waits (branch id from to IntLit text parts) d e = absurd (never_waits headers wide_integer (pos (int_lit_value text)) (is_some (limited (pos (int_lit_value text)))) d e)
-  by_waits (branch id from to Name text parts) d e = each id d (name_waits headers (means id) d e)
+  by_waits (branch id from to Name text parts) d e = named id d (name_waits headers (means id) d e)
   by_waits (branch id from to SelectorExpr text (more_trees a (more_trees b no_trees))) d e = by_either (selector_waits headers (means (id_of b)) (outcome_by_operands means headers a) d e) (by_waits a d)
     where
-      by_either : (means (id_of b) ≡ Own d) ⊎ (outcome_by_operands means headers a ≡ Waits d) → (outcome_by_operands means headers a ≡ Waits d → P d) → P d
-      by_either (inl own) inner = each (id_of b) d own
+      by_either : Names (means (id_of b)) d ⊎ (outcome_by_operands means headers a ≡ Waits d) → (outcome_by_operands means headers a ≡ Waits d → P d) → P d
+      by_either (inl names) inner = named (id_of b) d names
       by_either (inr waits) inner = inner waits
   by_waits (branch id from to ParenExpr text (more_trees a no_trees)) d e = by_waits a d (parentheses_wait headers (outcome_by_operands means headers a) d e)
   by_waits (branch id from to AddExpr text (more_trees a (more_trees b no_trees))) d e = by_either (sum_waits headers (outcome_by_operands means headers a) (outcome_by_operands means headers b) d e) (by_waits a d) (by_waits b d)

@@ -7,7 +7,7 @@ use Rattle.go_tree.specs.declared.node_kind.NodeKind.TheVariants.{AddExpr, IntLi
 use Rattle.go_tree.specs.Tree.{Tree, branch, id_of, kind_of, more_trees, no_trees, parts_of, text_of}
 use Rattle.go_module.specs.Names.Inner.{inner_parts}
 use Rattle.go_model.specs.declared.meaning.Meaning.{Meaning}
-use Rattle.go_model.specs.declared.meaning.Meaning.TheVariants.{Other, Outer, Own, Predeclared}
+use Rattle.go_model.specs.declared.meaning.Meaning.TheVariants.{Declared, Other, Predeclared}
 use Rattle.go_model.specs.Outcomes.Constructs.Limits.{wide_integer}
 use Rattle.go_model.specs.Outcomes.Constructs.Literal.{literal}
 use Rattle.go_model.specs.Outcomes.Constructs.Name.{name}
@@ -39,15 +39,13 @@ limited_outcome headers x = by_limit headers x (limited x) refl
 
 -- an identifier has no operand
 name_parts : (headers : Headers) (m : Meaning) (xs ys : List (OutcomeData ℤ)) → judged headers (name m) xs ≡ judged headers (name m) ys
-name_parts headers (Own place) xs ys = refl
-name_parts headers (Outer v) xs ys = refl
+name_parts headers (Declared d) xs ys = refl
 name_parts headers Predeclared xs ys = refl
 name_parts headers Other xs ys = refl
 
 -- the name behind a `.` is no operand
 selector_parts : (headers : Headers) (m : Meaning) (x : OutcomeData ℤ) (xs ys : List (OutcomeData ℤ)) → judged headers (selector m) (x ∷ xs) ≡ judged headers (selector m) (x ∷ ys)
-selector_parts headers (Own place) x xs ys = refl
-selector_parts headers (Outer v) x xs ys = refl
+selector_parts headers (Declared d) x xs ys = refl
 selector_parts headers Predeclared x xs ys = refl
 selector_parts headers Other x xs ys = refl
 
@@ -89,8 +87,7 @@ module _ (means : ℕ → Meaning) (headers : Headers) where
 
 -- a selector of a name of a package is as that name
 pub name_selector : (headers : Headers) (m : Meaning) (x : OutcomeData ℤ) (xs : List (OutcomeData ℤ)) → (m ≡ Other → ⊥) → judged headers (name m) (x ∷ xs) ≡ judged headers (selector m) (x ∷ xs)
-name_selector headers (Own place) x xs other = refl
-name_selector headers (Outer v) x xs other = refl
+name_selector headers (Declared d) x xs other = refl
 name_selector headers Predeclared x xs other = refl
 name_selector headers Other x xs other = absurd (other refl)
 

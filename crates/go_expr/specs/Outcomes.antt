@@ -22,7 +22,7 @@ use Rattle.go_expr.specs.declared.node_outcome.NodeOutcome.TheVariants.{Broken, 
 abbrev pub outcome_view : NodeOutcome → OutcomeData ℤ
 outcome_view (Found v) = outcomes.Found v
 outcome_view (Broken rule) = outcomes.Broken rule (Whole ∷ [])
-outcome_view (Waits d) = outcomes.Waits d
+outcome_view (Waits d) = outcomes.Waits d.0
 outcome_view Nothing = outcomes.Nothing
 
 -- a value within the limits, or the rule that it breaks

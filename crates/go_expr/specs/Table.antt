@@ -1,7 +1,17 @@
--- A table of headers, one slot for each declaration.
-use Rattle.std.specs.Prelude.{ℤ, Option, None, List, slice_get, unwrap_or}
+-- A table of headers, one slot for each declaration of the package.
+use Rattle.std.specs.Prelude.{ℕ, ℤ, Option, None, Some, List, slice_get, unwrap_or}
 use Rattle.go_model.specs.Outcomes.Walk.{Headers}
+use Rattle.go_expr.specs.declared.around.Around.{Around}
+use Rattle.go_expr.specs.View.{before_by, places_by}
 
--- what a table has for the declaration at each place
-abbrev pub slot_of : List (Option ℤ) → Headers
-slot_of table d = unwrap_or (slice_get table d) None
+-- what a table has at a place
+abbrev pub slot_of : List (Option ℤ) → ℕ → Option ℤ
+slot_of table place = unwrap_or (slice_get table place) None
+
+abbrev pub header_at : List (Option ℤ) → Option ℤ → Option ℕ → Option ℤ
+header_at table before (Some place) = slot_of table place
+header_at table before None = before
+
+-- what the table has for the declarations of the package, and else what is known before
+abbrev pub headers_by : Around → List (Option ℤ) → Headers
+headers_by around table d = header_at table (before_by around d) (places_by around (record { 0 = d }))

@@ -2,7 +2,8 @@
 // identifiers").
 ghost use Rattle.std.specs.Prelude.{◌≡◌};
 ghost use Rattle.go_model.specs.Values.Meaning as spec;
-ghost use Rattle.go_expr.specs.View.{denotes_by, means_by, places_by};
+ghost use Rattle.go_expr.specs.Table.{headers_by, slot_of};
+ghost use Rattle.go_expr.specs.View.{declares_by, denotes_by, means_by};
 
 use go_model::Meaning;
 use go_module::{FIRST_NUMBER, ObjId};
@@ -10,7 +11,7 @@ use go_tree::NodeId;
 use indexmap::IndexMap;
 
 /// What is known round the declarations of a package: what its names denote, the places of its declarations by their
-/// numbers, and the values of the constants of packages that stand before.
+/// numbers, and the headers of declarations of packages that stand before.
 #[derive(Clone, Copy)]
 pub struct Around<'a> {
     pub uses: &'a IndexMap<NodeId, ObjId>,
@@ -38,24 +39,38 @@ impl<'a> Around<'a> {
 
     // What an object means.
     fn object_meaning(&self, d: ObjId) -> Meaning
-        ensures { result ≡ spec.object_meaning (places_by self.now) self.now.before.now.entries d }
+        ensures { result ≡ spec.object_meaning (declares_by self.now) d }
     {
         if d.0 < FIRST_NUMBER {
-            return Meaning::Predeclared;
-        }
-        match self.places.get(&d) {
-            Some(place) => Meaning::Own(*place),
-            None => self.outer_meaning(d),
+            Meaning::Predeclared
+        } else if self.declares(d) {
+            Meaning::Declared(d)
+        } else {
+            Meaning::Other
         }
     }
 
-    // What an object means that the package does not declare.
-    fn outer_meaning(&self, d: ObjId) -> Meaning
-        ensures { result ≡ spec.declared_meaning self.now.before.now.entries d None }
+    // Whether an object is a declaration of the package, or one with a header before.
+    fn declares(&self, d: ObjId) -> bool
+        ensures { result ≡ declares_by self.now d }
     {
-        match self.before.get(&d) {
-            Some(value) => Meaning::Outer(*value),
-            None => Meaning::Other,
+        self.places.get(&d).is_some() || self.before.get(&d).is_some()
+    }
+
+    /// The header of a declaration, which the table has at its place, or which is known before.
+    pub fn header(&self, table: &[Option<i128>], d: ObjId) -> Option<i128>
+        ensures { result ≡ headers_by self.now table.now d.0 }
+    {
+        match self.places.get(&d) {
+            Some(place) => slot(table, *place),
+            None => self.before.get(&d).copied(),
         }
     }
+}
+
+// What the table has at a place.
+fn slot(table: &[Option<i128>], place: usize) -> Option<i128>
+    ensures { result ≡ slot_of table.now place }
+{
+    table.get(place).copied()?
 }

@@ -7,7 +7,7 @@ ghost use Rattle.go_expr.specs.Evaluated as spec;
 ghost use Rattle.go_expr.specs.Evaluated.{all_evaluated, evaluated_views};
 ghost use Rattle.go_expr.specs.Outcomes.{both_of, only_of, outcome_by_parts, outcome_view};
 ghost use Rattle.go_expr.specs.Outcomes.{parentheses_by_parts, selector_by_parts, sum_by_parts};
-ghost use Rattle.go_expr.specs.Table.{slot_of};
+ghost use Rattle.go_expr.specs.Table.{headers_by};
 ghost use Rattle.go_expr.specs.View.{means_by};
 
 use crate::around::Around;
@@ -38,7 +38,7 @@ pub fn evaluate<'a>(
     node: &'a Node,
 ) -> Result<Vec<Evaluated<'a>>, NoMemory>
     ensures { IfOk result (λ list. evaluated_views list.items
-        ≡ all_evaluated (means_by around.now) (slot_of table.now) (tree_of node.now)) }
+        ≡ all_evaluated (means_by around.now) (headers_by around.now table.now) (tree_of node.now)) }
 {
     let mut list = Vec::new(alloc);
     push_evaluated(alloc, around, table, node, &mut list)?;
@@ -56,9 +56,9 @@ fn push_evaluated<'a>(
     list: &mut Vec<Evaluated<'a>>,
 ) -> Result<NodeOutcome, NoMemory>
     ensures outcome { IfOk result (λ found.
-        outcome_view found ≡ outcome (means_by around.now) (slot_of table.now) (tree_of node.now)) }
+        outcome_view found ≡ outcome (means_by around.now) (headers_by around.now table.now) (tree_of node.now)) }
     ensures list { OnOk result (evaluated_views list.new.items ≡ evaluated_views list.old.items
-        ++ reverse (all_evaluated (means_by around.now) (slot_of table.now) (tree_of node.now))) }
+        ++ reverse (all_evaluated (means_by around.now) (headers_by around.now table.now) (tree_of node.now))) }
 {
     let inner = inner_parts(alloc, node)?;
     let mut outcomes = Vec::new(alloc);
@@ -79,8 +79,8 @@ fn with_outcome<'a>(
     outcomes: &[NodeOutcome],
 ) -> Evaluated<'a>
     requires { map outcome_view outcomes.now
-        ≡ map (outcome (means_by around.now) (slot_of table.now)) (inner_parts (tree_of node.now)) }
-    ensures { spec.evaluated_view result ≡ spec.evaluated (means_by around.now) (slot_of table.now) (tree_of node.now) }
+        ≡ map (outcome (means_by around.now) (headers_by around.now table.now)) (inner_parts (tree_of node.now)) }
+    ensures { spec.evaluated_view result ≡ spec.evaluated (means_by around.now) (headers_by around.now table.now) (tree_of node.now) }
 {
     Evaluated {
         node,
@@ -96,14 +96,14 @@ fn found_by_parts(
     outcomes: &[NodeOutcome],
 ) -> NodeOutcome
     ensures { outcome_view result
-        ≡ outcome_by_parts (means_by around.now) (slot_of table.now) (tree_of node.now)
+        ≡ outcome_by_parts (means_by around.now) (headers_by around.now table.now) (tree_of node.now)
         (map outcome_view outcomes.now) }
 {
     match node.kind() {
         NodeKind::IntLit => literal(node.text()),
-        NodeKind::Name => name(table, around.meaning(node.id())),
+        NodeKind::Name => name(around, table, around.meaning(node.id())),
         NodeKind::SelectorExpr => match node.both_parts() {
-            Some((_, f)) => selector_by_parts(table, around.meaning(f.id()), outcomes),
+            Some((_, f)) => selector_by_parts(around, table, around.meaning(f.id()), outcomes),
             None => NodeOutcome::Nothing,
         },
         NodeKind::ParenExpr => parentheses_by_parts(outcomes),
@@ -113,14 +113,15 @@ fn found_by_parts(
 }
 
 fn selector_by_parts(
+    around: &Around,
     table: &[Option<i128>],
     meaning: Meaning,
     outcomes: &[NodeOutcome],
 ) -> NodeOutcome
-    ensures { outcome_view result ≡ selector_by_parts (slot_of table.now) meaning (map outcome_view outcomes.now) }
+    ensures { outcome_view result ≡ selector_by_parts (headers_by around.now table.now) meaning (map outcome_view outcomes.now) }
 {
     match only(outcomes) {
-        Some(operand) => selector(table, meaning, operand),
+        Some(operand) => selector(around, table, meaning, operand),
         None => NodeOutcome::Nothing,
     }
 }

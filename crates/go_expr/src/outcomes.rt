@@ -8,7 +8,7 @@ ghost use Rattle.go_model.specs.Outcomes.Readings.{record_in};
 ghost use Rattle.go_model.specs.Values.Records as records;
 ghost use Rattle.go_names.specs.Views.{declaration_view};
 ghost use Rattle.go_expr.specs.Outcomes.{outcome_by_operands, outcome_view};
-ghost use Rattle.go_expr.specs.Table.{slot_of};
+ghost use Rattle.go_expr.specs.Table.{headers_by};
 ghost use Rattle.go_expr.specs.View.{means_by};
 
 use crate::around::Around;
@@ -24,20 +24,20 @@ use go_tree::{Node, NodeKind};
 
 /// The outcome of a node of an expression over the headers that the table has.
 pub fn outcome(around: &Around, table: &[Option<i128>], node: &Node) -> NodeOutcome
-    ensures { outcome_view result ≡ walk.outcome (means_by around.now) (slot_of table.now) (tree_of node.now) }
+    ensures { outcome_view result ≡ walk.outcome (means_by around.now) (headers_by around.now table.now) (tree_of node.now) }
 {
     found(around, table, node)
 }
 
 // The outcome as it is found, by the kind of the node, from those of its operands.
 fn found(around: &Around, table: &[Option<i128>], node: &Node) -> NodeOutcome
-    ensures { outcome_view result ≡ outcome_by_operands (means_by around.now) (slot_of table.now) (tree_of node.now) }
+    ensures { outcome_view result ≡ outcome_by_operands (means_by around.now) (headers_by around.now table.now) (tree_of node.now) }
 {
     match node.kind() {
         NodeKind::IntLit => literal(node.text()),
-        NodeKind::Name => name(table, around.meaning(node.id())),
+        NodeKind::Name => name(around, table, around.meaning(node.id())),
         NodeKind::SelectorExpr => match node.both_parts() {
-            Some((x, f)) => selector(table, around.meaning(f.id()), found(around, table, x)),
+            Some((x, f)) => selector(around, table, around.meaning(f.id()), found(around, table, x)),
             None => NodeOutcome::Nothing,
         },
         NodeKind::ParenExpr => match node.only_part() {
@@ -54,7 +54,7 @@ fn found(around: &Around, table: &[Option<i128>], node: &Node) -> NodeOutcome
 
 /// The record of an expression, its value, over the headers that the table has; None where its outcome is another.
 pub fn record(around: &Around, table: &[Option<i128>], node: &Node) -> Option<i128>
-    ensures { result ≡ records.record_of (means_by around.now) (slot_of table.now) (tree_of node.now) }
+    ensures { result ≡ records.record_of (means_by around.now) (headers_by around.now table.now) (tree_of node.now) }
 {
     outcome(around, table, node).record()
 }
@@ -79,7 +79,7 @@ pub fn value_over(
     table: &[Option<i128>],
     declaration: &Declaration,
 ) -> Option<i128>
-    ensures { result ≡ records.value_over (means_by around.now) (slot_of table.now)
+    ensures { result ≡ records.value_over (means_by around.now) (headers_by around.now table.now)
         (declaration_view declaration.now) }
 {
     record(around, table, bound_value(declaration)?)

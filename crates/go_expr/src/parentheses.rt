@@ -14,7 +14,7 @@ pub fn parentheses(part: NodeOutcome) -> NodeOutcome
 {
     match part {
         NodeOutcome::Found(value) => NodeOutcome::Found(value),
-        NodeOutcome::Waits(place) => NodeOutcome::Waits(place),
+        NodeOutcome::Waits(d) => NodeOutcome::Waits(d),
         NodeOutcome::Broken(_) => NodeOutcome::Nothing,
         NodeOutcome::Nothing => NodeOutcome::Nothing,
     }

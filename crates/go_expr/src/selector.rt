@@ -5,8 +5,9 @@ ghost use Rattle.go_model.specs.Outcomes.Constructs.Selector as spec;
 ghost use Rattle.go_model.specs.Outcomes.Judged.{OutcomeData, judged};
 ghost use Rattle.go_model.specs.Outcomes.Walk.{Headers};
 ghost use Rattle.go_expr.specs.Outcomes.{outcome_view};
-ghost use Rattle.go_expr.specs.Table.{slot_of};
+ghost use Rattle.go_expr.specs.Table.{headers_by};
 
+use crate::around::Around;
 use crate::name::name;
 use crate::node_outcome::NodeOutcome;
 use go_model::Meaning;
@@ -14,15 +15,19 @@ use go_module::UNBUILT_FORM;
 
 /// `x.f`, by what f means and by the outcome of x: a name of a package is as that name; a selector of a value breaks
 /// U0.
-pub fn selector(table: &[Option<i128>], meaning: Meaning, operand: NodeOutcome) -> NodeOutcome
+pub fn selector(
+    around: &Around,
+    table: &[Option<i128>],
+    meaning: Meaning,
+    operand: NodeOutcome,
+) -> NodeOutcome
     ensures { (parts : List (OutcomeData ℤ)) → outcome_view result
-        ≡ judged (slot_of table.now) (spec.selector meaning) (outcome_view operand ∷ parts) }
+        ≡ judged (headers_by around.now table.now) (spec.selector meaning) (outcome_view operand ∷ parts) }
 {
     match meaning {
         Meaning::Other => of_value(operand),
-        Meaning::Own(_) => name(table, meaning),
-        Meaning::Outer(_) => name(table, meaning),
-        Meaning::Predeclared => name(table, meaning),
+        Meaning::Declared(_) => name(around, table, meaning),
+        Meaning::Predeclared => name(around, table, meaning),
     }
 }
 
@@ -33,7 +38,7 @@ fn of_value(operand: NodeOutcome) -> NodeOutcome
 {
     match operand {
         NodeOutcome::Found(_) => NodeOutcome::Broken(UNBUILT_FORM),
-        NodeOutcome::Waits(place) => NodeOutcome::Waits(place),
+        NodeOutcome::Waits(d) => NodeOutcome::Waits(d),
         NodeOutcome::Broken(_) => NodeOutcome::Nothing,
         NodeOutcome::Nothing => NodeOutcome::Nothing,
     }

@@ -10,6 +10,7 @@ ghost use Rattle.go_expr.specs.Outcomes.{outcome_view};
 
 use crate::literal::limited_outcome;
 use crate::node_outcome::NodeOutcome;
+use go_module::ObjId;
 use go_num::{IntOp, int_binary};
 
 /// A sum, by the outcomes of its operands: L2 where its value is outside the limits.
@@ -19,7 +20,7 @@ pub fn sum(left: NodeOutcome, right: NodeOutcome) -> NodeOutcome
 {
     match left {
         NodeOutcome::Found(value) => sum_of_found(value, right),
-        NodeOutcome::Waits(place) => sum_of_waiting(place, right),
+        NodeOutcome::Waits(d) => sum_of_waiting(d, right),
         NodeOutcome::Broken(_) => NodeOutcome::Nothing,
         NodeOutcome::Nothing => NodeOutcome::Nothing,
     }
@@ -32,20 +33,20 @@ fn sum_of_found(value: i128, right: NodeOutcome) -> NodeOutcome
 {
     match right {
         NodeOutcome::Found(other) => limited_outcome(sum_of(value, other)),
-        NodeOutcome::Waits(place) => NodeOutcome::Waits(place),
+        NodeOutcome::Waits(d) => NodeOutcome::Waits(d),
         NodeOutcome::Broken(_) => NodeOutcome::Nothing,
         NodeOutcome::Nothing => NodeOutcome::Nothing,
     }
 }
 
-// A sum whose left operand waits for the declaration at this place.
-fn sum_of_waiting(place: usize, right: NodeOutcome) -> NodeOutcome
+// A sum whose left operand waits for this declaration.
+fn sum_of_waiting(d: ObjId, right: NodeOutcome) -> NodeOutcome
     ensures { (headers : Headers) (parts : List (OutcomeData ℤ)) → outcome_view result
-        ≡ judged headers spec.sum (outcomes.Waits place ∷ (outcome_view right ∷ parts)) }
+        ≡ judged headers spec.sum (outcomes.Waits d.0 ∷ (outcome_view right ∷ parts)) }
 {
     match right {
-        NodeOutcome::Found(_) => NodeOutcome::Waits(place),
-        NodeOutcome::Waits(_) => NodeOutcome::Waits(place),
+        NodeOutcome::Found(_) => NodeOutcome::Waits(d),
+        NodeOutcome::Waits(_) => NodeOutcome::Waits(d),
         NodeOutcome::Broken(_) => NodeOutcome::Nothing,
         NodeOutcome::Nothing => NodeOutcome::Nothing,
     }

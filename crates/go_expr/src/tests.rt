@@ -45,7 +45,7 @@ fn a_node_comes_to_what_its_operands_do(rt: HostRuntime) -> Result<(), Fail> {
         places: &places,
         before: &before,
     };
-    let waits = NodeOutcome::Waits(0);
+    let waits = NodeOutcome::Waits(ObjId(49));
     let found = NodeOutcome::Found;
     let cases = [
         (Some(2), [found(3), found(3), found(1), found(2)]),

@@ -7,7 +7,7 @@ use Rattle.go_names.proofs.WalkLemmas.{inner_part_smaller}
 use Rattle.go_names.specs.Views.{trees_at}
 use Rattle.go_tree.specs.Tree.{tree_of}
 use Rattle.go_expr.specs.Evaluated.{all_evaluated, evaluated_view, evaluated_views}
-use Rattle.go_expr.specs.Table.{slot_of}
+use Rattle.go_expr.specs.Table.{headers_by}
 use Rattle.go_expr.specs.View.{means_by}
 use Rattle.go_expr.proofs.EvaluatedLemmas.{map-append, map-reverse, node_done}
 use Rattle.go_expr.proofs.evaluated.+push_evaluated.Goals as goal
@@ -20,7 +20,7 @@ push_evaluated-requires t c =
 
 pub with_outcome-made-requires : goal.with_outcome-made-requires
 with_outcome-made-requires t c =
-    let outcomes = outcome (means_by c.args.around.now) (slot_of c.args.table.now) in
+    let outcomes = outcome (means_by c.args.around.now) (headers_by c.args.around.now c.args.table.now) in
     let first : c.loop-place.place ≡ 0 = omega arith in
     ap (map outcome_view) (c.deref.ensures.value ∙ c.reverse.ensures.items)
     ∙ map-reverse outcome_view c.loop-place.outcomes.items
@@ -31,7 +31,7 @@ with_outcome-made-requires t c =
 pub returns-clause-list : goal.returns-clause-list
 returns-clause-list t c =
     let means = means_by c.args.around.now in
-    let headers = slot_of c.args.table.now in
+    let headers = headers_by c.args.around.now c.args.table.now in
     let old = evaluated_views c.args.list.now.items in
     let first : c.loop-place.place ≡ 0 = omega arith in
     let inside : evaluated_views c.loop-place.list.items ≡ old ++ reverse (flat_map (all_evaluated means headers) (trees_at c.in_ok-inner.inner.items)) =

@@ -3,21 +3,21 @@ use Rattle.go_tree.specs.Tree.{tree_of}
 use Rattle.go_model.specs.Outcomes.Constructs.Literal.{literal}
 use Rattle.go_model.specs.Outcomes.Judged.{judged}
 use Rattle.go_expr.specs.Outcomes.{outcome_view, selector_by_parts}
-use Rattle.go_expr.specs.Table.{slot_of}
+use Rattle.go_expr.specs.Table.{headers_by}
 use Rattle.go_expr.specs.View.{means_by}
 use Rattle.go_expr.proofs.NodeOutcomeLemmas.{at_literal_by_parts, at_selector_by_parts}
 use Rattle.go_expr.proofs.evaluated.found_by_parts.Goals as goal
 
 pub returns-in-IntLit : goal.returns-in-IntLit
 returns-in-IntLit c =
-    let headers = slot_of c.args.table.now in
+    let headers = headers_by c.args.around.now c.args.table.now in
     c.literal.ensures headers []
     ∙ ap (λ text. judged headers (literal text) []) c.text.ensures
     ∙ sym (at_literal_by_parts (means_by c.args.around.now) headers (tree_of c.args.node.now) (map outcome_view c.args.outcomes.now) (sym c.in-IntLit.ensures))
 
 pub returns-in-Some : goal.returns-in-Some
 returns-in-Some c =
-    let headers = slot_of c.args.table.now in
+    let headers = headers_by c.args.around.now c.args.table.now in
     let means = means_by c.args.around.now in
     let xs = map outcome_view c.args.outcomes.now in
     c.selector_by_parts.ensures

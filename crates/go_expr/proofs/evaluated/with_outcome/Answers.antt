@@ -3,7 +3,7 @@ use Rattle.go_tree.specs.Tree.{tree_of}
 use Rattle.go_expr.specs.Evaluated.{EvaluatedData}
 use Rattle.go_model.specs.Outcomes.Judged.{OutcomeData}
 use Rattle.go_expr.specs.Outcomes.{outcome_by_parts}
-use Rattle.go_expr.specs.Table.{slot_of}
+use Rattle.go_expr.specs.Table.{headers_by}
 use Rattle.go_expr.specs.View.{means_by}
 use Rattle.go_expr.proofs.NodeOutcomeLemmas.{by_parts_is}
 use Rattle.go_expr.proofs.evaluated.with_outcome.Goals as goal
@@ -11,7 +11,7 @@ use Rattle.go_expr.proofs.evaluated.with_outcome.Goals as goal
 pub returns : goal.returns
 returns c =
     let means = means_by c.args.around.now in
-    let headers = slot_of c.args.table.now in
+    let headers = headers_by c.args.around.now c.args.table.now in
     let t = tree_of c.args.node.now in
     let node : OutcomeData ℤ → EvaluatedData = λ x. record { tree = t; outcome = x } in
     ap node

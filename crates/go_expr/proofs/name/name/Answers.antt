@@ -1,12 +1,12 @@
 use Rattle.std.proofs.Common.{sym, ap, ◌∙◌}
-use Rattle.go_model.specs.declared.meaning.Meaning.TheVariants.{Own}
+use Rattle.go_model.specs.declared.meaning.Meaning.TheVariants.{Declared}
 use Rattle.go_model.specs.Outcomes.Constructs.Name as spec
 use Rattle.go_model.specs.Outcomes.Judged.{judged}
-use Rattle.go_expr.specs.Table.{slot_of}
+use Rattle.go_expr.specs.Table.{headers_by}
 use Rattle.go_expr.proofs.name.name.Goals as goal
 
-pub returns-in-Own : goal.returns-in-Own
-returns-in-Own c = λ parts.
+pub returns-in-Declared : goal.returns-in-Declared
+returns-in-Declared c = λ parts.
     c.declared.ensures parts
-    ∙ ap (λ h. judged (λ _. h) (spec.name (Own c.in-Own.place)) parts) c.slot.ensures
-    ∙ ap (λ m. judged (slot_of c.args.table.now) (spec.name m) parts) (sym c.in-Own.is)
+    ∙ ap (λ h. judged (λ _. h) (spec.name (Declared c.in-Declared.d)) parts) c.header.ensures
+    ∙ ap (λ m. judged (headers_by c.args.around.now c.args.table.now) (spec.name m) parts) (sym c.in-Declared.is)

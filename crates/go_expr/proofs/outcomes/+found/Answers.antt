@@ -4,21 +4,21 @@ use Rattle.go_model.specs.Outcomes.Constructs.Literal.{literal}
 use Rattle.go_model.specs.Outcomes.Constructs.Parentheses.{parentheses}
 use Rattle.go_model.specs.Outcomes.Constructs.Sum.{sum}
 use Rattle.go_model.specs.Outcomes.Judged.{judged}
-use Rattle.go_expr.specs.Table.{slot_of}
+use Rattle.go_expr.specs.Table.{headers_by}
 use Rattle.go_expr.specs.View.{means_by}
 use Rattle.go_expr.proofs.NodeOutcomeLemmas.{at_literal, at_parentheses, at_sum}
 use Rattle.go_expr.proofs.outcomes.+found.Goals as goal
 
 pub returns-in-IntLit : goal.returns-in-IntLit
 returns-in-IntLit t c =
-    let headers = slot_of c.args.table.now in
+    let headers = headers_by c.args.around.now c.args.table.now in
     c.literal.ensures headers []
     ∙ ap (λ text. judged headers (literal text) []) c.text.ensures
     ∙ sym (at_literal (means_by c.args.around.now) headers (tree_of c.args.node.now) (sym c.in-IntLit.ensures))
 
 pub returns-in-Some-only_part : goal.returns-in-Some-only_part
 returns-in-Some-only_part t c =
-    let headers = slot_of c.args.table.now in
+    let headers = headers_by c.args.around.now c.args.table.now in
     let here = c.in-Some-only_part in
     c.parentheses.ensures headers []
     ∙ ap (λ x. judged headers parentheses (x ∷ [])) c.found-in-Some-only_part.ensures
@@ -26,7 +26,7 @@ returns-in-Some-only_part t c =
 
 pub returns-in-Some-both_parts : goal.returns-in-Some-both_parts
 returns-in-Some-both_parts t c =
-    let headers = slot_of c.args.table.now in
+    let headers = headers_by c.args.around.now c.args.table.now in
     let here = c.in-Some-both_parts in
     c.sum.ensures headers []
     ∙ (λ i. judged headers sum (c.found-in-Some-both_parts.ensures i ∷ (c.found-in-Some-both_parts-2.ensures i ∷ [])))
