@@ -5,7 +5,6 @@ pub mod FoundLemmas
 pub mod NamedLemmas
 pub mod NamesLemmas
 pub mod OrderedLemmas
-pub mod PlaceLemmas
 pub mod PlacedLemmas
 pub mod ResultLemmas
 pub mod StateLemmas

@@ -1,44 +1,46 @@
 -- What the rounds keep, and why the table that they end with is exact.
-use Rattle.std.proofs.Common.{◌≡◌, ℕ, zero, suc, ◌<◌, ℤ, false, Option, Some, None, List, [], ◌∷◌, length, get_or, is_some, take, drop, ◌++◌, refl, sym, ap, ◌∙◌, subst, inl, inr, ⊎_elim, arith}
-use Rattle.std.specs.Prelude.{◌↔◌, slice_get, slice_set}
+use Rattle.std.proofs.Common.{◌≡◌, ℕ, zero, suc, ◌<◌, ℤ, false, Option, Some, None, List, [], ◌∷◌, length, get_or, is_some, take, drop, ◌++◌, ◌⊎◌, refl, sym, ap, ◌∙◌, subst, inl, inr, ⊎_elim, arith}
+use Rattle.std.specs.Prelude.{◌↔◌, replicate, slice_get, slice_set}
 use Rattle.std.proofs.lemmas.Bool.{cases_eq}
 use Rattle.std.proofs.lemmas.List.{take_at}
 use Rattle.std.proofs.lemmas.Option.{unwrap_or-slice_get}
+use Rattle.go_base.specs.declared.ids.ObjId.{ObjId}
 use Rattle.go_model.specs.declared.meaning.Meaning.{Meaning}
-use Rattle.go_model.specs.Names.Declarations.{Declaration}
+use Rattle.go_model.specs.Names.Declarations.{Declaration, number_of}
+use Rattle.go_model.specs.Outcomes.Walk.{Headers}
+use Rattle.go_model.specs.Values.Declared.{declared_as}
 use Rattle.go_model.specs.Values.Records.{value_over}
-use Rattle.go_model.specs.Values.Headers.{headers_of, Follows, Justified, Holds, Known}
+use Rattle.go_model.specs.Values.Headers.{headers_of, Follows, Known}
 use Rattle.go_model.specs.Values.Quests.{IsPart}
-use Rattle.go_model.proofs.HeaderLemmas.{value_over-part, Follows-part, Follows-same, headers_of-here, headers_of-there, headers_of-holds, stays}
+use Rattle.go_model.proofs.HeaderLemmas.{value_over-part, Follows-part, Follows-same, has_all, headers_of-here, headers_of-there, kept, stays}
 use Rattle.go_names.specs.declared.declaration.Declaration.{Declaration as OwnDeclaration}
 use Rattle.go_decl.specs.Rounds.{IsBacked, IsSettled, open_count}
-use Rattle.go_expr.specs.Table.{slot_of}
+use Rattle.go_expr.specs.Table.{header_at, headers_at, slot_of}
+use Rattle.go_expr.specs.View.{open_place}
 use Rattle.go_names.specs.Views.{declaration_view, declarations_view}
+use Rattle.go_decl.proofs.PlaceLemmas.{open_is}
 
-module _ (means : ℕ → Meaning) (constants : List Declaration) where
-  -- what a settled table has where a header follows from it
-  settled_slot : (table : List (Option ℤ)) → IsBacked means constants table → ((d : ℕ) → IsSettled means constants table d) → (d : ℕ) (h : ℤ) → Follows means constants (slot_of table) d h → (o : Option ℤ) → slot_of table d ≡ o → o ≡ Some h
-  settled_slot table b s d h g None e = absurd (s d h e g)
-  settled_slot table b s d h g (Some v) e =
-      let f = stays means constants b.list b.justified d v (sym (b.same d) ∙ e) in
-      let part : IsPart (headers_of b.list) (slot_of table) = λ d' h' q. b.same d' ∙ q in
-      ap Some (Follows-same means constants (slot_of table) d v h (Follows-part means constants (headers_of b.list) (slot_of table) part d v f) g)
+module _ (before : Headers) (means : ℕ → Meaning) (declarations : List Declaration) (headers : Headers) (b : IsBacked before means declarations headers) where
+  -- what these headers have where a header follows from them
+  settled_header : ((d : ℕ) → IsSettled before means declarations headers d) → (d : ℕ) (h : ℤ) → Follows before means declarations headers d h → headers d ≡ Some h
+  settled_header s d h g = by_header (headers d) refl
+    where
+      part : IsPart (headers_of before b.list) headers
+      part d' h' q = b.same d' ∙ q
 
-  -- a settled table has each pair of each justified list
-  has_all : (table : List (Option ℤ)) → IsBacked means constants table → ((d : ℕ) → IsSettled means constants table d) → (list : List (ℕ × ℤ)) → Justified means constants list → (d : ℕ) (h : ℤ) → Holds list d h → slot_of table d ≡ Some h
-  has_all table b s [] j d h x = absurd x
-  has_all table b s (p ∷ before) j d h (inr x) = has_all table b s before j.0 d h x
-  has_all table b s (p ∷ before) j d h (inl x) =
-      let part : IsPart (headers_of before) (slot_of table) = λ d' h' e. has_all table b s before j.0 d' h' (headers_of-holds before d' h' e) in
-      let f = Follows-part means constants (headers_of before) (slot_of table) part p.0 p.1 j.1 in
-      let g = subst (λ v. Follows means constants (slot_of table) d v) x.1 (subst (λ n. Follows means constants (slot_of table) n p.1) x.0 f) in
-      settled_slot table b s d h g (slot_of table d) refl
+      by_either : (v : ℤ) → (before d ≡ Some v) ⊎ Follows before means declarations (headers_of before b.list) d v → v ≡ h
+      by_either v (inl was) = absurd (let never : None ≡ Some v = sym g.fresh ∙ was in cc)
+      by_either v (inr f) = Follows-same before means declarations headers d v h (Follows-part before means declarations (headers_of before b.list) headers part d v f) g
+
+      by_header : (o : Option ℤ) → headers d ≡ o → headers d ≡ Some h
+      by_header None e = absurd (s d h e g)
+      by_header (Some v) e = e ∙ ap Some (by_either v (stays before means declarations b.list b.justified d v (sym (b.same d) ∙ e)))
 
   -- the rounds are exact
-  pub exact : (table : List (Option ℤ)) → IsBacked means constants table → ((d : ℕ) → IsSettled means constants table d) → (d : ℕ) (h : ℤ) → (slot_of table d ≡ Some h) ↔ Known means constants d h
-  exact table b s d h = (
-    λ e. record { list = b.list; justified = b.justified; holds = headers_of-holds b.list d h (sym (b.same d) ∙ e) },
-    λ k. has_all table b s k.list k.justified d h k.holds,
+  pub exact : ((d : ℕ) → IsSettled before means declarations headers d) → (d : ℕ) (h : ℤ) → (headers d ≡ Some h) ↔ Known before means declarations d h
+  exact s d h = (
+    λ e. record { list = b.list; justified = b.justified; has = sym (b.same d) ∙ e },
+    λ k. has_all before means declarations headers (λ d' h' e. b.same d' ∙ kept before means declarations b.list b.justified d' h' e) (settled_header s) k.list k.justified d h k.has,
   )
 
 -- a table with one more header
@@ -54,18 +56,84 @@ slot_of-there (x ∷ table) zero (suc n) h ne = refl
 slot_of-there (x ∷ table) (suc d) zero h ne = refl
 slot_of-there (x ∷ table) (suc d) (suc n) h ne = slot_of-there table d n h (λ e. ne (ap suc e))
 
--- a header that follows from the table may be put into it
-pub IsBacked-set : (means : ℕ → Meaning) (constants : List Declaration) (table : List (Option ℤ)) (d : ℕ) (h : ℤ) (declaration : Declaration) → IsBacked means constants table → d < length table → slice_get constants d ≡ Some declaration → value_over means (slot_of table) declaration ≡ Some h → IsBacked means constants (slice_set table d (Some h))
-IsBacked-set means constants table d h declaration b lt at v =
-    let part : IsPart (slot_of table) (headers_of b.list) = λ d' h' q. sym (b.same d') ∙ q in
-    record {
-      list = (d, h) ∷ b.list;
-      justified = (b.justified, record { declaration = declaration; declared = at; value = value_over-part means (slot_of table) (headers_of b.list) part declaration h v });
-      same = λ n. ⊎_elim
-          (λ here. subst (λ m. slot_of (slice_set table d (Some h)) m ≡ headers_of ((d, h) ∷ b.list) m) here (slot_of-here table d h lt ∙ sym (headers_of-here (d, h) b.list d refl)))
-          (λ ne. slot_of-there table d n h ne ∙ b.same n ∙ sym (headers_of-there (d, h) b.list n ne))
-          (cases_eq d n);
-    }
+-- a table without headers
+pub vacant_slots : (k n : ℕ) → slot_of (replicate k None) n ≡ None
+vacant_slots zero n = refl
+vacant_slots (suc k) zero = refl
+vacant_slots (suc k) (suc n) = vacant_slots k n
+
+-- with no header found, the headers are those before
+pub empty_backed : (before : Headers) (means : ℕ → Meaning) (declarations : List Declaration) (headers : Headers) → ((d : ℕ) → headers d ≡ before d) → IsBacked before means declarations headers
+empty_backed before means declarations headers same = record { list = []; justified = tt; same = same }
+
+module _ (before : Headers) (means : ℕ → Meaning) (declarations : List Declaration) (places : ObjId → Option ℕ) (around : (d : ObjId) → places d ≡ open_place before declarations d) where
+  -- an empty table has what is known before
+  pub empty_table : (table : List (Option ℤ)) → ((n : ℕ) → slot_of table n ≡ None) → (d : ℕ) → headers_at before places table d ≡ before d
+  empty_table table vacant d = by_place (places (record { 0 = d })) refl
+    where
+      by_place : (o : Option ℕ) → places (record { 0 = d }) ≡ o → header_at table (before d) o ≡ before d
+      by_place None e = refl
+      by_place (Some n) e = vacant n ∙ sym (open_is before declarations (record { 0 = d }) n (sym (around (record { 0 = d })) ∙ e)).fresh
+
+  -- the header of a declaration stands at its place
+  pub header_there : (table : List (Option ℤ)) (d : ObjId) (place : ℕ) → places d ≡ Some place → headers_at before places table d.0 ≡ slot_of table place
+  header_there table d place e = ap (header_at table (before d.0)) e
+
+  -- with one more header, for the object at a place
+  set_here : (table : List (Option ℤ)) (d : ObjId) (place : ℕ) (h : ℤ) → places d ≡ Some place → place < length table → headers_at before places (slice_set table place (Some h)) d.0 ≡ Some h
+  set_here table d place h e lt = header_there (slice_set table place (Some h)) d place e ∙ slot_of-here table place h lt
+
+  set_there : (table : List (Option ℤ)) (d : ObjId) (place : ℕ) (h : ℤ) → places d ≡ Some place → (n : ℕ) → (d.0 ≡ n → ⊥) → headers_at before places (slice_set table place (Some h)) n ≡ headers_at before places table n
+  set_there table d place h e n ne = by_place (places (record { 0 = n })) refl
+    where
+      by_place : (o : Option ℕ) → places (record { 0 = n }) ≡ o → header_at (slice_set table place (Some h)) (before n) o ≡ header_at table (before n) o
+      by_place None at = refl
+      by_place (Some other) at = slot_of-there table place other h (λ same. ne (one_number same))
+        where
+          -- one place is that of one object
+          one_number : place ≡ other → d.0 ≡ n
+          one_number same =
+              let here = (open_is before declarations d place (sym (around d) ∙ e)).placed in
+              let there = (open_is before declarations (record { 0 = n }) other (sym (around (record { 0 = n })) ∙ at)).placed in
+              let one : here.declaration ≡ there.declaration = cc (here.at, there.at, same) in
+              ap (λ (k : ObjId). k.0) (sym here.number ∙ ap number_of one ∙ there.number)
+
+  -- the declaration at the place of an object is the one that its number names, and has that number
+  pub one_declaration : (d : ObjId) (place : ℕ) → places d ≡ Some place → (named : Declaration) → declared_as declarations d.0 ≡ Some named → (there : Declaration) → slice_get declarations place ≡ Some there → named ≡ there
+  one_declaration d place e named at there is =
+      let here = (open_is before declarations d place (sym (around d) ∙ e)).placed in
+      cc (here.declared, at, here.at, is)
+
+  pub own_number : (d : ObjId) (place : ℕ) → places d ≡ Some place → (there : Declaration) → slice_get declarations place ≡ Some there → number_of there ≡ d
+  own_number d place e there is =
+      let here = (open_is before declarations d place (sym (around d) ∙ e)).placed in
+      let one : here.declaration ≡ there = cc (here.at, is) in
+      ap number_of (sym one) ∙ here.number
+
+  -- a header that follows from the table may be put into it
+  pub IsBacked-set : (table : List (Option ℤ)) (d : ObjId) (place : ℕ) (h : ℤ) (declaration : Declaration) → IsBacked before means declarations (headers_at before places table) → place < length table
+      → places d ≡ Some place → slice_get declarations place ≡ Some declaration → value_over means (headers_at before places table) declaration ≡ Some h
+      → IsBacked before means declarations (headers_at before places (slice_set table place (Some h)))
+  IsBacked-set table d place h declaration b lt e at v =
+      let is = open_is before declarations d place (sym (around d) ∙ e) in
+      let one : is.placed.declaration ≡ declaration = cc (is.placed.at, at) in
+      let part : IsPart (headers_at before places table) (headers_of before b.list) = λ d' h' q. sym (b.same d') ∙ q in
+      record {
+        list = (d.0, h) ∷ b.list;
+        justified = (
+          b.justified,
+          record {
+            declaration = declaration;
+            declared = is.placed.declared ∙ ap Some one;
+            fresh = is.fresh;
+            value = value_over-part means (headers_at before places table) (headers_of before b.list) part declaration h v;
+          },
+        );
+        same = λ n. ⊎_elim
+            (λ here. subst (λ m. headers_at before places (slice_set table place (Some h)) m ≡ headers_of before ((d.0, h) ∷ b.list) m) here (set_here table d place h e lt ∙ sym (headers_of-here before (d.0, h) b.list d.0 refl)))
+            (λ ne. set_there table d place h e n ne ∙ b.same n ∙ sym (headers_of-there before (d.0, h) b.list n ne))
+            (cases_eq d.0 n);
+      }
 
 pub open_count-set : (table : List (Option ℤ)) (d : ℕ) (h : ℤ) → d < length table → slot_of table d ≡ None → open_count (slice_set table d (Some h)) < open_count table
 open_count-set [] d h lt e = absurd (omega arith)

@@ -1,5 +1,6 @@
 -- A table of headers, one slot for each declaration of the package.
 use Rattle.std.specs.Prelude.{ℕ, ℤ, Option, None, Some, List, slice_get, unwrap_or}
+use Rattle.go_base.specs.declared.ids.ObjId.{ObjId}
 use Rattle.go_model.specs.Outcomes.Walk.{Headers}
 use Rattle.go_expr.specs.declared.around.Around.{Around}
 use Rattle.go_expr.specs.View.{before_by, places_by}
@@ -12,6 +13,9 @@ abbrev pub header_at : List (Option ℤ) → Option ℤ → Option ℕ → Optio
 header_at table before (Some place) = slot_of table place
 header_at table before None = before
 
--- what the table has for the declarations of the package, and else what is known before
+-- what a table has for the declarations that have a place, and else what is known before
+abbrev pub headers_at : Headers → (ObjId → Option ℕ) → List (Option ℤ) → Headers
+headers_at before places table d = header_at table (before d) (places (record { 0 = d }))
+
 abbrev pub headers_by : Around → List (Option ℤ) → Headers
-headers_by around table d = header_at table (before_by around d) (places_by around (record { 0 = d }))
+headers_by around table = headers_at (before_by around) (places_by around) table

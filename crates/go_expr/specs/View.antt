@@ -1,5 +1,5 @@
 -- What the values of the program stand for.
-use Rattle.std.specs.Prelude.{◌≡◌, ℕ, ◌<◌, ◌||◌, Bool, is_some, if◌then◌else◌, Option, Some, None, List}
+use Rattle.std.specs.Prelude.{◌≡◌, ℕ, ℤ, ◌||◌, Bool, is_some, if◌then◌else◌, Option, None, List}
 use Rattle.std.specs.Map.{lookup}
 use Rattle.go_base.specs.declared.ids.ObjId.{ObjId}
 use Rattle.go_tree.specs.declared.node.NodeId.{NodeId}
@@ -18,9 +18,13 @@ places_by around d = lookup (same_object d) around.places.now.entries
 abbrev pub denotes_by : Around → NodeId → Option ObjId
 denotes_by around id = lookup (same_node id) around.uses.now.entries
 
+-- what a table of headers has
+abbrev pub known_by : List (ObjId × ℤ) → Headers
+known_by entries d = lookup (same_object (record { 0 = d })) entries
+
 -- the headers that are known before
 abbrev pub before_by : Around → Headers
-before_by around d = lookup (same_object (record { 0 = d })) around.before.now.entries
+before_by around = known_by around.before.now.entries
 
 -- an object that has a place, or a header before
 abbrev pub declares_by : Around → ObjId → Bool
@@ -29,10 +33,6 @@ declares_by around d = is_some (places_by around d) || is_some (before_by around
 -- what an identifier means, by the number of its node
 abbrev pub means_by : Around → ℕ → Meaning
 means_by around = meaning_by around.uses.now.entries (declares_by around)
-
--- all places are below a number
-abbrev pub PlacesBelow : ℕ → Around → Type 0
-PlacesBelow n around = (d : ObjId) (place : ℕ) → places_by around d ≡ Some place → place < n
 
 -- the place of an object among declarations, where it has no header before
 abbrev pub open_place : Headers → List Declaration → ObjId → Option ℕ

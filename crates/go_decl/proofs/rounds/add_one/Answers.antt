@@ -1,23 +1,34 @@
-use Rattle.std.proofs.Common.{◌≡◌, sym, rules, arith}
-use Rattle.std.specs.Prelude.{FitsSigned}
+use Rattle.std.proofs.Common.{◌≡◌, ◌∙◌, Some, sym, ap, rules, arith}
+use Rattle.std.specs.Prelude.{FitsSigned, IsTrue}
 use Rattle.std.specs.Int.{w128}
 use Rattle.std.proofs.lemmas.Int.{to_z-of_z}
-use Rattle.go_expr.specs.View.{means_by}
+use Rattle.go_expr.specs.View.{before_by, means_by, places_by}
 use Rattle.go_names.specs.Views.{declaration_view, declarations_view}
-use Rattle.go_decl.proofs.RoundLemmas.{IsBacked-set, open_count-set, declared_at, was_open}
+use Rattle.go_decl.proofs.RoundLemmas.{IsBacked-set, one_declaration, open_count-set, own_number, declared_at, was_open}
 use Rattle.go_decl.proofs.rounds.add_one.Goals as goal
 
 pub returns-in-Some-clause-backed : goal.returns-in-Some-clause-backed
 returns-in-Some-clause-backed c =
+    let around = c.args.around.now in
     let fits : FitsSigned w128 c.in-Some.header = search rules in
     let declared = declared_at c.args.declarations.now c.args.place c.index-declarations-place.result c.requires.within c.index-declarations-place.is in
-    simp to_z-of_z (IsBacked-set (means_by c.args.around.now) (declarations_view c.args.declarations.now) c.args.table.now c.args.place c.in-Some.header _ c.requires.backed (omega arith) declared (sym c.in-Some.ensures))
+    simp to_z-of_z (IsBacked-set (before_by around) (means_by around) (declarations_view c.args.declarations.now) (places_by around) c.requires.around c.args.table.now c.number.result c.args.place c.in-Some.header _ c.requires.backed (omega arith) (c.stands_at.ensures.0 c.if-not-stands_at.false) declared (sym c.in-Some.ensures))
 
 pub returns-in-Some-clause-fewer : goal.returns-in-Some-clause-fewer
 returns-in-Some-clause-fewer c = λ _. open_count-set c.args.table.now c.args.place _ (omega arith) (was_open c.args.table.now c.args.place c.if-is_some.ensures)
 
 pub returns-in-None-clause-settled : goal.returns-in-None-clause-settled
-returns-in-None-clause-settled c = λ _ h _ f.
+returns-in-None-clause-settled c = λ _ d at h _ f.
+    let around = c.args.around.now in
     let declared = declared_at c.args.declarations.now c.args.place c.index-declarations-place.result c.requires.within c.index-declarations-place.is in
-    let same : f.declaration ≡ declaration_view c.index-declarations-place.result = cc (f.declared, declared) in
+    let same : f.declaration ≡ declaration_view c.index-declarations-place.result = one_declaration (before_by around) (means_by around) (declarations_view c.args.declarations.now) (places_by around) c.requires.around d c.args.place at f.declaration f.declared _ declared in
     cc (f.value, same, c.in-None.ensures)
+
+pub returns-then-not-stands_at-clause-settled : goal.returns-then-not-stands_at-clause-settled
+returns-then-not-stands_at-clause-settled c = λ _ d at h _ f.
+    let around = c.args.around.now in
+    let declared = declared_at c.args.declarations.now c.args.place c.index-declarations-place.result c.requires.within c.index-declarations-place.is in
+    let number = own_number (before_by around) (means_by around) (declarations_view c.args.declarations.now) (places_by around) c.requires.around d c.args.place at _ declared in
+    let there : places_by around c.number.result ≡ Some c.args.place = ap (places_by around) (c.number.ensures ∙ number) ∙ at in
+    let stands : IsTrue c.stands_at.result = c.stands_at.ensures.1 there in
+    absurd (cc (stands, c.if-not-stands_at.true))

@@ -1,9 +1,10 @@
-use Rattle.std.proofs.Common.{sym, ◌∙◌, subst, arith, below_more}
-use Rattle.std.proofs.lemmas.Option.{slice_get_within}
+use Rattle.std.proofs.Common.{◌≡◌, Some, sym, ◌∙◌, subst, arith, below_more}
 use Rattle.std.proofs.lemmas.List.{length-map}
 use Rattle.go_decl.specs.Rounds.{IsSettled}
-use Rattle.go_expr.specs.View.{means_by}
+use Rattle.go_expr.specs.Table.{headers_by}
+use Rattle.go_expr.specs.View.{before_by, means_by, places_by}
 use Rattle.go_names.specs.Views.{declaration_view, declarations_view}
+use Rattle.go_decl.proofs.PlaceLemmas.{has_open}
 use Rattle.go_decl.proofs.rounds.add_round.Goals as goal
 use Rattle.go_decl.proofs.rounds.add_round.Goals.{then-add_one, else-add_one}
 
@@ -11,6 +12,7 @@ pub loop-place-preserved : goal.loop-place-preserved
 loop-place-preserved c =
     let inv = c.loop-place.invariant in
     let did = c.add_one.ensures in
+    let around = c.args.around.now in
     elim c.if-add_one.branch [
       | then-add_one w ↦ record {
         backed = did.backed;
@@ -24,13 +26,17 @@ loop-place-preserved c =
             fewer = λ e. rw same (inv.fewer (sym w.added-is ∙ e));
             no_more = rw same inv.no_more;
             settled = λ e. below_more _ _
-                (λ n lt. subst (λ t. IsSettled (means_by c.args.around.now) (declarations_view c.args.declarations.now) t n) (sym same) (inv.settled (sym w.added-is ∙ e) n lt))
+                (λ n lt d at. subst (λ t. IsSettled (before_by around) (means_by around) (declarations_view c.args.declarations.now) (headers_by around t) d.0) (sym same) (inv.settled (sym w.added-is ∙ e) n lt d at))
                 (did.settled w.if-add_one.false);
           }
     ]
 
 pub returns-clause-settled : goal.returns-clause-settled
 returns-clause-settled c = λ e d h vacant follows.
-    let within = slice_get_within (declarations_view c.args.declarations.now) d follows.declaration follows.declared in
+    let around = c.args.around.now in
+    let declarations = declarations_view c.args.declarations.now in
+    let at = has_open (before_by around) declarations (record { 0 = d }) follows.declaration follows.fresh follows.declared in
+    let within = at.2 in
     let same = length-map c.args.declarations.now declaration_view in
-    c.loop-place.invariant.settled e d (omega arith) h vacant follows
+    let here : places_by around (record { 0 = d }) ≡ Some at.0 = c.requires.around (record { 0 = d }) ∙ at.1 in
+    c.loop-place.invariant.settled e at.0 (omega arith) (record { 0 = d }) here h vacant follows

@@ -8,4 +8,4 @@ use Rattle.go_decl.proofs.waits.push_awaited.Given as goal
 
 abbrev pub invariant-loop-node : goal.invariant-loop-node
 invariant-loop-node l =
-    l.places ++ flat_map (awaited_by_nodes (means_by l.around) (headers_by l.around l.table)) (map tree_of (drop l.node-index l.nodes)) ≡ l.fn.places ++ flat_map (awaited_by_nodes (means_by l.around) (headers_by l.around l.table)) (map tree_of l.nodes)
+    l.numbers ++ flat_map (awaited_by_nodes (means_by l.around) (headers_by l.around l.table)) (map tree_of (drop l.node-index l.nodes)) ≡ l.fn.numbers ++ flat_map (awaited_by_nodes (means_by l.around) (headers_by l.around l.table)) (map tree_of l.nodes)

@@ -6,4 +6,4 @@ use Rattle.go_decl.proofs.waits.push_each.Given as goal
 
 abbrev pub invariant-loop-node : goal.invariant-loop-node
 invariant-loop-node l =
-    l.places ++ flat_map (λ e. awaited_in e.outcome) (evaluated_views (drop l.node-index l.list)) ≡ l.fn.places ++ flat_map (λ e. awaited_in e.outcome) (evaluated_views l.list)
+    l.numbers ++ flat_map (λ e. awaited_in e.outcome) (evaluated_views (drop l.node-index l.list)) ≡ l.fn.numbers ++ flat_map (λ e. awaited_in e.outcome) (evaluated_views l.list)

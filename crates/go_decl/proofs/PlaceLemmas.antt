@@ -1,0 +1,290 @@
+-- The places of declarations by the numbers of their objects.
+use Rattle.std.proofs.Common.{◌≡◌, ℕ, ℤ, zero, suc, ◌+◌, ◌-◌, ◌<◌, Bool, true, false, cond, not, Option, Some, None, List, [], ◌∷◌, length, map, drop, get_or, refl, sym, ap, ◌∙◌, subst, arith}
+use Rattle.std.proofs.lemmas.Bool.{eq-eqb, ne_eqb}
+use Rattle.std.proofs.lemmas.Bool.Decides.{nat_tests}
+use Rattle.std.specs.Prelude.{nat_lt, position, slice_get, is_some, if◌then◌else◌}
+use Rattle.std.specs.List.{position_or_len}
+use Rattle.std.specs.Map.{lookup}
+use Rattle.std.specs.Option.{option_map}
+use Rattle.indexmap.specs.IndexMap.{insert_entry}
+use Rattle.go_base.specs.declared.ids.ObjId.{ObjId}
+use Rattle.go_module.specs.Names.Declarations.{Declaration, number_of, numbers_of}
+use Rattle.go_module.specs.Scopes.{same_object}
+use Rattle.go_model.specs.Outcomes.Walk.{Headers}
+use Rattle.go_model.specs.Values.Declared.{declared_as}
+use Rattle.go_expr.specs.Places.{place_among}
+use Rattle.go_expr.specs.View.{open_place}
+
+same_is : (a b : ObjId) → same_object a b ≡ true → a ≡ b
+same_is a b e = let at : a.0 ≡ b.0 = grind (arith, nat_tests) in λ i. record { 0 = at i }
+
+is_same : (a b : ObjId) → a ≡ b → same_object a b ≡ true
+is_same a b e = let at : a.0 ≡ b.0 = ap (λ (d : ObjId). d.0) e in grind (arith, nat_tests)
+
+module _ {V : Type 0} (q : ObjId) where
+  replaced : (b c : Bool) (v w : V) (rest : Option V) → b ≡ c → cond b (Some v) rest ≡ cond c (Some v) (cond b (Some w) rest)
+  replaced true c v w rest e = ap (λ x. cond x (Some v) (Some w)) e
+  replaced false c v w rest e = ap (λ x. cond x (Some v) rest) e
+
+  apart : (b c : Bool) (v w : V) (rest : Option V) → (b ≡ true → c ≡ true → ⊥) → cond b (Some w) (cond c (Some v) rest) ≡ cond c (Some v) (cond b (Some w) rest)
+  apart true true v w rest no_both = absurd (no_both refl refl)
+  apart true false v w rest no_both = refl
+  apart false c v w rest no_both = refl
+
+  -- what is found behind one more entry
+  pub found_behind : (es : List (ObjId × V)) (k : ObjId) (v : V) → lookup (same_object q) (insert_entry same_object es k v) ≡ cond (same_object q k) (Some v) (lookup (same_object q) es)
+  found_behind [] k v = refl
+  found_behind (e ∷ es) k v = by_key (same_object k e.0) refl (found_behind es k v)
+    where
+      by_key : (b : Bool) → same_object k e.0 ≡ b → lookup (same_object q) (insert_entry same_object es k v) ≡ cond (same_object q k) (Some v) (lookup (same_object q) es)
+          → lookup (same_object q) (if b then (e.0, v) ∷ es else e ∷ insert_entry same_object es k v) ≡ cond (same_object q k) (Some v) (cond (same_object q e.0) (Some e.1) (lookup (same_object q) es))
+      by_key true at rest = replaced (same_object q e.0) (same_object q k) v e.1 (lookup (same_object q) es) (ap (same_object q) (sym (same_is k e.0 at)))
+      by_key false at rest =
+          ap (λ o. cond (same_object q e.0) (Some e.1) o) rest
+          ∙ apart (same_object q e.0) (same_object q k) v e.1 (lookup (same_object q) es)
+          (λ one other. let same = is_same k e.0 (sym (same_is q k other) ∙ same_is q e.0 one) in cc (same, at))
+
+-- the first place at which a test passes, element by element
+later : (c : Bool) (n : ℕ) → cond c (Some (suc n)) None ≡ option_map suc (cond c (Some n) None)
+later true n = refl
+later false n = refl
+
+first_by : (b : Bool) (n l : ℕ) → cond (nat_lt (cond (not b) (1 + n) 0) (suc l)) (Some (cond (not b) (1 + n) 0)) None ≡ cond b (Some 0) (option_map suc (cond (nat_lt n l) (Some n) None))
+first_by true n l = let some : nat_lt 0 (suc l) ≡ true = grind (arith, nat_tests) in ap (λ t. cond t (Some 0) None) some
+first_by false n l = by_test (nat_lt n l) refl
+  where
+    by_test : (c : Bool) → nat_lt n l ≡ c → cond (nat_lt (1 + n) (suc l)) (Some (1 + n)) None ≡ option_map suc (cond (nat_lt n l) (Some n) None)
+    by_test true at =
+        let there : nat_lt (1 + n) (suc l) ≡ true = grind (arith, nat_tests) in
+        let next : 1 + n ≡ suc n = omega arith in
+        ap (λ t. cond t (Some (1 + n)) None) there ∙ ap Some next ∙ sym (ap (λ t. option_map suc (cond t (Some n) None)) at)
+    by_test false at =
+        let none : nat_lt (1 + n) (suc l) ≡ false = grind (arith, nat_tests) in
+        ap (λ t. cond t (Some (1 + n)) None) none ∙ sym (ap (λ t. option_map suc (cond t (Some n) None)) at)
+
+first_place : {X : Type 0} (p : X → Bool) (x : X) (xs : List X) → position p (x ∷ xs) ≡ cond (p x) (Some 0) (option_map suc (position p xs))
+first_place p x xs = first_by (p x) (position_or_len p xs) (length xs)
+
+-- the place of an object among declarations, of which the first has the place n
+abbrev pub place_from : ℕ → List ObjId → ObjId → Option ℕ
+place_from n numbers d = option_map (λ i. n + i) (place_among numbers d)
+
+pub place_from_none : (n : ℕ) (d : ObjId) → place_from n [] d ≡ None
+place_from_none n d = refl
+
+moved : (n : ℕ) (o : Option ℕ) → option_map (λ i. n + i) (option_map suc o) ≡ option_map (λ i. suc n + i) o
+moved n None = refl
+moved n (Some i) = ap Some (let e : n + suc i ≡ suc n + i = omega arith in e)
+
+from_by : (b : Bool) (n : ℕ) (o : Option ℕ) → option_map (λ i. n + i) (cond b (Some 0) (option_map suc o)) ≡ cond b (Some n) (option_map (λ i. suc n + i) o)
+from_by true n o = ap Some (let e : n + 0 ≡ n = omega arith in e)
+from_by false n o = moved n o
+
+pub place_from_more : (n : ℕ) (x : ObjId) (xs : List ObjId) (d : ObjId) → place_from n (x ∷ xs) d ≡ cond (same_object d x) (Some n) (place_from (suc n) xs d)
+place_from_more n x xs d = ap (option_map (λ i. n + i)) (first_place (same_object d) x xs) ∙ from_by (same_object d x) n (place_among xs d)
+
+from_zero : (o : Option ℕ) → option_map (λ i. 0 + i) o ≡ o
+from_zero None = refl
+from_zero (Some i) = ap Some (let e : 0 + i ≡ i = omega arith in e)
+
+pub place_from_start : (numbers : List ObjId) (d : ObjId) → place_from 0 numbers d ≡ place_among numbers d
+place_from_start numbers d = from_zero (place_among numbers d)
+
+module _ {X Y : Type 0} (g : X → Y) (f : Y → ObjId) where
+  -- what stands from the last place on
+  from_last : (xs : List X) (i : ℕ) (x : X) → i < length xs → x ≡ get_or xs i x → map f (map g (drop i xs)) ≡ f (g x) ∷ map f (map g (drop (suc i) xs))
+  from_last [] i x lt at = absurd (omega (arith, lt))
+  from_last (y ∷ ys) zero x lt at = ap (λ z. f (g z) ∷ map f (map g ys)) (sym at)
+  from_last (y ∷ ys) (suc i) x lt at = from_last ys i x (omega (arith, lt)) at
+
+  -- one more declaration, from the last to the first
+  pub one_more_place : (xs : List X) (n : ℕ) (x : X) (es new : List (ObjId × ℕ)) → 0 < n → n - 1 < length xs → x ≡ get_or xs (n - 1) x
+      → new ≡ insert_entry same_object es (f (g x)) (n - 1)
+      → ((d : ObjId) → lookup (same_object d) es ≡ place_from n (map f (map g (drop n xs))) d)
+      → (d : ObjId) → lookup (same_object d) new ≡ place_from (n - 1) (map f (map g (drop (n - 1) xs))) d
+  one_more_place xs n x es new some lt at added so_far d =
+      let after : suc (n - 1) ≡ n = omega (arith, some) in
+      let rest = map f (map g (drop n xs)) in
+      let split : map f (map g (drop (n - 1) xs)) ≡ f (g x) ∷ rest = from_last xs (n - 1) x lt at ∙ ap (λ k. f (g x) ∷ map f (map g (drop k xs))) after in
+      ap (lookup (same_object d)) added
+      ∙ found_behind d es (f (g x)) (n - 1)
+      ∙ ap (cond (same_object d (f (g x))) (Some (n - 1))) (so_far d ∙ ap (λ k. place_from k rest d) (sym after))
+      ∙ sym (place_from_more (n - 1) (f (g x)) rest d)
+      ∙ ap (λ numbers. place_from (n - 1) numbers d) (sym split)
+
+-- the same, of those that have no header before
+abbrev pub open_from : Headers → ℕ → List ObjId → ObjId → Option ℕ
+open_from before n numbers d = if is_some (before d.0) then None else place_from n numbers d
+
+module _ {X Y : Type 0} (g : X → Y) (f : Y → ObjId) (before : Headers) where
+  known_or : (b : Bool) (o p : Option ℕ) → (b ≡ false → o ≡ p) → (if b then None else o) ≡ (if b then None else p)
+  known_or true o p e = refl
+  known_or false o p e = e refl
+
+  -- an object that has a header before is none that has none
+  other_object : (k d : ObjId) (b : Bool) → is_some (before k.0) ≡ b → is_some (before d.0) ≡ not b → same_object d k ≡ false
+  other_object k d b at there = by_test (same_object d k) refl
+    where
+      by_test : (c : Bool) → same_object d k ≡ c → c ≡ false
+      by_test false e = refl
+      by_test true e = let same : is_some (before d.0) ≡ is_some (before k.0) = ap (λ (x : ObjId). is_some (before x.0)) (same_is d k e) in absurd (differ b (sym at ∙ sym same ∙ there))
+        where
+          differ : (c : Bool) → c ≡ not c → ⊥
+          differ true e = cc
+          differ false e = cc
+
+  -- one more declaration without a header before
+  pub one_more_open : (xs : List X) (n : ℕ) (x : X) (es new : List (ObjId × ℕ)) → 0 < n → n - 1 < length xs → x ≡ get_or xs (n - 1) x
+      → is_some (before (f (g x)).0) ≡ false
+      → new ≡ insert_entry same_object es (f (g x)) (n - 1)
+      → ((d : ObjId) → lookup (same_object d) es ≡ open_from before n (map f (map g (drop n xs))) d)
+      → (d : ObjId) → lookup (same_object d) new ≡ open_from before (n - 1) (map f (map g (drop (n - 1) xs))) d
+  one_more_open xs n x es new some lt at fresh added so_far d = by_known (is_some (before d.0)) refl
+    where
+      after : suc (n - 1) ≡ n
+      after = omega (arith, some)
+
+      rest : List ObjId
+      rest = map f (map g (drop n xs))
+
+      split : map f (map g (drop (n - 1) xs)) ≡ f (g x) ∷ rest
+      split = from_last g f xs (n - 1) x lt at ∙ ap (λ k. f (g x) ∷ map f (map g (drop k xs))) after
+
+      found : lookup (same_object d) new ≡ cond (same_object d (f (g x))) (Some (n - 1)) (lookup (same_object d) es)
+      found = ap (lookup (same_object d)) added ∙ found_behind d es (f (g x)) (n - 1)
+
+      placed : place_from (n - 1) (map f (map g (drop (n - 1) xs))) d ≡ cond (same_object d (f (g x))) (Some (n - 1)) (place_from n rest d)
+      placed =
+          ap (λ numbers. place_from (n - 1) numbers d) split
+          ∙ place_from_more (n - 1) (f (g x)) rest d
+          ∙ ap (λ k. cond (same_object d (f (g x))) (Some (n - 1)) (place_from k rest d)) after
+
+      by_known : (b : Bool) → is_some (before d.0) ≡ b → lookup (same_object d) new ≡ open_from before (n - 1) (map f (map g (drop (n - 1) xs))) d
+      by_known true is =
+          found
+          ∙ ap (λ c. cond c (Some (n - 1)) (lookup (same_object d) es)) (other_object (f (g x)) d false fresh is)
+          ∙ so_far d
+          ∙ ap (λ b. if b then None else place_from n rest d) is
+          ∙ sym (ap (λ b. if b then None else place_from (n - 1) (map f (map g (drop (n - 1) xs))) d) is)
+      by_known false is =
+          found
+          ∙ ap (cond (same_object d (f (g x))) (Some (n - 1))) (so_far d ∙ ap (λ b. if b then None else place_from n rest d) is)
+          ∙ sym placed
+          ∙ sym (ap (λ b. if b then None else place_from (n - 1) (map f (map g (drop (n - 1) xs))) d) is)
+
+  -- one more with a header before
+  pub one_more_known : (xs : List X) (n : ℕ) (x : X) (es : List (ObjId × ℕ)) → 0 < n → n - 1 < length xs → x ≡ get_or xs (n - 1) x
+      → is_some (before (f (g x)).0) ≡ true
+      → ((d : ObjId) → lookup (same_object d) es ≡ open_from before n (map f (map g (drop n xs))) d)
+      → (d : ObjId) → lookup (same_object d) es ≡ open_from before (n - 1) (map f (map g (drop (n - 1) xs))) d
+  one_more_known xs n x es some lt at known so_far d =
+      so_far d ∙ known_or (is_some (before d.0)) (place_from n rest d) (place_from (n - 1) (map f (map g (drop (n - 1) xs))) d) (λ fresh. sym (placed fresh))
+    where
+      after : suc (n - 1) ≡ n
+      after = omega (arith, some)
+
+      rest : List ObjId
+      rest = map f (map g (drop n xs))
+
+      split : map f (map g (drop (n - 1) xs)) ≡ f (g x) ∷ rest
+      split = from_last g f xs (n - 1) x lt at ∙ ap (λ k. f (g x) ∷ map f (map g (drop k xs))) after
+
+      placed : is_some (before d.0) ≡ false → place_from (n - 1) (map f (map g (drop (n - 1) xs))) d ≡ place_from n rest d
+      placed fresh =
+          ap (λ numbers. place_from (n - 1) numbers d) split
+          ∙ place_from_more (n - 1) (f (g x)) rest d
+          ∙ ap (λ c. cond c (Some (n - 1)) (place_from (suc (n - 1)) rest d)) (other_object (f (g x)) d true known fresh)
+          ∙ ap (λ k. place_from k rest d) after
+
+-- the declaration at a place is the one that its number names
+pub record IsPlaced (declarations : List Declaration) (d : ObjId) (place : ℕ) : Type 0 where
+  pub declaration : Declaration
+  pub at : slice_get declarations place ≡ Some declaration
+  pub declared : declared_as declarations d.0 ≡ Some declaration
+  pub number : number_of declaration ≡ d
+
+placed_first : (x : Declaration) (xs : List Declaration) (d : ObjId) → place_among (numbers_of (x ∷ xs)) d ≡ cond (same_object d (number_of x)) (Some 0) (option_map suc (place_among (numbers_of xs) d))
+placed_first x xs d = first_place (same_object d) (number_of x) (numbers_of xs)
+
+declared_here : (x : Declaration) (xs : List Declaration) (d : ObjId) → same_object d (number_of x) ≡ true → declared_as (x ∷ xs) d.0 ≡ Some x
+declared_here x xs d e =
+    let same : (number_of x).0 ≡ d.0 = ap (λ (k : ObjId). k.0) (sym (same_is d (number_of x) e)) in
+    ap (λ b. cond b (Some x) (declared_as xs d.0)) (eq-eqb (number_of x).0 d.0 same)
+
+declared_later : (x : Declaration) (xs : List Declaration) (d : ObjId) → same_object d (number_of x) ≡ false → declared_as (x ∷ xs) d.0 ≡ declared_as xs d.0
+declared_later x xs d e =
+    let ne : (number_of x).0 ≡ d.0 → ⊥ = λ same. (let yes : same_object d (number_of x) ≡ true = grind (arith, nat_tests) in cc (yes, e)) in
+    ap (λ b. cond b (Some x) (declared_as xs d.0)) (ne_eqb (number_of x).0 d.0 ne)
+
+pub place_declared : (declarations : List Declaration) (d : ObjId) (place : ℕ) → place_among (numbers_of declarations) d ≡ Some place → IsPlaced declarations d place
+place_declared [] d place e = absurd (let never : None ≡ Some place = e in cc)
+place_declared (x ∷ xs) d place e = by_test (place_declared xs d) (same_object d (number_of x)) refl
+  where
+    next : ((q : ℕ) → place_among (numbers_of xs) d ≡ Some q → IsPlaced xs d q) → (o : Option ℕ) → place_among (numbers_of xs) d ≡ o → option_map suc o ≡ Some place → same_object d (number_of x) ≡ false → IsPlaced (x ∷ xs) d place
+    next later None at is other = absurd (let never : None ≡ Some place = is in cc)
+    next later (Some q) at is other =
+        let there = later q at in
+        let same : suc q ≡ place = (let both : Some (suc q) ≡ Some place = is in cc) in
+        subst (IsPlaced (x ∷ xs) d) same (record {
+          declaration = there.declaration;
+          at = there.at;
+          declared = declared_later x xs d other ∙ there.declared;
+          number = there.number;
+        })
+
+    by_test : ((q : ℕ) → place_among (numbers_of xs) d ≡ Some q → IsPlaced xs d q) → (b : Bool) → same_object d (number_of x) ≡ b → IsPlaced (x ∷ xs) d place
+    by_test later true here =
+        let first : Some 0 ≡ Some place = sym (placed_first x xs d ∙ ap (λ c. cond c (Some 0) (option_map suc (place_among (numbers_of xs) d))) here) ∙ e in
+        let same : 0 ≡ place = cc in
+        subst (IsPlaced (x ∷ xs) d) same (record {
+          declaration = x;
+          at = refl;
+          declared = declared_here x xs d here;
+          number = sym (same_is d (number_of x) here);
+        })
+    by_test later false other =
+        next later (place_among (numbers_of xs) d) refl (sym (placed_first x xs d ∙ ap (λ c. cond c (Some 0) (option_map suc (place_among (numbers_of xs) d))) other) ∙ e) other
+
+-- a number that is declared has a place
+pub record HasPlace (declarations : List Declaration) (d : ObjId) : Type 0 where
+  pub place : ℕ
+  pub is : place_among (numbers_of declarations) d ≡ Some place
+  pub within : place < length declarations
+
+pub declared_place : (declarations : List Declaration) (d : ObjId) (declaration : Declaration) → declared_as declarations d.0 ≡ Some declaration → HasPlace declarations d
+declared_place [] d declaration e = absurd (let never : None ≡ Some declaration = e in cc)
+declared_place (x ∷ xs) d declaration e = by_test (declared_place xs d declaration) (same_object d (number_of x)) refl
+  where
+    by_test : (declared_as xs d.0 ≡ Some declaration → HasPlace xs d) → (b : Bool) → same_object d (number_of x) ≡ b → HasPlace (x ∷ xs) d
+    by_test later true here = record {
+      place = 0;
+      is = placed_first x xs d ∙ ap (λ c. cond c (Some 0) (option_map suc (place_among (numbers_of xs) d))) here;
+      within = omega arith;
+    }
+    by_test later false other =
+        let there = later (sym (declared_later x xs d other) ∙ e) in
+        record {
+          place = suc there.place;
+          is = placed_first x xs d ∙ ap (λ c. cond c (Some 0) (option_map suc (place_among (numbers_of xs) d))) other ∙ ap (option_map suc) there.is;
+          within = omega (arith, there.within);
+        }
+
+-- a place that is open is that of a declaration without a header before
+pub record IsOpen (before : Headers) (declarations : List Declaration) (d : ObjId) (place : ℕ) : Type 0 where
+  pub fresh : before d.0 ≡ None
+  pub placed : IsPlaced declarations d place
+
+pub open_is : (before : Headers) (declarations : List Declaration) (d : ObjId) (place : ℕ) → open_place before declarations d ≡ Some place → IsOpen before declarations d place
+open_is before declarations d place e = by_header (before d.0) refl
+  where
+    by_header : (o : Option ℤ) → before d.0 ≡ o → IsOpen before declarations d place
+    by_header (Some h) at = absurd (let never : None ≡ Some place = sym (ap (λ (x : Option ℤ). if is_some x then None else place_among (numbers_of declarations) d) at) ∙ e in cc)
+    by_header None at = record {
+      fresh = at;
+      placed = place_declared declarations d place (sym (ap (λ (x : Option ℤ). if is_some x then None else place_among (numbers_of declarations) d) at) ∙ e);
+    }
+
+pub has_open : (before : Headers) (declarations : List Declaration) (d : ObjId) (declaration : Declaration) → before d.0 ≡ None → declared_as declarations d.0 ≡ Some declaration → (place : ℕ) × (open_place before declarations d ≡ Some place) × (place < length declarations)
+has_open before declarations d declaration fresh declared =
+    let there = declared_place declarations d declaration declared in
+    (there.place, ap (λ (x : Option ℤ). if is_some x then None else place_among (numbers_of declarations) d) fresh ∙ there.is, there.within)
