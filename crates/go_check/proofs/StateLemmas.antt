@@ -1,13 +1,15 @@
 -- What is known as one more package of a module is checked.
 use Rattle.std.proofs.Common.{◌≡◌, ℕ, zero, suc, ◌+◌, ◌<◌, Bool, true, false, ◌⊎◌, inl, inr, Some, List, [], ◌∷◌, ◌++◌, length, map, drop, refl, sym, ap, ◌∙◌, subst, arith}
 use Rattle.std.specs.Prelude.{slice_get, unwrap_or}
+use Rattle.std.proofs.Math.Path.{fun_ext}
 use Rattle.std.proofs.lemmas.List.{append_assoc}
 use Rattle.go_graph.specs.Graph.{is_marked}
 use Rattle.go_module.specs.Modules.Module.{ModuleData, PackageData}
-use Rattle.go_model.specs.Phases.{AreReports, IsVerdict, all_told, skips, checks, imports_accepted, is_accepted, package_report}
+use Rattle.go_model.specs.Phases.{AreReports, IsVerdict, all_told, skips, checks, imports_accepted, is_accepted, no_headers, package_report}
 use Rattle.go_model.specs.Report as report
 use Rattle.go_model.specs.Report.{VerdictData, skipped}
-use Rattle.go_model.specs.Values.Meaning.{KnownValues}
+use Rattle.go_model.specs.Outcomes.Walk.{Headers}
+use Rattle.go_expr.specs.View.{known_by}
 use Rattle.go_check.specs.declared.denoted.Denoted.{Denoted}
 use Rattle.go_check.specs.declared.module.State.{State}
 use Rattle.go_check.specs.Packages.Names.{ImportsSound, sound_at}
@@ -51,8 +53,11 @@ marked_cases (x ∷ marks) b (suc q) e = by_rest (marked_cases marks b q e)
     by_rest (inr new) = inr (ap suc new.0, new.1)
 
 module _ (m : ModuleData) (denoted : Denoted) where
-  front_at_first : IsFront m 0 (record { marks = []; before = []; reports = [] })
-  front_at_first rest h = h
+  nothing_known : known_by [] ≡ no_headers
+  nothing_known = fun_ext (λ d. refl)
+
+  front_at_first : IsFront m 0 (record { marks = []; before = known_by []; reports = [] })
+  front_at_first rest h = subst (λ (b : Headers). AreReports m 0 [] b m.packages rest) nothing_known h
 
   no_mark : (q : ℕ) → is_marked [] q ≡ true → ⊥
   no_mark zero e = cc
@@ -64,16 +69,16 @@ module _ (m : ModuleData) (denoted : Denoted) where
     marked = ap length marks;
     accepted_sound = λ q e. absurd (no_mark q (ap (λ l. is_marked l q) (sym marks) ∙ e));
     front =
-        subst (λ ms. IsFront m 0 (record { marks = ms; before = s.before.entries; reports = map report.package_view s.reports.items })) (sym marks)
-        (subst (λ bs. IsFront m 0 (record { marks = []; before = bs; reports = map report.package_view s.reports.items })) (sym before)
-        (subst (λ rs. IsFront m 0 (record { marks = []; before = []; reports = map report.package_view rs })) (sym reports) front_at_first));
+        subst (λ ms. IsFront m 0 (record { marks = ms; before = known_by s.before.entries; reports = map report.package_view s.reports.items })) (sym marks)
+        (subst (λ bs. IsFront m 0 (record { marks = []; before = known_by bs; reports = map report.package_view s.reports.items })) (sym before)
+        (subst (λ rs. IsFront m 0 (record { marks = []; before = known_by []; reports = map report.package_view rs })) (sym reports) front_at_first));
   }
 
   -- behind the last package all reports are told
-  pub all_reports : (k : ℕ) (s : State) → IsState m denoted k s → k ≡ length m.packages → AreReports m 0 [] [] m.packages (map report.package_view s.reports.items)
+  pub all_reports : (k : ℕ) (s : State) → IsState m denoted k s → k ≡ length m.packages → AreReports m 0 [] no_headers m.packages (map report.package_view s.reports.items)
   all_reports k s state last =
-      let told : AreReports m k s.marks.items s.before.entries (drop k m.packages) [] = subst (λ ps. AreReports m k s.marks.items s.before.entries ps []) (sym (drop_all m.packages k last)) (all_told k s.marks.items s.before.entries) in
-      subst (AreReports m 0 [] [] m.packages) (no_rest (map report.package_view s.reports.items)) (state.front [] told)
+      let told : AreReports m k s.marks.items (known_by s.before.entries) (drop k m.packages) [] = subst (λ ps. AreReports m k s.marks.items (known_by s.before.entries) ps []) (sym (drop_all m.packages k last)) (all_told k s.marks.items (known_by s.before.entries)) in
+      subst (AreReports m 0 [] no_headers m.packages) (no_rest (map report.package_view s.reports.items)) (state.front [] told)
 
   -- what a package imports is sound where it is accepted
   pub imports_sound : (k : ℕ) (p : PackageData) (s : State) → IsState m denoted k s → imports_accepted s.marks.items p ≡ true → ImportsSound denoted.verdicts.items k p
@@ -87,19 +92,19 @@ module _ (m : ModuleData) (k : ℕ) (p : PackageData) (at : slice_get m.packages
   pub front_skips : (s : StateData) → IsFront m k s → imports_accepted s.marks p ≡ false → IsFront m (k + 1) (record { marks = s.marks ++ false ∷ []; before = s.before; reports = s.reports ++ package_report p skipped ∷ [] })
   front_skips s front e rest h =
       let here : AreReports m k s.marks s.before (drop k m.packages) (package_report p skipped ∷ rest) = subst (λ ps. AreReports m k s.marks s.before ps (package_report p skipped ∷ rest)) (sym (drop_at m.packages k p at)) (skips k s.marks s.before p (drop (k + 1) m.packages) rest e h) in
-      subst (AreReports m 0 [] [] m.packages) (sym (append_assoc s.reports (package_report p skipped ∷ []) rest)) (front (package_report p skipped ∷ rest) here)
+      subst (AreReports m 0 [] no_headers m.packages) (sym (append_assoc s.reports (package_report p skipped ∷ []) rest)) (front (package_report p skipped ∷ rest) here)
 
   -- one that is checked
-  pub front_checks : (s : StateData) (verdict : VerdictData) (after : KnownValues) → IsFront m k s → imports_accepted s.marks p ≡ true → IsVerdict m k p s.before verdict after → IsFront m (k + 1) (record { marks = s.marks ++ is_accepted verdict ∷ []; before = after; reports = s.reports ++ package_report p verdict ∷ [] })
+  pub front_checks : (s : StateData) (verdict : VerdictData) (after : Headers) → IsFront m k s → imports_accepted s.marks p ≡ true → IsVerdict m k p s.before verdict after → IsFront m (k + 1) (record { marks = s.marks ++ is_accepted verdict ∷ []; before = after; reports = s.reports ++ package_report p verdict ∷ [] })
   front_checks s verdict after front e is rest h =
       let here : AreReports m k s.marks s.before (drop k m.packages) (package_report p verdict ∷ rest) = subst (λ ps. AreReports m k s.marks s.before ps (package_report p verdict ∷ rest)) (sym (drop_at m.packages k p at)) (checks k s.marks s.before after verdict p (drop (k + 1) m.packages) rest e is h) in
-      subst (AreReports m 0 [] [] m.packages) (sym (append_assoc s.reports (package_report p verdict ∷ []) rest)) (front (package_report p verdict ∷ rest) here)
+      subst (AreReports m 0 [] no_headers m.packages) (sym (append_assoc s.reports (package_report p verdict ∷ []) rest)) (front (package_report p verdict ∷ rest) here)
 
-module _ (m : ModuleData) (denoted : Denoted) (k : ℕ) (p : PackageData) (old new : State) (verdict : VerdictData) (after : KnownValues) where
+module _ (m : ModuleData) (denoted : Denoted) (k : ℕ) (p : PackageData) (old new : State) (verdict : VerdictData) (after : Headers) where
   -- one more package is checked
   pub next_state : IsState m denoted k old
       → new.marks.items ≡ old.marks.items ++ is_accepted verdict ∷ []
-      → new.before.entries ≡ after
+      → known_by new.before.entries ≡ after
       → map report.package_view new.reports.items ≡ map report.package_view old.reports.items ++ package_report p verdict ∷ []
       → (is_accepted verdict ≡ true → sound_at denoted.verdicts.items k ≡ true)
       → IsFront m (k + 1) (record { marks = old.marks.items ++ is_accepted verdict ∷ []; before = after; reports = map report.package_view old.reports.items ++ package_report p verdict ∷ [] })
@@ -108,7 +113,7 @@ module _ (m : ModuleData) (denoted : Denoted) (k : ℕ) (p : PackageData) (old n
     marked = ap length marks ∙ one_longer old.marks.items (is_accepted verdict) ∙ ap (λ n. n + 1) state.marked;
     accepted_sound = λ q e. by_mark q (marked_cases old.marks.items (is_accepted verdict) q (ap (λ l. is_marked l q) (sym marks) ∙ e));
     front =
-        subst (λ ms. IsFront m (k + 1) (record { marks = ms; before = new.before.entries; reports = map report.package_view new.reports.items })) (sym marks)
+        subst (λ ms. IsFront m (k + 1) (record { marks = ms; before = known_by new.before.entries; reports = map report.package_view new.reports.items })) (sym marks)
         (subst (λ bs. IsFront m (k + 1) (record { marks = old.marks.items ++ is_accepted verdict ∷ []; before = bs; reports = map report.package_view new.reports.items })) (sym before)
         (subst (λ rs. IsFront m (k + 1) (record { marks = old.marks.items ++ is_accepted verdict ∷ []; before = after; reports = rs })) (sym reports) front));
   }

@@ -68,7 +68,7 @@ fn check_packages(
 ) -> Result<Vec<PackageReport>, NoMemory>
     requires denoted { AreDenoted (module_view «module».now) (length «module».now.packages.items) denoted.now }
     requires outline { outline_view outline.now ≡ outline_of (module_view «module».now) }
-    ensures { IfOk result (λ made. phases.AreReports (module_view «module».now) 0 [] []
+    ensures { IfOk result (λ made. phases.AreReports (module_view «module».now) 0 [] phases.no_headers
         (module_view «module».now).packages (map reports.package_view made.items)) }
 {
     let mut state = State {

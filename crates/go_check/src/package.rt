@@ -1,11 +1,9 @@
 // The check of a package whose imports are accepted (Go specification, "Declarations and scope", "Constant
 // declarations").
-ghost use Rattle.std.specs.Prelude.{◌≡◌, ◌∷◌, ◌++◌, ◌<◌, [], ℕ, true, IfOk, OnOk, Some, length, map, slice_get};
+ghost use Rattle.std.specs.Prelude.{◌≡◌, ◌∷◌, ◌++◌, ◌<◌, [], ℕ, true, IfOk, OnOk, Some, length, slice_get};
 ghost use Rattle.std.specs.Option.{option_map_or};
 ghost use Rattle.indexmap.specs.IndexMap.{insert_all};
 ghost use Rattle.go_module.specs.Modules.Module.{ModuleData, PackageData, module_view, package_view};
-ghost use Rattle.std.specs.Map.{lookup};
-ghost use Rattle.go_model.specs.Values.Meaning.{place_among};
 ghost use Rattle.go_module.specs.Names.Declarations as names;
 ghost use Rattle.go_module.specs.Scopes.{same_object};
 ghost use Rattle.go_model.specs.Outline.{outline_of};
@@ -15,10 +13,11 @@ ghost use Rattle.go_model.specs.Report.{line_view, named_view, verdict_view};
 ghost use Rattle.go_names.specs.Views.{declarations_view};
 ghost use Rattle.go_check.specs.Lines.Found.{own_files_in, own_files_view};
 ghost use Rattle.go_check.specs.Packages.Denoted.{AreDenoted, AreUses};
+ghost use Rattle.go_check.specs.Packages.Known.{headers_in};
 ghost use Rattle.go_check.specs.Packages.Names.{ImportsSound, sound_at};
 ghost use Rattle.go_expr.specs.Table.{headers_by};
 ghost use Rattle.go_check.specs.Packages.Verdicts.{IsAccepting};
-ghost use Rattle.go_expr.specs.View.{IsAround, denotes_by, means_by};
+ghost use Rattle.go_expr.specs.View.{IsAround, before_by, denotes_by, known_by, means_by};
 ghost use Rattle.go_check.specs.View.{outline_view};
 
 use crate::denoted::Denoted;
@@ -30,8 +29,8 @@ use crate::own_file::{OwnFile, declarations_of, own_files};
 use crate::places::placed_list;
 use crate::values::broken_values;
 use go_base::NoMemory;
-use go_decl::{cyclic_declarations, headers};
-use go_expr::{Around, value_over};
+use go_decl::{cyclic_declarations, headers, places_of};
+use go_expr::Around;
 use go_model::{Records, Verdict};
 use go_module::{Module, ObjId, Package, breaks_none};
 use go_names::Declaration;
@@ -39,8 +38,8 @@ use go_tree::NodeId;
 use indexmap::IndexMap;
 use std::alloc::Global;
 
-/// The verdict on the package at a place of the module, whose imports are accepted. `before` has the values of the
-/// constants of accepted packages, and gets those of the package where it is accepted. An error is want of memory.
+/// The verdict on the package at a place of the module, whose imports are accepted. `before` has the headers of the
+/// declarations of accepted packages, and gets those of the package where it is accepted. An error is want of memory.
 pub fn check_package(
     alloc: Global,
     module: &Module,
@@ -56,7 +55,7 @@ pub fn check_package(
         → ImportsSound denoted.now.verdicts.items place p }
     ensures verdict { IfOk result (λ verdict. (p : PackageData)
         → slice_get (module_view «module».now).packages place ≡ Some p → phases.IsVerdict (module_view «module».now)
-        place p before.old.entries (verdict_view verdict) before.new.entries) }
+        place p (known_by before.old.entries) (verdict_view verdict) (known_by before.new.entries)) }
     ensures sound { IfOk result (λ verdict. phases.is_accepted (verdict_view verdict) ≡ true
         → sound_at denoted.now.verdicts.items place ≡ true) }
 {
@@ -78,41 +77,27 @@ fn check_values(
 ) -> Result<Verdict, NoMemory>
     ensures { IfOk result (λ verdict. (m : ModuleData) (k : ℕ) → slice_get m.packages k ≡ Some (package_view own.now)
         → outline_view outline.now ≡ outline_of m → AreUses m k uses.now.entries → phases.IsVerdict m k
-        (package_view own.now) before.old.entries (verdict_view verdict) before.new.entries) }
+        (package_view own.now) (known_by before.old.entries) (verdict_view verdict) (known_by before.new.entries)) }
 {
     let files = own_files(alloc, own)?;
     let declarations = declarations_of(alloc, &files)?;
-    let places = places_of(alloc, &declarations)?;
+    let places = places_of(alloc, before, &declarations)?;
     let around = Around {
         uses,
         places: &places,
         before,
     };
-    let Judged { verdict, values } = judge(alloc, own, outline, &around, &files, &declarations)?;
-    add_values(before, &values)?;
+    let judged = judge(alloc, own, outline, &around, &files, &declarations)?;
+    let Judged { verdict, headers } = judged;
+    add_headers(before, &headers)?;
     Ok(verdict)
 }
 
-// The place of each declaration by its number: of declarations with one number that of the first.
-fn places_of(
-    alloc: Global,
-    declarations: &[Declaration],
-) -> Result<IndexMap<ObjId, usize>, NoMemory>
-    ensures { IfOk result (λ places. (d : ObjId) → lookup (same_object d) places.entries
-        ≡ place_among (names.numbers_of (declarations_view declarations.now)) d) }
-{
-    let mut places = IndexMap::new(alloc);
-    for place in (0..declarations.len()).rev() {
-        places.insert(declarations[place].number(), place)?;
-    }
-    Ok(places)
-}
-
-// A verdict, and the values that are known behind it.
+// A verdict, and the headers of declarations that are known behind it.
 #[derive(Drop)]
 struct Judged {
     verdict: Verdict,
-    values: Vec<(ObjId, i128)>,
+    headers: Vec<(ObjId, i128)>,
 }
 
 // The verdict by the values of declarations.
@@ -129,8 +114,8 @@ fn judge(
     requires around { IsAround (declarations_view declarations.now) around.now }
     ensures { IfOk result (λ judged. (m : ModuleData) (k : ℕ) → slice_get m.packages k ≡ Some (package_view own.now)
         → outline_view outline.now ≡ outline_of m → AreUses m k around.now.uses.now.entries → phases.IsVerdict m k
-        (package_view own.now) around.now.before.now.entries (verdict_view judged.verdict)
-        (insert_all same_object around.now.before.now.entries judged.values.items)) }
+        (package_view own.now) (before_by around.now) (verdict_view judged.verdict)
+        (known_by (insert_all same_object around.now.before.now.entries judged.headers.items))) }
 {
     let table = headers(alloc, around, declarations)?;
     let cyclic = cyclic_declarations(alloc, around, &table, declarations)?;
@@ -141,7 +126,7 @@ fn judge(
         let verdict = Verdict::Refused(placed_list(alloc, own, &list)?);
         Ok(Judged {
             verdict,
-            values: Vec::new(alloc),
+            headers: Vec::new(alloc),
         })
     }
 }
@@ -158,60 +143,60 @@ fn accept(
     ensures verdict { IfOk result (λ judged. (k : ℕ) (p : PackageData) → own_files_view files.now ≡ own_files_in p
         → IsAccepting (outline_view outline.now) k p (denotes_by around.now) (means_by around.now)
         (headers_by around.now table.now) (verdict_view judged.verdict)) }
-    ensures values { IfOk result (λ judged. judged.values.items
-        ≡ phases.values_of (means_by around.now) (headers_by around.now table.now) (declarations_view declarations.now)) }
+    ensures headers { IfOk result (λ judged. judged.headers.items
+        ≡ headers_in (headers_by around.now table.now) (declarations_view declarations.now)) }
 {
     let lines = lines_of(alloc, outline, files, around, table)?;
     let named = named_in(alloc, outline, &lines)?;
-    let values = values_of(alloc, around, table, declarations)?;
+    let headers = headers_in(alloc, around, table, declarations)?;
     Ok(Judged {
         verdict: Verdict::Accepted(Records { lines, named }),
-        values,
+        headers,
     })
 }
 
-// The values of declarations, by their numbers.
-fn values_of(
+// The headers of declarations, by their numbers.
+fn headers_in(
     alloc: Global,
     around: &Around,
     table: &[Option<i128>],
     declarations: &[Declaration],
 ) -> Result<Vec<(ObjId, i128)>, NoMemory>
-    ensures { IfOk result (λ values. values.items
-        ≡ phases.values_of (means_by around.now) (headers_by around.now table.now) (declarations_view declarations.now)) }
+    ensures { IfOk result (λ headers. headers.items
+        ≡ headers_in (headers_by around.now table.now) (declarations_view declarations.now)) }
 {
-    let mut values = Vec::new(alloc);
+    let mut headers = Vec::new(alloc);
     for declaration in declarations {
-        push_value(
-            declaration.number(),
-            value_over(around, table, declaration),
-            &mut values,
-        )?;
+        let number = declaration.number();
+        push_header(number, around.header(table, number), &mut headers)?;
     }
-    Ok(values)
+    Ok(headers)
 }
 
-// Pushes the value, if there is one.
-fn push_value(
+// Pushes the header, if there is one.
+fn push_header(
     number: ObjId,
-    value: Option<i128>,
-    values: &mut Vec<(ObjId, i128)>,
+    header: Option<i128>,
+    headers: &mut Vec<(ObjId, i128)>,
 ) -> Result<(), NoMemory>
-    ensures { OnOk result (values.new.items ≡ values.old.items
-        ++ option_map_or (λ v. (number, v) ∷ []) value []) }
+    ensures { OnOk result (headers.new.items ≡ headers.old.items
+        ++ option_map_or (λ h. (number, h) ∷ []) header []) }
 {
-    if let Some(value) = value {
-        values.push((number, value))?;
+    if let Some(header) = header {
+        headers.push((number, header))?;
     }
     Ok(())
 }
 
-// Adds values to those that are known.
-fn add_values(before: &mut IndexMap<ObjId, i128>, values: &[(ObjId, i128)]) -> Result<(), NoMemory>
-    ensures { OnOk result (before.new.entries ≡ insert_all same_object before.old.entries values.now) }
+// Adds headers to those that are known.
+fn add_headers(
+    before: &mut IndexMap<ObjId, i128>,
+    headers: &[(ObjId, i128)],
+) -> Result<(), NoMemory>
+    ensures { OnOk result (before.new.entries ≡ insert_all same_object before.old.entries headers.now) }
 {
-    for (number, value) in values {
-        before.insert(*number, *value)?;
+    for (number, header) in headers {
+        before.insert(*number, *header)?;
     }
     Ok(())
 }

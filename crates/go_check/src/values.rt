@@ -2,7 +2,6 @@
 // "Qualified identifiers").
 ghost use Rattle.std.specs.Prelude.{◌≡◌, ◌++◌, IfOk, OnOk, map};
 ghost use Rattle.std.specs.List.{flat_map};
-ghost use Rattle.go_graph.specs.Graph as marking;
 ghost use Rattle.go_module.specs.Order.{IsListOf};
 ghost use Rattle.go_module.specs.Modules.Module.{package_view};
 ghost use Rattle.go_module.specs.Names.Declarations.{declarations_of};
@@ -10,14 +9,15 @@ ghost use Rattle.go_model.specs.Values.Rules as rules;
 ghost use Rattle.go_names.specs.Views.{declaration_view, declarations_view, specs_view};
 ghost use Rattle.go_check.specs.Lines.Found.{all_specs_in, own_files_in, own_files_view};
 ghost use Rattle.go_expr.specs.Table.{headers_by};
-ghost use Rattle.go_expr.specs.View.{means_by};
+ghost use Rattle.go_expr.specs.View.{means_by, places_by};
+ghost use Rattle.go_decl.specs.Waits.{marked_by};
 
 use crate::broken::push_spec;
 use crate::own_file::OwnFile;
 use crate::rules::CYCLIC_DECLARATION;
 use go_base::{Broken, NoMemory};
+use go_decl::is_cyclic;
 use go_expr::Around;
-use go_graph::is_marked;
 use go_module::{Package, add_if, broken_at, ordered, with_numbers};
 use go_names::{Declaration, Spec};
 use std::alloc::Global;
@@ -37,25 +37,27 @@ pub fn broken_values(
     requires files { own_files_view files.now ≡ own_files_in (package_view own.now) }
     requires declarations { declarations_view declarations.now ≡ declarations_of (package_view own.now) }
     ensures { IfOk result (λ list. IsListOf (rules.broken_values (means_by around.now) (headers_by around.now table.now)
-        (marking.is_marked cyclic.now) (package_view own.now)) list.items) }
+        (marked_by (places_by around.now) cyclic.now) (package_view own.now)) list.items) }
 {
     let mut found = Vec::new(alloc);
-    push_cycles(cyclic, declarations, &mut found)?;
+    push_cycles(around, cyclic, declarations, &mut found)?;
     push_files(alloc, around, table, files, &mut found)?;
     Ok(ordered(with_numbers(alloc, &own.files, &found)?))
 }
 
 // Pushes C1 at the name of each declaration that is marked as cyclic.
 fn push_cycles(
+    around: &Around,
     cyclic: &[bool],
     declarations: &[Declaration],
     list: &mut Vec<Broken>,
 ) -> Result<(), NoMemory>
-    ensures { OnOk result (list.new.items ≡ list.old.items
-        ++ rules.broken_cycles (marking.is_marked cyclic.now) 0 (declarations_view declarations.now)) }
+    ensures { OnOk result (list.new.items ≡ list.old.items ++ rules.broken_cycles
+        (marked_by (places_by around.now) cyclic.now) (declarations_view declarations.now)) }
 {
-    for (place, declaration) in declarations.iter().enumerate() {
-        push_cyclic(is_marked(cyclic, place), declaration, list)?;
+    for declaration in declarations {
+        let is_cyclic = is_cyclic(around, cyclic, declaration.number());
+        push_cyclic(is_cyclic, declaration, list)?;
     }
     Ok(())
 }

@@ -2,7 +2,7 @@
 use Rattle.std.proofs.Common.{◌≡◌, ℕ, ℤ, zero, suc, ◌+◌, ◌-◌, ◌<◌, Bool, true, false, cond, not, Option, Some, None, List, [], ◌∷◌, length, map, drop, get_or, refl, sym, ap, ◌∙◌, subst, arith}
 use Rattle.std.proofs.lemmas.Bool.{eq-eqb, ne_eqb}
 use Rattle.std.proofs.lemmas.Bool.Decides.{nat_tests}
-use Rattle.std.specs.Prelude.{nat_lt, position, slice_get, is_some, if◌then◌else◌}
+use Rattle.std.specs.Prelude.{◌||◌, nat_lt, position, slice_get, is_some, if◌then◌else◌}
 use Rattle.std.specs.List.{position_or_len}
 use Rattle.std.specs.Map.{lookup}
 use Rattle.std.specs.Option.{option_map}
@@ -15,10 +15,10 @@ use Rattle.go_model.specs.Values.Declared.{declared_as}
 use Rattle.go_expr.specs.Places.{place_among}
 use Rattle.go_expr.specs.View.{open_place}
 
-same_is : (a b : ObjId) → same_object a b ≡ true → a ≡ b
+pub same_is : (a b : ObjId) → same_object a b ≡ true → a ≡ b
 same_is a b e = let at : a.0 ≡ b.0 = grind (arith, nat_tests) in λ i. record { 0 = at i }
 
-is_same : (a b : ObjId) → a ≡ b → same_object a b ≡ true
+pub is_same : (a b : ObjId) → a ≡ b → same_object a b ≡ true
 is_same a b e = let at : a.0 ≡ b.0 = ap (λ (d : ObjId). d.0) e in grind (arith, nat_tests)
 
 module _ {V : Type 0} (q : ObjId) where
@@ -288,3 +288,29 @@ pub has_open : (before : Headers) (declarations : List Declaration) (d : ObjId) 
 has_open before declarations d declaration fresh declared =
     let there = declared_place declarations d declaration declared in
     (there.place, ap (λ (x : Option ℤ). if is_some x then None else place_among (numbers_of declarations) d) fresh ∙ there.is, there.within)
+
+-- what has a place, or a header before, is declared, or has a header before
+pub declares_are : (before : Headers) (declarations : List Declaration) (d : ObjId) → (is_some (open_place before declarations d) || is_some (before d.0)) ≡ (is_some (declared_as declarations d.0) || is_some (before d.0))
+declares_are before declarations d = by_header (before d.0) refl
+  where
+    some_right : (a b : Bool) → (a || true) ≡ (b || true)
+    some_right true true = refl
+    some_right true false = refl
+    some_right false true = refl
+    some_right false false = refl
+
+    one_place : (o : Option ℕ) (x : Option Declaration) → place_among (numbers_of declarations) d ≡ o → declared_as declarations d.0 ≡ x → is_some o ≡ is_some x
+    one_place None None at is = refl
+    one_place (Some n) (Some x) at is = refl
+    one_place None (Some x) at is = absurd (let there = declared_place declarations d x is in let never : None ≡ Some there.place = sym at ∙ there.is in cc)
+    one_place (Some n) None at is = absurd (let there = place_declared declarations d n at in let never : None ≡ Some there.declaration = sym is ∙ there.declared in cc)
+
+    by_header : (o : Option ℤ) → before d.0 ≡ o → (is_some (if is_some (before d.0) then None else place_among (numbers_of declarations) d) || is_some (before d.0)) ≡ (is_some (declared_as declarations d.0) || is_some (before d.0))
+    by_header (Some h) at =
+        ap (λ (x : Option ℤ). is_some (if is_some x then None else place_among (numbers_of declarations) d) || is_some x) at
+        ∙ some_right false (is_some (declared_as declarations d.0))
+        ∙ sym (ap (λ (x : Option ℤ). is_some (declared_as declarations d.0) || is_some x) at)
+    by_header None at =
+        ap (λ (x : Option ℤ). is_some (if is_some x then None else place_among (numbers_of declarations) d) || is_some x) at
+        ∙ ap (λ b. b || false) (one_place (place_among (numbers_of declarations) d) (declared_as declarations d.0) refl refl)
+        ∙ sym (ap (λ (x : Option ℤ). is_some (declared_as declarations d.0) || is_some x) at)

@@ -1,23 +1,24 @@
 -- What is known while the packages of a module are checked, one after another.
 use Rattle.std.specs.Prelude.{◌≡◌, ℕ, Bool, true, List, [], ◌++◌, drop, length, map}
-use Rattle.go_model.specs.Values.Meaning.{KnownValues}
+use Rattle.go_model.specs.Outcomes.Walk.{Headers}
 use Rattle.go_module.specs.Modules.Module.{ModuleData}
 use Rattle.go_graph.specs.Graph.{is_marked}
-use Rattle.go_model.specs.Phases.{AreReports}
+use Rattle.go_model.specs.Phases.{AreReports, no_headers}
 use Rattle.go_model.specs.Report.{PackageReportData, package_view}
+use Rattle.go_expr.specs.View.{known_by}
 use Rattle.go_check.specs.declared.denoted.Denoted.{Denoted}
 use Rattle.go_check.specs.declared.module.State.{State}
 use Rattle.go_check.specs.Packages.Names.{sound_at}
 
--- what is known behind the packages that are checked: which are accepted, the values of their constants, and
+-- what is known behind the packages that are checked: which are accepted, the headers of their declarations, and
 -- the reports
 pub record StateData : Type 0 where
   pub marks : List Bool
-  pub before : KnownValues
+  pub before : Headers
   pub reports : List PackageReportData
 
 abbrev pub state_view : State → StateData
-state_view s = record { marks = s.marks.items; before = s.before.entries; reports = map package_view s.reports.items }
+state_view s = record { marks = s.marks.items; before = known_by s.before.entries; reports = map package_view s.reports.items }
 
 -- the names of each package that is accepted break no rule
 abbrev pub AcceptedAreSound : Denoted → List Bool → Type 0
@@ -25,7 +26,7 @@ AcceptedAreSound denoted marks = (q : ℕ) → is_marked marks q ≡ true → so
 
 -- the reports so far, with those of the packages left, are those of the module
 abbrev pub IsFront : ModuleData → ℕ → StateData → Type 0
-IsFront m k s = (rest : List PackageReportData) → AreReports m k s.marks s.before (drop k m.packages) rest → AreReports m 0 [] [] m.packages (s.reports ++ rest)
+IsFront m k s = (rest : List PackageReportData) → AreReports m k s.marks s.before (drop k m.packages) rest → AreReports m 0 [] no_headers m.packages (s.reports ++ rest)
 
 -- the packages before the place k are checked
 pub record IsState (m : ModuleData) (denoted : Denoted) (k : ℕ) (s : State) : Type 0 where

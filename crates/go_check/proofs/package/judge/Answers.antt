@@ -1,20 +1,23 @@
 use Rattle.std.proofs.Common.{◌≡◌, ◌≢◌, ◌∙◌, ℕ, true, [], map, sym, ap, subst}
 use Rattle.std.specs.Prelude.{◌↔◌}
 use Rattle.indexmap.specs.IndexMap.{insert_all}
-use Rattle.go_graph.specs.Graph.{is_marked}
 use Rattle.go_module.specs.Order.{IsListOf}
 use Rattle.go_module.specs.Modules.Module.{package_view}
 use Rattle.go_module.specs.Places.{placed_by}
 use Rattle.go_module.specs.Scopes.{same_object}
-use Rattle.go_model.specs.Phases.{IsVerdict, values_of}
+use Rattle.go_model.specs.Outcomes.Walk.{Headers}
+use Rattle.go_model.specs.Phases.{IsVerdict}
 use Rattle.go_model.specs.Report.{refused, verdict_view}
 use Rattle.go_model.specs.Values.Rules.{broken_values}
 use Rattle.go_model.specs.Values.Waiting.{Chain}
 use Rattle.go_names.specs.Views.{declarations_view}
-use Rattle.go_expr.specs.Table.{slot_of}
+use Rattle.go_expr.specs.Table.{headers_by}
+use Rattle.go_check.specs.Packages.Known.{headers_in}
 use Rattle.go_check.specs.Packages.Verdicts.{IsAccepting}
-use Rattle.go_expr.specs.View.{denotes_by, means_by}
+use Rattle.go_expr.specs.View.{before_by, denotes_by, known_by, means_by, places_by}
+use Rattle.go_decl.specs.Waits.{marked_by}
 use Rattle.go_check.specs.View.{outline_view}
+use Rattle.go_check.proofs.KnownLemmas.{known_after}
 use Rattle.go_check.proofs.ResultLemmas.{both_if_ok}
 use Rattle.go_check.proofs.VerdictLemmas.{breaks, denotes_are, means_are, refused_values, sound_names, sound_verdict}
 use Rattle.go_check.proofs.package.judge.Goals as goal
@@ -23,44 +26,47 @@ pub returns-then-breaks_none : goal.returns-then-breaks_none
 returns-then-breaks_none c =
     let p = package_view c.args.own.now in
     let around = c.args.around.now in
+    let before = before_by around in
     let means = means_by around in
     let declarations = declarations_view c.args.declarations.now in
     let table = c.in_ok-table.table.items in
-    let marks = c.in_ok-cyclic.cyclic.items in
+    let cyclic = marked_by (places_by around) c.in_ok-cyclic.cyclic.items in
     let list = c.in_ok-list.list.items in
-    let chains = subst (λ t. (d : ℕ) → (is_marked marks d ≡ true) ↔ Chain means declarations (slot_of t) d d) c.deref.ensures.value c.in_ok-cyclic.ensures.exact in
-    let over_table = subst (λ t. IsListOf (broken_values means (slot_of t) (is_marked c.deref-3.result.now) p) list) c.deref-2.ensures.value c.in_ok-list.ensures in
-    let listed = subst (λ t. IsListOf (broken_values means (slot_of table) (is_marked t) p) list) c.deref-3.ensures.value over_table in
+    let chains = subst (λ t. (d : ℕ) → (cyclic d ≡ true) ↔ Chain means declarations (headers_by around t) d d) c.deref.ensures.value c.in_ok-cyclic.ensures.exact in
+    let over_table = subst (λ t. IsListOf (broken_values means (headers_by around t) (marked_by (places_by around) c.deref-3.result.now) p) list) c.deref-2.ensures.value c.in_ok-list.ensures in
+    let listed = subst (λ t. IsListOf (broken_values means (headers_by around table) (marked_by (places_by around) t) p) list) c.deref-3.ensures.value over_table in
     let none : list ≡ [] = sym c.deref-4.ensures.value ∙ c.breaks_none.ensures.none c.if-breaks_none.true in
     both_if_ok c.accept.result _ _ _
-    (λ judged verdict values m k at outline uses.
+    (λ judged verdict headers m k at outline uses.
     let same = means_are m k p at declarations around c.requires.declarations c.requires.around uses in
-    let found = breaks m k p around.before.now.entries means declarations same c.requires.declarations (slot_of table) (is_marked marks) list (sound_names m k p at around.uses.now.entries uses) c.in_ok-table.ensures.exact chains listed in
-    let accepting = subst (λ o. IsAccepting o k p (denotes_by around) means (slot_of table) (verdict_view judged.verdict)) outline
-    (subst (λ t. IsAccepting (outline_view c.args.outline.now) k p (denotes_by around) means (slot_of t) (verdict_view judged.verdict)) c.deref-then-breaks_none.ensures.value (verdict k p c.requires.files)) in
-    sound_verdict m k p around.before.now.entries means declarations same c.requires.declarations (slot_of table) (denotes_by around) list (verdict_view judged.verdict) judged.values.items found none
+    let found = breaks m k p before means declarations same c.requires.declarations (headers_by around table) cyclic list (sound_names m k p at around.uses.now.entries uses) c.in_ok-table.ensures.exact chains listed in
+    let accepting = subst (λ o. IsAccepting o k p (denotes_by around) means (headers_by around table) (verdict_view judged.verdict)) outline
+    (subst (λ t. IsAccepting (outline_view c.args.outline.now) k p (denotes_by around) means (headers_by around t) (verdict_view judged.verdict)) c.deref-then-breaks_none.ensures.value (verdict k p c.requires.files)) in
+    let after : known_by (insert_all same_object around.before.now.entries judged.headers.items) ≡ headers_by around table =
+    ap (λ hs. known_by (insert_all same_object around.before.now.entries hs)) (headers ∙ ap (λ t. headers_in (headers_by around t) declarations) c.deref-then-breaks_none.ensures.value)
+    ∙ known_after around table declarations c.requires.around in
+    sound_verdict m k p before means declarations same c.requires.declarations (headers_by around table) (known_by (insert_all same_object around.before.now.entries judged.headers.items)) (denotes_by around) list (verdict_view judged.verdict) found none
     (denotes_are m k p at declarations around c.requires.declarations c.requires.around uses)
-    accepting
-    (values ∙ ap (λ t. values_of means (slot_of t) declarations) c.deref-then-breaks_none.ensures.value))
-    c.accept.ensures.verdict c.accept.ensures.values
+    accepting after)
+    c.accept.ensures.verdict c.accept.ensures.headers
 
 pub returns : goal.returns
 returns c m k at outline uses =
     let p = package_view c.args.own.now in
     let around = c.args.around.now in
-    let before = around.before.now.entries in
+    let before = before_by around in
     let means = means_by around in
     let declarations = declarations_view c.args.declarations.now in
     let table = c.in_ok-table.table.items in
-    let marks = c.in_ok-cyclic.cyclic.items in
+    let cyclic = marked_by (places_by around) c.in_ok-cyclic.cyclic.items in
     let list = c.in_ok-list.list.items in
-    let chains = subst (λ t. (d : ℕ) → (is_marked marks d ≡ true) ↔ Chain means declarations (slot_of t) d d) c.deref.ensures.value c.in_ok-cyclic.ensures.exact in
-    let over_table = subst (λ t. IsListOf (broken_values means (slot_of t) (is_marked c.deref-3.result.now) p) list) c.deref-2.ensures.value c.in_ok-list.ensures in
-    let listed = subst (λ t. IsListOf (broken_values means (slot_of table) (is_marked t) p) list) c.deref-3.ensures.value over_table in
+    let chains = subst (λ t. (d : ℕ) → (cyclic d ≡ true) ↔ Chain means declarations (headers_by around t) d d) c.deref.ensures.value c.in_ok-cyclic.ensures.exact in
+    let over_table = subst (λ t. IsListOf (broken_values means (headers_by around t) (marked_by (places_by around) c.deref-3.result.now) p) list) c.deref-2.ensures.value c.in_ok-list.ensures in
+    let listed = subst (λ t. IsListOf (broken_values means (headers_by around table) (marked_by (places_by around) t) p) list) c.deref-3.ensures.value over_table in
     let same = means_are m k p at declarations around c.requires.declarations c.requires.around uses in
-    let found = breaks m k p before means declarations same c.requires.declarations (slot_of table) (is_marked marks) list (sound_names m k p at around.uses.now.entries uses) c.in_ok-table.ensures.exact chains listed in
+    let found = breaks m k p before means declarations same c.requires.declarations (headers_by around table) cyclic list (sound_names m k p at around.uses.now.entries uses) c.in_ok-table.ensures.exact chains listed in
     let some : list ≢ [] = λ e. c.breaks_none.ensures.some c.if-breaks_none.false (c.deref-4.ensures.value ∙ e) in
     let placed : c.in_ok-placed_list.field-0.items ≡ map (placed_by p) list = c.in_ok-placed_list.ensures ∙ ap (map (placed_by p)) c.deref-else-breaks_none.ensures.value in
-    let after : before ≡ insert_all same_object before c.new.result.items = ap (insert_all same_object before) (sym c.new.ensures.items) in
-    subst (IsVerdict m k p before (refused c.in_ok-placed_list.field-0.items)) after
-    (subst (λ bs. IsVerdict m k p before (refused bs) before) (sym placed) (refused_values m k p before (slot_of table) list found some))
+    let after : before ≡ known_by (insert_all same_object around.before.now.entries c.new.result.items) = ap (λ hs. known_by (insert_all same_object around.before.now.entries hs)) (sym c.new.ensures.items) in
+    subst (λ (b : Headers). IsVerdict m k p before (refused c.in_ok-placed_list.field-0.items) b) after
+    (subst (λ bs. IsVerdict m k p before (refused bs) before) (sym placed) (refused_values m k p before (headers_by around table) list found some))

@@ -1,6 +1,5 @@
 use Rattle.std.proofs.Common.{◌≡◌, ◌++◌, map, ap, ◌∙◌, subst}
 use Rattle.std.specs.List.{flat_map}
-use Rattle.go_graph.specs.Graph.{is_marked}
 use Rattle.go_module.specs.Modules.Module.{file_view, package_view}
 use Rattle.go_module.specs.Names.Declarations.{declarations_of, specs_of}
 use Rattle.go_module.specs.Order.{IsListOf}
@@ -9,7 +8,8 @@ use Rattle.go_model.specs.Values.Rules.{broken_cycles, broken_in_files, broken_s
 use Rattle.go_names.specs.Views.{declarations_view}
 use Rattle.go_check.specs.Lines.Found.{all_specs_in, own_files_view}
 use Rattle.go_expr.specs.Table.{headers_by}
-use Rattle.go_expr.specs.View.{means_by}
+use Rattle.go_expr.specs.View.{means_by, places_by}
+use Rattle.go_decl.specs.Waits.{marked_by}
 use Rattle.go_check.proofs.ValueLemmas.{specs_are}
 use Rattle.go_check.proofs.values.broken_values.Goals as goal
 
@@ -18,10 +18,10 @@ returns c =
     let p = package_view c.args.own.now in
     let means = means_by c.args.around.now in
     let headers = headers_by c.args.around.now c.args.table.now in
-    let marks = is_marked c.args.cyclic.now in
+    let marks = marked_by (places_by c.args.around.now) c.args.cyclic.now in
     let specs : all_specs_in (own_files_view c.args.files.now) ≡ specs_of p = ap all_specs_in c.requires.files ∙ specs_are p.stub 0 p.files p.imports in
-    let cycles : c.push_cycles.new.list.items ≡ broken_cycles marks 0 (declarations_of p) =
-    c.in_ok-push_cycles.ensures ∙ ap (λ l. l ++ broken_cycles marks 0 (declarations_view c.args.declarations.now)) c.new-found.ensures.items ∙ ap (broken_cycles marks 0) c.requires.declarations in
+    let cycles : c.push_cycles.new.list.items ≡ broken_cycles marks (declarations_of p) =
+    c.in_ok-push_cycles.ensures ∙ ap (λ l. l ++ broken_cycles marks (declarations_view c.args.declarations.now)) c.new-found.ensures.items ∙ ap (broken_cycles marks) c.requires.declarations in
     let found : c.push_files.new.found.items ≡ broken_in_files means headers marks p =
     c.in_ok-push_files.ensures ∙ (λ i. cycles i ++ flat_map (broken_spec means headers) (specs i)) in
     let told : c.in_ok-with_numbers.field-0.items ≡ broken_values means headers marks p =
