@@ -3,21 +3,15 @@ ghost use Rattle.std.specs.Prelude.{◌≡◌, ◌≢◌, ◌+◌, ℕ, List, []
 ghost use Rattle.go_tree.specs.declared.token.Token.{Token as TokenOf};
 ghost use Rattle.go_tree.specs.declared.token.TokenKind.TheVariants.{End};
 ghost use Rattle.go_parse_x.specs.Answers.{IsBlockRead};
-ghost use Rattle.go_parse_x.specs.HandedBlocks.{IsEmptyBlock, IsReturnBlock};
+ghost use Rattle.go_parse_tests.specs.HandedBlocks.{IsEmptyBlock, IsReturnBlock};
 ghost use Rattle.go_tree.specs.Tree.{tree_of, trees_of, branch};
 ghost use Rattle.go_parse_x.specs.Pieces.{IsAwaiting, open_view};
 ghost use Rattle.go_parse_x.specs.Targets.{hands};
 ghost use Rattle.go_tree.specs.Lexical.Scan.{Stand};
 
-use crate::cursor::Cursor;
-use crate::kind_sets::same;
-use crate::parsed::Parsed;
-use crate::pending::Pending;
 use crate::piece_tests::{AMPLE, shape};
-use crate::reader::parse_expr;
-use crate::reading::Reading;
 use go_base::Bytes;
-use go_text::ParseFault;
+use go_parse_x::{Cursor, ParseFault, Parsed, Pending, Reading, parse_expr};
 use go_tree::{Node, NodeId, NodeKind, Token, TokenKind};
 use std::alloc::Global;
 use std::process::Abort;
@@ -33,7 +27,7 @@ fn taken(cursor: &mut Cursor, kind: TokenKind) -> Result<Option<Token>, ParseFau
     match cursor.take() {
         Err(lex) => Err(ParseFault::Lexical(lex)),
         Ok(token) => {
-            if same(kind, token.kind) {
+            if kind == token.kind {
                 return Ok(Some(token));
             }
             Ok(None)

@@ -1,6 +1,6 @@
 use Rattle.std.proofs.Common.{[], arith}
 use Rattle.go_parse_x.proofs.ReadyLemmas.{ready_first}
-use Rattle.go_parse_x.proofs.piece_tests.read_on.Goals as goal
+use Rattle.go_parse_tests.proofs.piece_tests.read_again.Goals as goal
 
 pub parse_expr-requires : goal.parse_expr-requires
 parse_expr-requires c =

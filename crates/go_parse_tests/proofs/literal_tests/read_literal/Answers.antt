@@ -1,6 +1,6 @@
 use Rattle.std.proofs.Common.{[], arith}
 use Rattle.go_parse_x.proofs.ReadyLemmas.{ready_first}
-use Rattle.go_parse_x.proofs.literal_tests.read_literal.Goals as goal
+use Rattle.go_parse_tests.proofs.literal_tests.read_literal.Goals as goal
 
 pub parse_expr-requires : goal.parse_expr-requires
 parse_expr-requires c =

@@ -1,12 +1,11 @@
-// The public calls once each, and `next` where no text is scanned from its start. All other texts are
-// rows of go_rows.
-use crate::numbers::begins_number;
-use crate::{
+// The public calls of the scanner once each, and `next` where no text is scanned from its start. All other
+// texts are rows of go_rows.
+use go_base::{Bytes, Rule};
+use go_num::TextFault;
+use go_scan::{
     FORBIDDEN_BYTE, Lex, MISSING_TOKEN, ScanFault, int_lit_value, int_value, literal_text, next,
     tokens,
 };
-use go_base::{Bytes, Rule};
-use go_num::TextFault;
 use go_tree::TokenKind::*;
 use go_tree::{Token, TokenKind};
 use std::alloc::Global;
@@ -69,17 +68,9 @@ fn values_of_literals(rt: HostRuntime) -> Result<(), Fail> {
     Ok(())
 }
 
-#[test]
-fn beginnings_of_numbers(rt: HostRuntime) {
-    assert!(rt; begins_number(b"x.5", 1));
-    assert!(rt; begins_number(b"x.5", 2));
-    assert!(rt; !begins_number(b"x.5", 3));
-    assert!(rt; !begins_number(b"x.5", usize::MAX));
-}
-
 // The token from an offset on, behind a token of that kind, where a text is scanned neither from its start
 // nor from the end of a token: the offset stands inside of a token, or another kind of token before it.
-const TOKENS: [(&[u8], usize, Option<TokenKind>, (TokenKind, usize, usize)); 24] = [
+const TOKENS: [(&[u8], usize, Option<TokenKind>, (TokenKind, usize, usize)); 27] = [
     (b"ab", 1, None, (Ident, 1, 2)),
     (b"<<=", 1, None, (LessEqual, 1, 3)),
     (b"<<=", 2, None, (Assign, 2, 3)),
@@ -89,6 +80,10 @@ const TOKENS: [(&[u8], usize, Option<TokenKind>, (TokenKind, usize, usize)); 24]
     (b"/*a*/", 1, None, (Mul, 1, 2)),
     (b"/*a*/", 3, None, (Mul, 3, 4)),
     (b"1.5", 1, None, (Float, 1, 3)),
+    // a number begins at a point before a digit, and at a digit
+    (b"x.5", 1, None, (Float, 1, 3)),
+    (b"x.5", 2, None, (Int, 2, 3)),
+    (b"x.5", 3, None, (End, 3, 3)),
     (b"0x1", 1, None, (Ident, 1, 3)),
     (b"breaks", 1, None, (Ident, 1, 6)),
     (b"xbreak", 1, None, (KwBreak, 1, 6)),

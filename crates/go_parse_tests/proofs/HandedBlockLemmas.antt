@@ -17,12 +17,12 @@ use Rattle.go_tree.proofs.GrammarBlocks.{block_counts}
 use Rattle.go_parse_x.specs.declared.cursor.Cursor.{Cursor}
 use Rattle.go_parse_x.specs.declared.pending.Pending.{Pending}
 use Rattle.go_parse_x.specs.Answers.{spot_of, IsBlockRead}
-use Rattle.go_parse_x.specs.HandedBlocks.{IsEmptyBlock, IsReturnBlock}
+use Rattle.go_parse_tests.specs.HandedBlocks.{IsEmptyBlock, IsReturnBlock}
 use Rattle.go_parse_x.specs.Tables.Opened.{unnumbered, numbers_in, Rises}
 use Rattle.go_parse_x.specs.Pieces.{IsAwaiting, open_view}
 use Rattle.go_tree.specs.Lexical.Scan.{Stand}
 use Rattle.go_parse_x.specs.Machine.Turns.{at}
-use Rattle.go_parse_x.proofs.CountLemmas.{brace_height}
+use Rattle.go_parse_tests.proofs.CountLemmas.{brace_height}
 
 abbrev root : List OpenNode
 root = record { start = 0; parts = [] } ∷ []

@@ -1,5 +1,5 @@
 use Rattle.std.proofs.Common.{◌++◌}
-use Rattle.go_parse_x.proofs.literal_tests.hand_in.Goals as goal
+use Rattle.go_parse_tests.proofs.literal_tests.hand_in.Goals as goal
 
 pub parse_expr-requires : goal.parse_expr-requires
 parse_expr-requires c =

@@ -1,7 +1,7 @@
 // Files of the greatest size: they are read in time that is linear in their bytes, and nothing recurses on
 // what is open.
 use crate::file_tests::read;
-use go_text::ParseFault;
+use go_parse_s::ParseFault;
 use std::alloc::Global;
 use std::process::Abort;
 use std::test::Fail;

@@ -1,5 +1,7 @@
 // What the cursor shows and takes.
-use crate::cursor::Cursor;
+ghost use Rattle.std.specs.Prelude.{◌≡◌, None};
+
+use go_parse_x::Cursor;
 use go_scan::{Lex, MISSING_TOKEN};
 use go_tree::TokenKind::{self, *};
 use go_tree::{NodeId, Token};
@@ -52,22 +54,22 @@ fn kind_of(token: Result<Token, Lex>) -> Option<TokenKind> {
     token.ok().map(|t| t.kind)
 }
 
-// What the cursor shows, and what it takes; nothing is taken from one that is spent.
-fn seen(cursor: &mut Cursor<'_>) -> Option<Row> {
-    if cursor.fault.is_some() {
-        return None;
-    }
+// What the cursor shows, and what it takes. It is not spent, and is not then.
+fn seen(cursor: &mut Cursor<'_>) -> Row
+    requires unspent { cursor.old.fault ≡ None }
+    ensures unspent { cursor.new.fault ≡ None }
+{
     let first = kind_of(cursor.look(0));
     let second = kind_of(cursor.look(1));
     let third = kind_of(cursor.look(2));
     let taken = cursor.take().ok().map(|t| (t.kind, t.start));
-    Some(((first, second, third), taken))
+    ((first, second, third), taken)
 }
 
 fn shows(rt: &impl Abort, text: &str, rows: &[Row]) {
     let mut cursor = Cursor::new(text.as_bytes(), NodeId(7));
     for row in rows {
-        assert_eq!(rt; seen(&mut cursor), Some(*row), "{text}");
+        assert_eq!(rt; seen(&mut cursor), *row, "{text}");
     }
 }
 

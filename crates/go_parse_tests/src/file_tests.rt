@@ -1,6 +1,5 @@
 // A file with its numbers. All other texts are rows of go_rows.
-use crate::file::parse_file;
-use go_text::ParseFault;
+use go_parse_s::{ParseFault, parse_file};
 use go_tree::{File, NodeId, NodeKind, find};
 use std::alloc::Global;
 use std::test::Fail;

@@ -1,6 +1,6 @@
 use Rattle.std.proofs.Common.{arith}
 use Rattle.go_tree.proofs.TreeLemmas.{part_within}
-use Rattle.go_parse_x.proofs.piece_tests.+put.Goals as goal
+use Rattle.go_parse_tests.proofs.piece_tests.+put.Goals as goal
 
 pub put_parts-put-requires : goal.put_parts-put-requires
 put_parts-put-requires t c =

@@ -1,5 +1,5 @@
 use Rattle.std.proofs.Common.{rules, arith}
-use Rattle.go_parse_x.proofs.literal_tests.return_block.Goals as goal
+use Rattle.go_parse_tests.proofs.literal_tests.return_block.Goals as goal
 
 pub returns-clause-block : goal.returns-clause-block
 returns-clause-block c =

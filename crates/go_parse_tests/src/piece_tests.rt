@@ -1,12 +1,7 @@
 // Pieces: each reading once, blocks that are handed over, heights that are free, and calls after a fault.
 // All other texts are rows of go_rows.
-use crate::cursor::Cursor;
-use crate::parsed::Parsed;
-use crate::pending::Pending;
-use crate::reader::parse_expr;
-use crate::reading::Reading;
+use go_parse_x::{Cursor, ParseFault, Parsed, Pending, Reading, parse_expr};
 use go_scan::{Lex, MISSING_TOKEN};
-use go_text::ParseFault;
 use go_tree::TokenKind::{self, *};
 use go_tree::{Node, NodeId, NodeKind, Token};
 use std::alloc::{AllocError, Global};
@@ -29,9 +24,10 @@ pub(crate) fn read_on(
     let mut pending = Pending::new(alloc, reading, free);
     match parse_expr(alloc, &mut cursor, &mut pending) {
         Err(fault) => Err(fault),
-        Ok(parsed) => {
-            let behind = cursor.take();
-            Ok((parsed, behind, left(&pending)))
+        Ok(Parsed::Whole(node)) => Ok((Parsed::Whole(node), cursor.take(), None)),
+        Ok(Parsed::Block) => {
+            let left = pending.free();
+            Ok((Parsed::Block, cursor.take(), Some(left)))
         }
     }
 }
@@ -48,15 +44,6 @@ pub(crate) fn read_again(
     match parse_expr(alloc, &mut cursor, &mut pending) {
         Ok(_) => None,
         Err(first) => Some((first, parse_expr(alloc, &mut cursor, &mut pending).err())),
-    }
-}
-
-// The height that is left for a block, where one is awaited.
-fn left(pending: &Pending) -> Option<usize> {
-    if pending.awaits {
-        Some(pending.free())
-    } else {
-        None
     }
 }
 

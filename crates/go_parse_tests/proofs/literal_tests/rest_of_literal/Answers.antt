@@ -1,7 +1,7 @@
 use Rattle.std.proofs.Common.{◌≤◌, ◌-◌, arith}
 use Rattle.go_tree.specs.Height.{height_of}
-use Rattle.go_parse_x.proofs.HandedBlockLemmas.{empty_read, return_read}
-use Rattle.go_parse_x.proofs.literal_tests.rest_of_literal.Goals as goal
+use Rattle.go_parse_tests.proofs.HandedBlockLemmas.{empty_read, return_read}
+use Rattle.go_parse_tests.proofs.literal_tests.rest_of_literal.Goals as goal
 
 pub hand_in-requires-clause-read : goal.hand_in-requires-clause-read
 hand_in-requires-clause-read c =
