@@ -3,8 +3,8 @@ ghost use Rattle.std.specs.Prelude.{IfOk};
 ghost use Rattle.go_base.specs.Tree.{HasDistinctPaths};
 
 use crate::mem_trees::{File, GO_MOD, distinct, mem_files, word};
-use crate::{LoadFault, load};
 use go_base::{Bytes, MemFile, MemTree, Name, SureTree};
+use go_load::{LoadFault, load};
 use std::alloc::Global;
 use std::test::Fail;
 

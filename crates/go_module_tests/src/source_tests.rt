@@ -1,5 +1,5 @@
 // The numbers of the nodes of a Go file, or what it breaks by itself.
-use crate::{ReadSource, read_source};
+use go_load::{ReadSource, read_source};
 use go_tree::NodeId;
 use std::alloc::Global;
 use std::test::Fail;

@@ -2,10 +2,8 @@
 ghost use Rattle.std.specs.Prelude.{◌≡◌, IfOk};
 ghost use Rattle.go_tree.specs.Tree.{tree_of, start_of};
 
-use crate::fault::broken_by;
-use crate::rules::{MISSING_VALUES, UNEXPECTED_TOKEN};
-use crate::whole::broken_forms;
-use go_base::{Broken, Bytes, NoMemory, Pos, Rule};
+use go_base::{Broken, Bytes, Family, NoMemory, Pos, Rule};
+use go_form::{broken_by, broken_forms};
 use go_module::UNBUILT_FORM;
 use go_text::ParseFault;
 use go_tree::{Node, NodeId, NodeKind};
@@ -39,6 +37,13 @@ fn declaration(alloc: Global) -> Result<Node, NoMemory> {
     node(alloc, NodeKind::ConstDecl, 10, 17, vec![in alloc; spec]?)
 }
 
+fn syntax_rule(number: u16) -> Rule {
+    Rule {
+        family: Family::S,
+        number,
+    }
+}
+
 fn at(offset: usize, rule: Rule) -> Broken {
     Broken {
         pos: Pos { file: 3, offset },
@@ -57,7 +62,7 @@ fn broken(alloc: Global) -> Result<Vec<Broken>, NoMemory> {
 #[test]
 fn a_spec_without_values_breaks_two_rules(rt: HostRuntime) -> Result<(), Fail> {
     let list = broken(rt.alloc())?;
-    let wanted = [at(16, UNBUILT_FORM), at(16, MISSING_VALUES)];
+    let wanted = [at(16, UNBUILT_FORM), at(16, syntax_rule(8))];
     assert_eq!(rt; list.as_slice(), &wanted[..]);
     Ok(())
 }
@@ -65,6 +70,6 @@ fn a_spec_without_values_breaks_two_rules(rt: HostRuntime) -> Result<(), Fail> {
 #[test]
 fn a_syntax_fault_breaks_one_rule(rt: HostRuntime) -> Result<(), Fail> {
     let broken = broken_by(3, ParseFault::Syntax(7))?;
-    assert_eq!(rt; broken, at(7, UNEXPECTED_TOKEN));
+    assert_eq!(rt; broken, at(7, syntax_rule(3)));
     Ok(())
 }

@@ -3,9 +3,9 @@ ghost use Rattle.std.specs.Prelude.{[], IfOk};
 ghost use Rattle.go_module.specs.Modules.Module.{module_view};
 ghost use Rattle.go_scope.specs.Collecting.{AreBefore};
 
-use crate::{ScopeFault, collect};
-use go_base::{Broken, Bytes, Name, Pos};
+use go_base::{Broken, Bytes, Family, Name, Pos, Rule};
 use go_module::{Module, ObjId, ObjKind, Package, SourceFile};
+use go_scope::{ScopeFault, collect};
 use go_tree::{File, Node, NodeId, NodeKind};
 use std::alloc::{AllocError, Global};
 use std::test::Fail;
@@ -141,7 +141,10 @@ fn a_name_that_is_not_declared_breaks_a_rule(rt: HostRuntime) -> Result<(), Fail
             file: 0,
             offset: 21,
         },
-        rule: crate::rules::UNDECLARED_NAME,
+        rule: Rule {
+            family: Family::P,
+            number: 7,
+        },
     }];
     assert_eq!(rt; list.as_slice(), &wanted[..]);
     Ok(())

@@ -1,10 +1,9 @@
-// The calls on a tree by which a module is read, in their order.
+// The calls on a tree by which a module is loaded, in their order.
 ghost use Rattle.std.specs.Prelude.{Some};
 
-use crate::load_fault::LoadFault;
 use crate::mem_trees::{File, GO_MOD, mem_files, word};
-use crate::reading::read_module;
 use go_base::{Bytes, Name, SureTree, Tree, TreeFault, Word};
+use go_load::{LoadFault, load};
 use std::alloc::Global;
 use std::test::Fail;
 
@@ -44,13 +43,13 @@ impl Tree for LoggedTree {
     ghost distinct = { λ logged. logged.tree.distinct };
 }
 
-// The calls by which these files are read, and behind them what came of it.
+// The calls by which these files are loaded, and behind them what came of it.
 fn calls(alloc: Global, files: &[File], stubs: Option<&Word>) -> Result<String, Fail> {
     let tree = SureTree::new(mem_files(alloc, files)?);
     let log = String::new(alloc);
     let mut tree = LoggedTree { tree, log };
     let root = word(alloc, "r")?;
-    let end = match read_module(alloc, &mut tree, &root, stubs) {
+    let end = match load(alloc, &mut tree, &root, stubs) {
         Ok(_) => "read",
         Err(LoadFault::Broken(_)) => "broken",
         Err(LoadFault::ReadFault) => "read fault",
@@ -60,6 +59,7 @@ fn calls(alloc: Global, files: &[File], stubs: Option<&Word>) -> Result<String, 
     Ok(tree.log)
 }
 
+// No Go file has a package clause: the module breaks a rule where one is read.
 const WHOLE: &[File] = &[
     ("+y/b.go", ""),
     ("b.go", ""),
@@ -89,13 +89,13 @@ fn calls_have_their_order(rt: HostRuntime) -> Result<(), Fail> {
         (
             WHOLE,
             None,
-            "list r;read r/go.mod 16777217;read r/a/c.go 16777217;read r/b.go 16777217;read",
+            "list r;read r/go.mod 16777217;read r/a/c.go 16777217;read r/b.go 16777217;broken",
         ),
         (
             WHOLE,
             Some(&stubs),
             "list r;read r/go.mod 16777217;list s;read r/a/c.go 16777217;read r/b.go 16777217;\
-             read s/x/a.go 16777217;read s/y/b.go 16777217;read",
+             read s/x/a.go 16777217;read s/y/b.go 16777217;broken",
         ),
     ];
     for (files, stubs, want) in rows {

@@ -1,8 +1,8 @@
 // The report of modules whose trees are made by hand, where memory suffices.
 ghost use Rattle.std.specs.Prelude.{◌≡◌};
 
-use crate::check_module;
 use go_base::{Bytes, Name, NoMemory, Steps};
+use go_check::check_module;
 use go_model::{Report, Verdict};
 use go_module::{Module, Package, SourceFile};
 use go_tree::{File, Node, NodeId, NodeKind};

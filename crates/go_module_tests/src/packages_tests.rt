@@ -1,6 +1,6 @@
 // The tables of packages: those that files make, which of them are reached, and what they break.
-use crate::{Head, ImportSpec, Packages, broken_packages, packages_of};
 use go_base::{Broken, Bytes, Name, NoMemory};
+use go_load::{Head, ImportSpec, Packages, broken_packages, packages_of};
 use std::alloc::Global;
 use std::test::Fail;
 
