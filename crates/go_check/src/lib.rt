@@ -34,6 +34,3 @@ mod module;
 mod package;
 
 pub use module::check_module;
-
-#[cfg(test)]
-mod tests;

@@ -13,4 +13,6 @@ pub use laws::one_run;
 pub use run::gocheck;
 
 #[cfg(test)]
+mod module_tests;
+#[cfg(test)]
 mod tests;

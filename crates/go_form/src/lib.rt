@@ -25,8 +25,6 @@ mod tell;
 // What stands before the package clause, and what is not built yet.
 mod build_constraints;
 mod built_forms;
-#[cfg(test)]
-mod tests;
 mod unbuilt;
 
 pub use fault::broken_by;

@@ -59,14 +59,3 @@ pub use rules::{
 };
 pub use source::{MOST_BYTES, ReadSource, read_source};
 pub use table::Packages;
-
-#[cfg(test)]
-mod load_tests;
-#[cfg(test)]
-mod mem_trees;
-#[cfg(test)]
-mod packages_tests;
-#[cfg(test)]
-mod reading_tests;
-#[cfg(test)]
-mod source_tests;

@@ -15,8 +15,3 @@ pub use copy_count::MOST_COPIED_NODES;
 pub use file::{MOST_HEIGHT, parse_file};
 pub use go_text::ParseFault;
 pub use laws::{file_or_fault, one_fault, one_file};
-
-#[cfg(test)]
-mod file_tests;
-#[cfg(test)]
-mod long_tests;

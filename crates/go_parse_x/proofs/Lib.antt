@@ -17,9 +17,7 @@ pub mod PieceLemmas
 pub mod OpenLemmas
 pub mod NoBlockLemmas
 pub mod AheadLemmas
-pub mod CountLemmas
 pub mod AnswerLemmas
 pub mod GiveLemmas
 pub mod TextLemmas
 pub mod ReadyLemmas
-pub mod HandedBlockLemmas

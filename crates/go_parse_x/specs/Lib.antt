@@ -8,5 +8,3 @@ pub mod Files
 pub mod Machine
 -- the grammar as tables
 pub mod Tables
--- what tests hand in
-pub mod HandedBlocks

@@ -54,10 +54,3 @@ pub use pending::Pending;
 pub use reader::parse_expr;
 pub use reading::Reading;
 pub use texts::parse_text;
-
-#[cfg(test)]
-mod cursor_tests;
-#[cfg(test)]
-mod literal_tests;
-#[cfg(test)]
-mod piece_tests;

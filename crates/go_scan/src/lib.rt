@@ -33,6 +33,3 @@ pub use literals::{int_lit_value, int_value, literal_text};
 pub use next_token::next;
 pub use rules::{FORBIDDEN_BYTE, MISSING_TOKEN};
 pub use token_list::{ScanFault, tokens};
-
-#[cfg(test)]
-mod scan_tests;

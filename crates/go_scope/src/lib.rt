@@ -34,6 +34,3 @@ pub use collecting::collect;
 pub use file_block::{behind, front};
 pub use laws::{denotes_innermost, each_spec_is_named, resolves_exactly};
 pub use scope_fault::ScopeFault;
-
-#[cfg(test)]
-mod tests;
