@@ -27,7 +27,7 @@ use Rattle.go_scope.specs.Collecting.{IsBrokenNames}
 use Rattle.go_expr.specs.declared.around.Around.{Around}
 use Rattle.go_check.specs.Packages.Denoted.{AreUses}
 use Rattle.go_check.specs.Packages.Verdicts.{IsAccepting}
-use Rattle.go_expr.specs.View.{IsAround, before_by, declares_by, denotes_by, means_by, places_by}
+use Rattle.go_expr.specs.View.{IsAround, before_by, declares_by, denotes_by, means_by}
 use Rattle.go_decl.proofs.PlaceLemmas.{declares_are}
 
 -- the package at a place is one

@@ -117,10 +117,6 @@ abbrev pub open_from : Headers → ℕ → List ObjId → ObjId → Option ℕ
 open_from before n numbers d = if is_some (before d.0) then None else place_from n numbers d
 
 module _ {X Y : Type 0} (g : X → Y) (f : Y → ObjId) (before : Headers) where
-  known_or : (b : Bool) (o p : Option ℕ) → (b ≡ false → o ≡ p) → (if b then None else o) ≡ (if b then None else p)
-  known_or true o p e = refl
-  known_or false o p e = e refl
-
   -- an object that has a header before is none that has none
   other_object : (k d : ObjId) (b : Bool) → is_some (before k.0) ≡ b → is_some (before d.0) ≡ not b → same_object d k ≡ false
   other_object k d b at there = by_test (same_object d k) refl
@@ -171,30 +167,6 @@ module _ {X Y : Type 0} (g : X → Y) (f : Y → ObjId) (before : Headers) where
           ∙ ap (cond (same_object d (f (g x))) (Some (n - 1))) (so_far d ∙ ap (λ b. if b then None else place_from n rest d) is)
           ∙ sym placed
           ∙ sym (ap (λ b. if b then None else place_from (n - 1) (map f (map g (drop (n - 1) xs))) d) is)
-
-  -- one more with a header before
-  pub one_more_known : (xs : List X) (n : ℕ) (x : X) (es : List (ObjId × ℕ)) → 0 < n → n - 1 < length xs → x ≡ get_or xs (n - 1) x
-      → is_some (before (f (g x)).0) ≡ true
-      → ((d : ObjId) → lookup (same_object d) es ≡ open_from before n (map f (map g (drop n xs))) d)
-      → (d : ObjId) → lookup (same_object d) es ≡ open_from before (n - 1) (map f (map g (drop (n - 1) xs))) d
-  one_more_known xs n x es some lt at known so_far d =
-      so_far d ∙ known_or (is_some (before d.0)) (place_from n rest d) (place_from (n - 1) (map f (map g (drop (n - 1) xs))) d) (λ fresh. sym (placed fresh))
-    where
-      after : suc (n - 1) ≡ n
-      after = omega (arith, some)
-
-      rest : List ObjId
-      rest = map f (map g (drop n xs))
-
-      split : map f (map g (drop (n - 1) xs)) ≡ f (g x) ∷ rest
-      split = from_last g f xs (n - 1) x lt at ∙ ap (λ k. f (g x) ∷ map f (map g (drop k xs))) after
-
-      placed : is_some (before d.0) ≡ false → place_from (n - 1) (map f (map g (drop (n - 1) xs))) d ≡ place_from n rest d
-      placed fresh =
-          ap (λ numbers. place_from (n - 1) numbers d) split
-          ∙ place_from_more (n - 1) (f (g x)) rest d
-          ∙ ap (λ c. cond c (Some (n - 1)) (place_from (suc (n - 1)) rest d)) (other_object (f (g x)) d true known fresh)
-          ∙ ap (λ k. place_from k rest d) after
 
 -- the declaration at a place is the one that its number names
 pub record IsPlaced (declarations : List Declaration) (d : ObjId) (place : ℕ) : Type 0 where

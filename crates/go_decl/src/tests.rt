@@ -1,7 +1,5 @@
 // The headers of two declarations that are made by hand, where memory suffices.
-ghost use Rattle.std.specs.Prelude.{◌≤◌, length};
-
-use crate::{cyclic_declarations, headers};
+use crate::{cyclic_declarations, headers, is_cyclic, places_of};
 use go_base::{Bytes, NoMemory, ObjId};
 use go_expr::Around;
 use go_module::{Built, ObjKind};
@@ -38,13 +36,12 @@ fn constant<'a>(name: &'a Node, value: &'a Node) -> Declaration<'a> {
 fn found(alloc: Global, declarations: &[Declaration]) -> Result<Vec<Option<i128>>, NoMemory> {
     let mut uses = IndexMap::new(alloc);
     uses.insert(NodeId(47), ObjId(46))?;
-    let mut places = IndexMap::new(alloc);
-    places.insert(ObjId(45), 0)?;
-    places.insert(ObjId(46), 1)?;
+    let before = IndexMap::new(alloc);
+    let places = places_of(alloc, &before, declarations)?;
     let around = Around {
         uses: &uses,
         places: &places,
-        before: &IndexMap::new(alloc),
+        before: &before,
     };
     headers(alloc, &around, declarations)
 }
@@ -64,22 +61,23 @@ fn a_header_follows_from_a_later_one(rt: HostRuntime) -> Result<(), Fail> {
     Ok(())
 }
 
-// Which of these declarations wait for themselves, where X and Y are the nodes 45 and 46, and 47 and 49 are their uses.
-fn cyclic(alloc: Global, declarations: &[Declaration]) -> Result<Vec<bool>, NoMemory>
-    requires { 2 ≤ length declarations.now }
-{
+// Whether X waits for itself, and Y, which are the nodes 45 and 46 and stand in these declarations; 47 and 49 are their
+// uses.
+fn cyclic(alloc: Global, declarations: &[Declaration]) -> Result<(bool, bool), NoMemory> {
     let mut uses = IndexMap::new(alloc);
     uses.insert(NodeId(47), ObjId(46))?;
     uses.insert(NodeId(49), ObjId(45))?;
-    let mut places = IndexMap::new(alloc);
-    places.insert(ObjId(45), 0)?;
-    places.insert(ObjId(46), 1)?;
+    let before = IndexMap::new(alloc);
+    let places = places_of(alloc, &before, declarations)?;
     let around = Around {
         uses: &uses,
         places: &places,
-        before: &IndexMap::new(alloc),
+        before: &before,
     };
-    cyclic_declarations(alloc, &around, &[None, None], declarations)
+    let marks = cyclic_declarations(alloc, &around, &[None, None], declarations)?;
+    let of_x = is_cyclic(&around, &marks, ObjId(45));
+    let of_y = is_cyclic(&around, &marks, ObjId(46));
+    Ok((of_x, of_y))
 }
 
 #[test]
@@ -90,8 +88,7 @@ fn two_declarations_wait_for_each_other(rt: HostRuntime) -> Result<(), Fail> {
     let y = leaf(alloc, 46, NodeKind::Name, b"Y")?;
     let to_y = leaf(alloc, 47, NodeKind::Name, b"Y")?;
     let to_x = leaf(alloc, 49, NodeKind::Name, b"X")?;
-    let marks = cyclic(alloc, &[constant(&x, &to_y), constant(&y, &to_x)])?;
-    assert_eq!(rt; marks.len(), 2);
-    assert!(rt; marks[0] && marks[1]);
+    let (of_x, of_y) = cyclic(alloc, &[constant(&x, &to_y), constant(&y, &to_x)])?;
+    assert!(rt; of_x && of_y);
     Ok(())
 }

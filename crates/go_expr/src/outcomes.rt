@@ -37,7 +37,12 @@ fn found(around: &Around, table: &[Option<i128>], node: &Node) -> NodeOutcome
         NodeKind::IntLit => literal(node.text()),
         NodeKind::Name => name(around, table, around.meaning(node.id())),
         NodeKind::SelectorExpr => match node.both_parts() {
-            Some((x, f)) => selector(around, table, around.meaning(f.id()), found(around, table, x)),
+            Some((x, f)) => selector(
+                around,
+                table,
+                around.meaning(f.id()),
+                found(around, table, x),
+            ),
             None => NodeOutcome::Nothing,
         },
         NodeKind::ParenExpr => match node.only_part() {

@@ -98,7 +98,7 @@ module _ (before : Headers) (means : ℕ → Meaning) (declarations : List Decla
       (cases_eq p.0 d)
 
   -- each header that follows from a map, which is known from a justified list, follows from it alone
-  closed_under : (list : List (ℕ × ℤ)) → Justified before means declarations list → (other : List (ℕ × ℤ)) → Justified before means declarations other → IsPart (headers_of before other) (headers_of before (other ++ list))
+  pub closed_under : (list : List (ℕ × ℤ)) → Justified before means declarations list → (other : List (ℕ × ℤ)) → Justified before means declarations other → IsPart (headers_of before other) (headers_of before (other ++ list))
   closed_under list j [] k d h e = kept list j d h e
   closed_under list j (p ∷ other) k d h e =
       ⊎_elim
@@ -107,7 +107,7 @@ module _ (before : Headers) (means : ℕ → Meaning) (declarations : List Decla
       (cases_eq p.0 d)
 
   -- two justified lists, one after the other, are justified
-  both_justified : (list : List (ℕ × ℤ)) → Justified before means declarations list → (other : List (ℕ × ℤ)) → Justified before means declarations other → Justified before means declarations (other ++ list)
+  pub both_justified : (list : List (ℕ × ℤ)) → Justified before means declarations list → (other : List (ℕ × ℤ)) → Justified before means declarations other → Justified before means declarations (other ++ list)
   both_justified list j [] k = j
   both_justified list j (p ∷ other) k = (
     both_justified list j other k.0,
@@ -115,7 +115,7 @@ module _ (before : Headers) (means : ℕ → Meaning) (declarations : List Decla
   )
 
   -- the later of two justified lists is part of both together
-  later_part : (list : List (ℕ × ℤ)) → Justified before means declarations list → (other : List (ℕ × ℤ)) → Justified before means declarations other → IsPart (headers_of before list) (headers_of before (other ++ list))
+  pub later_part : (list : List (ℕ × ℤ)) → Justified before means declarations list → (other : List (ℕ × ℤ)) → Justified before means declarations other → IsPart (headers_of before list) (headers_of before (other ++ list))
   later_part list j [] k d h e = e
   later_part list j (p ∷ other) k d h e =
       let both = both_justified list j (p ∷ other) k in

@@ -1,7 +1,7 @@
 -- The rules that the values of declarations can break.
 -- Decides where the declarations of a package break them: C1, R37, and what the nodes of expressions break (`Outcomes`).
 -- Which declaration waits for which: `Waiting`. Rules on names: `Names` of go_module; on the form of a file: go_form.
-use Rattle.std.specs.Prelude.{ℕ, ◌==◌, ◌&&◌, Bool, not, is_some, Option, List, [], ◌∷◌, ◌++◌, length, map}
+use Rattle.std.specs.Prelude.{ℕ, ◌==◌, ◌&&◌, Bool, not, is_some, Option, List, ◌++◌, length, map}
 use Rattle.std.specs.List.{flat_map, list_all}
 use Rattle.go_base.specs.declared.rule.Broken.{Broken}
 use Rattle.go_base.specs.declared.rule.Rule.{Rule}
