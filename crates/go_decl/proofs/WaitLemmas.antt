@@ -34,7 +34,7 @@ chosen true is d object e = absurd (let never : Predeclared ≡ Declared object 
 chosen false false d object e = absurd (let never : Other ≡ Declared object = e in cc)
 chosen false true d object e = (refl, let same : Declared d ≡ Declared object = e in cc)
 
-denoted_declares : (declares : ObjId → Bool) (o : Option ObjId) (object : ObjId) → denoted_meaning declares o ≡ Declared object → declares object ≡ true
+pub denoted_declares : (declares : ObjId → Bool) (o : Option ObjId) (object : ObjId) → denoted_meaning declares o ≡ Declared object → declares object ≡ true
 denoted_declares declares None object e = absurd (let never : Other ≡ Declared object = e in cc)
 denoted_declares declares (Some d) object e =
     let both = chosen (is_predeclared d) (declares d) d object e in
