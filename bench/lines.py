@@ -289,7 +289,8 @@ def written(side, in_sequence=False):
     if side[0] == 'Call':
         return called(side[1])
     if side[0] == 'Seq':
-        return ' '.join(filter(None, (written(part, True) for part in side[1:])))
+        parts = [part for part in side[1:] if written(part)]
+        return ' '.join(written(part, in_sequence or len(parts) > 1) for part in parts)
     if side[0] == 'Many':
         return f'{{ {written(side[1])} }}'
     choices = alternatives_of(side)
@@ -299,10 +300,15 @@ def written(side, in_sequence=False):
     return f'( {some} )' if in_sequence and len(choices) > 1 else some
 
 
+NO_BREAK = '\x1f'
+
+
 def production_text(production):
     words = f'{called(production)} = {written(right_side(production))} .'.replace('=  .', '= .')
-    return '\n'.join(wrap(words, WIDTH, initial_indent='/// ', subsequent_indent='///     ', break_long_words=False,
-                           break_on_hyphens=False))
+    bound = re.sub(r'(?<= [\[({]) | (?=[\])}.]( |$))', NO_BREAK, words)
+    lines = wrap(bound, WIDTH, initial_indent='/// ', subsequent_indent='///     ', break_long_words=False,
+                 break_on_hyphens=False)
+    return '\n'.join(lines).replace(NO_BREAK, ' ')
 
 
 # Files.
@@ -348,11 +354,17 @@ def import_lines(names):
             yield line if len(line) <= WIDTH else '\n'.join([f'use {path}{{', *rows_of(used, WIDTH - 1), '};'])
 
 
+HEAD = '''
+//
+// Above each line its production: what a look ahead allows is taken, and where a type may be read as an expression it
+// has to be written as a type is (docs/GRAMMAR.md, "How each choice is settled"). ";" is also the inserted one.'''
+
+
 def section_text(section):
     own = [p for p in PRODUCTIONS if section_of(p) == section]
     steps = sum((steps_of(right_side(p)) for p in own), [])
     imports = '\n'.join(import_lines(names_in(steps)))
-    title = f'// Lines of the productions of `{section}_line`. Written by bench/lines.py.'
+    title = f'// Lines of the productions of `{section}_line`. Written by bench/lines.py.{HEAD}'
     return '\n'.join([title, imports, '', '\n'.join(map(line_text, own))])
 
 

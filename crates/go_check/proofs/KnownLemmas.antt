@@ -11,7 +11,7 @@ use Rattle.go_module.specs.Scopes.{same_object}
 use Rattle.go_model.specs.Outcomes.Walk.{Headers}
 use Rattle.go_expr.specs.declared.around.Around.{Around}
 use Rattle.go_expr.specs.Table.{header_at, headers_by}
-use Rattle.go_expr.specs.View.{IsAround, before_by, known_by, places_by}
+use Rattle.go_expr.specs.View.{IsAround, before_by, headers_listed, places_by}
 use Rattle.go_decl.proofs.PlaceLemmas.{found_behind, is_same, open_is, same_is}
 use Rattle.go_check.specs.Packages.Known.{headers_in}
 
@@ -73,7 +73,7 @@ module _ (headers : Headers) (q : ObjId) where
       by_test later false e = apart later e (headers (number_of d).0) refl
 
 module _ (around : Around) (table : List (Option ℤ)) (declarations : List Declaration) (is_around : IsAround declarations around) where
-  pub known_after : known_by (insert_all same_object around.before.now.entries (headers_in (headers_by around table) declarations)) ≡ headers_by around table
+  pub known_after : headers_listed (insert_all same_object around.before.now.entries (headers_in (headers_by around table) declarations)) ≡ headers_by around table
   known_after = fun_ext (λ d. by_place (record { 0 = d }) (places_by around (record { 0 = d })) refl)
     where
       by_place : (q : ObjId) (o : Option ℕ) → places_by around q ≡ o → lookup (same_object q) (insert_all same_object around.before.now.entries (headers_in (headers_by around table) declarations)) ≡ headers_by around table q.0

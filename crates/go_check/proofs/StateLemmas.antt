@@ -9,7 +9,7 @@ use Rattle.go_model.specs.Phases.{AreReports, IsVerdict, all_told, skips, checks
 use Rattle.go_model.specs.Report as report
 use Rattle.go_model.specs.Report.{VerdictData, skipped}
 use Rattle.go_model.specs.Outcomes.Walk.{Headers}
-use Rattle.go_expr.specs.View.{known_by}
+use Rattle.go_expr.specs.View.{headers_listed}
 use Rattle.go_check.specs.declared.denoted.Denoted.{Denoted}
 use Rattle.go_check.specs.declared.module.State.{State}
 use Rattle.go_check.specs.Packages.Names.{ImportsSound, sound_at}
@@ -53,10 +53,10 @@ marked_cases (x ∷ marks) b (suc q) e = by_rest (marked_cases marks b q e)
     by_rest (inr new) = inr (ap suc new.0, new.1)
 
 module _ (m : ModuleData) (denoted : Denoted) where
-  nothing_known : known_by [] ≡ no_headers
+  nothing_known : headers_listed [] ≡ no_headers
   nothing_known = fun_ext (λ d. refl)
 
-  front_at_first : IsFront m 0 (record { marks = []; before = known_by []; reports = [] })
+  front_at_first : IsFront m 0 (record { marks = []; before = headers_listed []; reports = [] })
   front_at_first rest h = subst (λ (b : Headers). AreReports m 0 [] b m.packages rest) nothing_known h
 
   no_mark : (q : ℕ) → is_marked [] q ≡ true → ⊥
@@ -69,15 +69,15 @@ module _ (m : ModuleData) (denoted : Denoted) where
     marked = ap length marks;
     accepted_sound = λ q e. absurd (no_mark q (ap (λ l. is_marked l q) (sym marks) ∙ e));
     front =
-        subst (λ ms. IsFront m 0 (record { marks = ms; before = known_by s.before.entries; reports = map report.package_view s.reports.items })) (sym marks)
-        (subst (λ bs. IsFront m 0 (record { marks = []; before = known_by bs; reports = map report.package_view s.reports.items })) (sym before)
-        (subst (λ rs. IsFront m 0 (record { marks = []; before = known_by []; reports = map report.package_view rs })) (sym reports) front_at_first));
+        subst (λ ms. IsFront m 0 (record { marks = ms; before = headers_listed s.before.entries; reports = map report.package_view s.reports.items })) (sym marks)
+        (subst (λ bs. IsFront m 0 (record { marks = []; before = headers_listed bs; reports = map report.package_view s.reports.items })) (sym before)
+        (subst (λ rs. IsFront m 0 (record { marks = []; before = headers_listed []; reports = map report.package_view rs })) (sym reports) front_at_first));
   }
 
   -- behind the last package all reports are told
   pub all_reports : (k : ℕ) (s : State) → IsState m denoted k s → k ≡ length m.packages → AreReports m 0 [] no_headers m.packages (map report.package_view s.reports.items)
   all_reports k s state last =
-      let told : AreReports m k s.marks.items (known_by s.before.entries) (drop k m.packages) [] = subst (λ ps. AreReports m k s.marks.items (known_by s.before.entries) ps []) (sym (drop_all m.packages k last)) (all_told k s.marks.items (known_by s.before.entries)) in
+      let told : AreReports m k s.marks.items (headers_listed s.before.entries) (drop k m.packages) [] = subst (λ ps. AreReports m k s.marks.items (headers_listed s.before.entries) ps []) (sym (drop_all m.packages k last)) (all_told k s.marks.items (headers_listed s.before.entries)) in
       subst (AreReports m 0 [] no_headers m.packages) (no_rest (map report.package_view s.reports.items)) (state.front [] told)
 
   -- what a package imports is sound where it is accepted
@@ -104,7 +104,7 @@ module _ (m : ModuleData) (denoted : Denoted) (k : ℕ) (p : PackageData) (old n
   -- one more package is checked
   pub next_state : IsState m denoted k old
       → new.marks.items ≡ old.marks.items ++ is_accepted verdict ∷ []
-      → known_by new.before.entries ≡ after
+      → headers_listed new.before.entries ≡ after
       → map report.package_view new.reports.items ≡ map report.package_view old.reports.items ++ package_report p verdict ∷ []
       → (is_accepted verdict ≡ true → sound_at denoted.verdicts.items k ≡ true)
       → IsFront m (k + 1) (record { marks = old.marks.items ++ is_accepted verdict ∷ []; before = after; reports = map report.package_view old.reports.items ++ package_report p verdict ∷ [] })
@@ -113,7 +113,7 @@ module _ (m : ModuleData) (denoted : Denoted) (k : ℕ) (p : PackageData) (old n
     marked = ap length marks ∙ one_longer old.marks.items (is_accepted verdict) ∙ ap (λ n. n + 1) state.marked;
     accepted_sound = λ q e. by_mark q (marked_cases old.marks.items (is_accepted verdict) q (ap (λ l. is_marked l q) (sym marks) ∙ e));
     front =
-        subst (λ ms. IsFront m (k + 1) (record { marks = ms; before = known_by new.before.entries; reports = map report.package_view new.reports.items })) (sym marks)
+        subst (λ ms. IsFront m (k + 1) (record { marks = ms; before = headers_listed new.before.entries; reports = map report.package_view new.reports.items })) (sym marks)
         (subst (λ bs. IsFront m (k + 1) (record { marks = old.marks.items ++ is_accepted verdict ∷ []; before = bs; reports = map report.package_view new.reports.items })) (sym before)
         (subst (λ rs. IsFront m (k + 1) (record { marks = old.marks.items ++ is_accepted verdict ∷ []; before = after; reports = rs })) (sym reports) front));
   }

@@ -19,7 +19,7 @@ use Rattle.go_model.specs.PackageLines.{AreLines, named_in}
 use Rattle.go_model.specs.Phases.{ArePackageLines, HasHeaders, BreaksValues, IsVerdict, by_names, by_values, sound}
 use Rattle.go_model.specs.Report.{VerdictData, accepted, refused}
 use Rattle.go_model.specs.Values.Headers.{Known}
-use Rattle.go_model.specs.Values.Meaning.{declares, meaning_by, meaning_in, uses_table}
+use Rattle.go_model.specs.Values.Meaning.{may_have_header, meaning_by, meaning_in, uses_table}
 use Rattle.go_model.specs.Outcomes.Walk.{Headers}
 use Rattle.go_model.specs.Values.Rules.{broken_values}
 use Rattle.go_model.specs.Values.Waiting.{Chain}
@@ -27,8 +27,8 @@ use Rattle.go_scope.specs.Collecting.{IsBrokenNames}
 use Rattle.go_expr.specs.declared.around.Around.{Around}
 use Rattle.go_check.specs.Packages.Denoted.{AreUses}
 use Rattle.go_check.specs.Packages.Verdicts.{IsAccepting}
-use Rattle.go_expr.specs.View.{IsAround, before_by, declares_by, denotes_by, means_by}
-use Rattle.go_decl.proofs.PlaceLemmas.{declares_are}
+use Rattle.go_expr.specs.View.{IsAround, before_by, may_have_by, denotes_by, means_by}
+use Rattle.go_decl.proofs.PlaceLemmas.{may_have_are}
 
 -- the package at a place is one
 same_package : (m : ModuleData) (k : ℕ) (p q : PackageData) → slice_get m.packages k ≡ Some p → slice_get m.packages k ≡ Some q → q ≡ p
@@ -43,19 +43,19 @@ module _ (m : ModuleData) (k : ℕ) (p : PackageData) (at : slice_get m.packages
   sound_names table are = ap (broken_names (known_in m) k) (sym (same_package m k p are.p at are.at)) ∙ are.sound
 
   module _ (declarations : List Declaration) (around : Around) (declarations_are : declarations ≡ declarations_of p) (is_around : IsAround declarations around) (are_uses : AreUses m k around.uses.now.entries) where
-    declared_are : declares_by around ≡ declares (before_by around) (declarations_of p)
-    declared_are = fun_ext declared_is
+    may_have_same : may_have_by around ≡ may_have_header (before_by around) (declarations_of p)
+    may_have_same = fun_ext same_at
       where
-        declared_is : (d : ObjId) → declares_by around d ≡ declares (before_by around) (declarations_of p) d
-        declared_is d =
+        same_at : (d : ObjId) → may_have_by around d ≡ may_have_header (before_by around) (declarations_of p) d
+        same_at d =
             ap (λ (o : Option ℕ). is_some o || is_some (before_by around d.0)) (is_around d)
-            ∙ declares_are (before_by around) declarations d
-            ∙ ap (λ (ds : List Declaration). declares (before_by around) ds d) declarations_are
+            ∙ may_have_are (before_by around) declarations d
+            ∙ ap (λ (ds : List Declaration). may_have_header (before_by around) ds d) declarations_are
 
     pub means_are : means_by around ≡ meaning_in m k p (before_by around)
     means_are =
-        ap (λ uses. meaning_by uses (declares_by around)) (uses_are around.uses.now.entries are_uses)
-        ∙ ap (meaning_by (uses_table m k p)) declared_are
+        ap (λ uses. meaning_by uses (may_have_by around)) (uses_are around.uses.now.entries are_uses)
+        ∙ ap (meaning_by (uses_table m k p)) may_have_same
 
     pub denotes_are : denotes_by around ≡ (λ id. lookup (same_node id) (uses_table m k p))
     denotes_are = ap (λ (uses : List (NodeId × ObjId)). λ id. lookup (same_node id) uses) (uses_are around.uses.now.entries are_uses)

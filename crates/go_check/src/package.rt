@@ -17,7 +17,7 @@ ghost use Rattle.go_check.specs.Packages.Known.{headers_in};
 ghost use Rattle.go_check.specs.Packages.Names.{ImportsSound, sound_at};
 ghost use Rattle.go_expr.specs.Table.{headers_by};
 ghost use Rattle.go_check.specs.Packages.Verdicts.{IsAccepting};
-ghost use Rattle.go_expr.specs.View.{IsAround, before_by, denotes_by, known_by, means_by};
+ghost use Rattle.go_expr.specs.View.{IsAround, before_by, denotes_by, headers_listed, means_by};
 ghost use Rattle.go_check.specs.View.{outline_view};
 
 use crate::denoted::Denoted;
@@ -55,7 +55,7 @@ pub fn check_package(
         → ImportsSound denoted.now.verdicts.items place p }
     ensures verdict { IfOk result (λ verdict. (p : PackageData)
         → slice_get (module_view «module».now).packages place ≡ Some p → phases.IsVerdict (module_view «module».now)
-        place p (known_by before.old.entries) (verdict_view verdict) (known_by before.new.entries)) }
+        place p (headers_listed before.old.entries) (verdict_view verdict) (headers_listed before.new.entries)) }
     ensures sound { IfOk result (λ verdict. phases.is_accepted (verdict_view verdict) ≡ true
         → sound_at denoted.now.verdicts.items place ≡ true) }
 {
@@ -77,7 +77,7 @@ fn check_values(
 ) -> Result<Verdict, NoMemory>
     ensures { IfOk result (λ verdict. (m : ModuleData) (k : ℕ) → slice_get m.packages k ≡ Some (package_view own.now)
         → outline_view outline.now ≡ outline_of m → AreUses m k uses.now.entries → phases.IsVerdict m k
-        (package_view own.now) (known_by before.old.entries) (verdict_view verdict) (known_by before.new.entries)) }
+        (package_view own.now) (headers_listed before.old.entries) (verdict_view verdict) (headers_listed before.new.entries)) }
 {
     let files = own_files(alloc, own)?;
     let declarations = declarations_of(alloc, &files)?;
@@ -87,8 +87,7 @@ fn check_values(
         places: &places,
         before,
     };
-    let judged = judge(alloc, own, outline, &around, &files, &declarations)?;
-    let Judged { verdict, headers } = judged;
+    let Judged { verdict, headers } = judge(alloc, own, outline, &around, &files, &declarations)?;
     add_headers(before, &headers)?;
     Ok(verdict)
 }
@@ -115,7 +114,7 @@ fn judge(
     ensures { IfOk result (λ judged. (m : ModuleData) (k : ℕ) → slice_get m.packages k ≡ Some (package_view own.now)
         → outline_view outline.now ≡ outline_of m → AreUses m k around.now.uses.now.entries → phases.IsVerdict m k
         (package_view own.now) (before_by around.now) (verdict_view judged.verdict)
-        (known_by (insert_all same_object around.now.before.now.entries judged.headers.items))) }
+        (headers_listed (insert_all same_object around.now.before.now.entries judged.headers.items))) }
 {
     let table = headers(alloc, around, declarations)?;
     let cyclic = cyclic_declarations(alloc, around, &table, declarations)?;

@@ -56,8 +56,8 @@ fn push_cycles(
         (marked_by (places_by around.now) cyclic.now) (declarations_view declarations.now)) }
 {
     for declaration in declarations {
-        let is_cyclic = is_cyclic(around, cyclic, declaration.number());
-        push_cyclic(is_cyclic, declaration, list)?;
+        let marked = is_cyclic(around, cyclic, declaration.number());
+        push_cyclic(marked, declaration, list)?;
     }
     Ok(())
 }

@@ -262,8 +262,8 @@ has_open before declarations d declaration fresh declared =
     (there.place, ap (λ (x : Option ℤ). if is_some x then None else place_among (numbers_of declarations) d) fresh ∙ there.is, there.within)
 
 -- what has a place, or a header before, is declared, or has a header before
-pub declares_are : (before : Headers) (declarations : List Declaration) (d : ObjId) → (is_some (open_place before declarations d) || is_some (before d.0)) ≡ (is_some (declared_as declarations d.0) || is_some (before d.0))
-declares_are before declarations d = by_header (before d.0) refl
+pub may_have_are : (before : Headers) (declarations : List Declaration) (d : ObjId) → (is_some (open_place before declarations d) || is_some (before d.0)) ≡ (is_some (declared_as declarations d.0) || is_some (before d.0))
+may_have_are before declarations d = by_header (before d.0) refl
   where
     some_right : (a b : Bool) → (a || true) ≡ (b || true)
     some_right true true = refl

@@ -24,7 +24,7 @@ use Rattle.go_model.proofs.OutcomeLemmas.{outcome_stays}
 use Rattle.go_expr.specs.declared.around.Around.{Around}
 use Rattle.go_expr.proofs.AwaitedLemmas.{awaited_means}
 use Rattle.go_expr.specs.Table.{header_at, headers_by}
-use Rattle.go_expr.specs.View.{IsAround, before_by, declares_by, denotes_by, means_by, places_by}
+use Rattle.go_expr.specs.View.{IsAround, before_by, may_have_by, denotes_by, means_by, places_by}
 use Rattle.go_decl.specs.Waits.{awaited_places, mark_at, marked_by, place_list, waits_of}
 use Rattle.go_decl.proofs.PlaceLemmas.{IsOpen, open_is}
 
@@ -34,11 +34,11 @@ chosen true is d object e = absurd (let never : Predeclared ≡ Declared object 
 chosen false false d object e = absurd (let never : Other ≡ Declared object = e in cc)
 chosen false true d object e = (refl, let same : Declared d ≡ Declared object = e in cc)
 
-pub denoted_declares : (declares : ObjId → Bool) (o : Option ObjId) (object : ObjId) → denoted_meaning declares o ≡ Declared object → declares object ≡ true
-denoted_declares declares None object e = absurd (let never : Other ≡ Declared object = e in cc)
-denoted_declares declares (Some d) object e =
-    let both = chosen (is_predeclared d) (declares d) d object e in
-    ap declares (sym both.1) ∙ both.0
+pub denoted_may_have : (may_have : ObjId → Bool) (o : Option ObjId) (object : ObjId) → denoted_meaning may_have o ≡ Declared object → may_have object ≡ true
+denoted_may_have may_have None object e = absurd (let never : Other ≡ Declared object = e in cc)
+denoted_may_have may_have (Some d) object e =
+    let both = chosen (is_predeclared d) (may_have d) d object e in
+    ap may_have (sym both.1) ∙ both.0
 
 -- an object has a place
 pub record HasPlace (places : ObjId → Option ℕ) (d : ℕ) : Type 0 where
@@ -47,7 +47,7 @@ pub record HasPlace (places : ObjId → Option ℕ) (d : ℕ) : Type 0 where
 
 module _ (around : Around) (table : List (Option ℤ)) where
   -- what has no header, and is declared, has a place
-  lacking_place : (object : ObjId) → declares_by around object ≡ true → headers_by around table object.0 ≡ None → HasPlace (places_by around) object.0
+  lacking_place : (object : ObjId) → may_have_by around object ≡ true → headers_by around table object.0 ≡ None → HasPlace (places_by around) object.0
   lacking_place object declares lacks = by_place (places_by around object) refl
     where
       none_before : (o : Option ℤ) → before_by around object.0 ≡ o → header_at table (before_by around object.0) None ≡ None → (is_some (before_by around object.0) ≡ true) → ⊥
@@ -66,7 +66,7 @@ module _ (around : Around) (table : List (Option ℤ)) where
   awaited_place t d e =
       let lacks = (outcome_stays (means_by around) (headers_by around table) (headers_by around table) (λ _ _ q. q) t).lacks d e in
       awaited_means (λ n. headers_by around table n ≡ None → HasPlace (places_by around) n) (means_by around) (headers_by around table)
-      (λ id object m. lacking_place object (denoted_declares (declares_by around) (denotes_by around (record { 0 = id })) object m))
+      (λ id object m. lacking_place object (denoted_may_have (may_have_by around) (denotes_by around (record { 0 = id })) object m))
       t d e lacks
 
   placed : (t : Tree) (x : OutcomeData ℤ) → outcome (means_by around) (headers_by around table) t ≡ x → All (HasPlace (places_by around)) (awaited_in x)

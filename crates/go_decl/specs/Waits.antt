@@ -12,7 +12,7 @@ use Rattle.go_model.specs.Values.Waiting.{awaited_by}
 abbrev pub place_list : (ObjId → Option ℕ) → ℕ → List ℕ
 place_list places n = option_to_list (places (record { 0 = n }))
 
--- those that the declarations have for whose headers a node of the parts waits that the header of one rests on
+-- the places of the declarations for whose headers the parts of one wait
 abbrev pub awaited_places : (ObjId → Option ℕ) → (ℕ → Meaning) → Headers → Declaration → List ℕ
 awaited_places places means headers declaration = flat_map (place_list places) (awaited_by means headers declaration)
 
@@ -20,7 +20,7 @@ awaited_places places means headers declaration = flat_map (place_list places) (
 abbrev pub waits_of : (ObjId → Option ℕ) → (ℕ → Meaning) → Headers → List Declaration → Graph
 waits_of places means headers declarations = map (awaited_places places means headers) declarations
 
--- what marks of places have at the place of a number
+-- whether the place of a number is marked
 abbrev pub mark_at : List Bool → Option ℕ → Bool
 mark_at marks None = false
 mark_at marks (Some place) = is_marked marks place

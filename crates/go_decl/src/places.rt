@@ -1,12 +1,11 @@
 // The places of declarations by their numbers (Go specification, "Declarations and scope").
-ghost use Rattle.std.specs.Prelude.{◌≡◌, ◌↔◌, IfOk, IsTrue, Some, is_some};
+ghost use Rattle.std.specs.Prelude.{◌≡◌, IfOk, is_some};
 ghost use Rattle.std.specs.Map.{lookup};
 ghost use Rattle.go_module.specs.Scopes.{same_object};
 ghost use Rattle.go_names.specs.Views.{declarations_view};
-ghost use Rattle.go_expr.specs.View.{known_by, open_place, places_by};
+ghost use Rattle.go_expr.specs.View.{headers_listed, open_place};
 
 use go_base::NoMemory;
-use go_expr::Around;
 use go_module::ObjId;
 use go_names::Declaration;
 use indexmap::IndexMap;
@@ -20,7 +19,7 @@ pub fn places_of(
     declarations: &[Declaration],
 ) -> Result<IndexMap<ObjId, usize>, NoMemory>
     ensures { IfOk result (λ places. (d : ObjId) → lookup (same_object d) places.entries
-        ≡ open_place (known_by before.now.entries) (declarations_view declarations.now) d) }
+        ≡ open_place (headers_listed before.now.entries) (declarations_view declarations.now) d) }
 {
     let mut places = IndexMap::new(alloc);
     for place in (0..declarations.len()).rev() {
@@ -34,14 +33,7 @@ pub fn places_of(
 
 // Whether a declaration has a header before.
 fn is_known(before: &IndexMap<ObjId, i128>, d: ObjId) -> bool
-    ensures { result ≡ is_some (known_by before.now.entries d.0) }
+    ensures { result ≡ is_some (headers_listed before.now.entries d.0) }
 {
     before.get(&d).is_some()
-}
-
-/// Whether an object has that place.
-pub fn stands_at(around: &Around, d: ObjId, place: usize) -> bool
-    ensures { IsTrue result ↔ (places_by around.now d ≡ Some place) }
-{
-    around.places.get(&d).copied() == Some(place)
 }

@@ -7,9 +7,9 @@ ghost use Rattle.go_expr.specs.Table.{headers_by};
 ghost use Rattle.go_expr.specs.View.{IsAround, before_by, means_by, places_by};
 ghost use Rattle.go_names.specs.Views.{declarations_view};
 
-use crate::places::stands_at;
 use go_base::NoMemory;
 use go_expr::{Around, value_over};
+use go_module::ObjId;
 use go_names::Declaration;
 use std::alloc::Global;
 
@@ -75,14 +75,19 @@ fn add_one(
     if table[place].is_some() {
         return false;
     }
+    let Some(header) = value_over(around, table, declaration) else {
+        return false;
+    };
     if !stands_at(around, declaration.number(), place) {
         return false;
     }
-    match value_over(around, table, declaration) {
-        Some(header) => {
-            table[place] = Some(header);
-            true
-        }
-        None => false,
-    }
+    table[place] = Some(header);
+    true
+}
+
+// Whether an object has that place: of several declarations with one number, the first does.
+fn stands_at(around: &Around, d: ObjId, place: usize) -> bool
+    ensures { IsTrue result ↔ (places_by around.now d ≡ Some place) }
+{
+    around.places.get(&d).copied() == Some(place)
 }

@@ -18,8 +18,8 @@ use go_names::Declaration;
 use go_tree::Node;
 use std::alloc::Global;
 
-/// For each declaration by its place, whether it waits for its own header, be it through others. An error is want of
-/// memory.
+/// For each declaration by its place, of several with one number the first, whether it waits for its own header, be it
+/// through others. An error is want of memory.
 pub fn cyclic_declarations(
     alloc: Global,
     around: &Around,

@@ -18,21 +18,21 @@ places_by around d = lookup (same_object d) around.places.now.entries
 abbrev pub denotes_by : Around → NodeId → Option ObjId
 denotes_by around id = lookup (same_node id) around.uses.now.entries
 
--- what a table of headers has
-abbrev pub known_by : List (ObjId × ℤ) → Headers
-known_by entries d = lookup (same_object (record { 0 = d })) entries
+-- what a list of headers has, by their numbers
+abbrev pub headers_listed : List (ObjId × ℤ) → Headers
+headers_listed entries d = lookup (same_object (record { 0 = d })) entries
 
 -- the headers that are known before
 abbrev pub before_by : Around → Headers
-before_by around = known_by around.before.now.entries
+before_by around = headers_listed around.before.now.entries
 
--- an object that has a place, or a header before
-abbrev pub declares_by : Around → ObjId → Bool
-declares_by around d = is_some (places_by around d) || is_some (before_by around d.0)
+-- whether an object has a place, or a header before
+abbrev pub may_have_by : Around → ObjId → Bool
+may_have_by around d = is_some (places_by around d) || is_some (before_by around d.0)
 
 -- what an identifier means, by the number of its node
 abbrev pub means_by : Around → ℕ → Meaning
-means_by around = meaning_by around.uses.now.entries (declares_by around)
+means_by around = meaning_by around.uses.now.entries (may_have_by around)
 
 -- the place of an object among declarations, where it has no header before
 abbrev pub open_place : Headers → List Declaration → ObjId → Option ℕ

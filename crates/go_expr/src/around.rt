@@ -3,15 +3,15 @@
 ghost use Rattle.std.specs.Prelude.{◌≡◌};
 ghost use Rattle.go_model.specs.Values.Meaning as spec;
 ghost use Rattle.go_expr.specs.Table.{headers_by, slot_of};
-ghost use Rattle.go_expr.specs.View.{declares_by, denotes_by, means_by};
+ghost use Rattle.go_expr.specs.View.{may_have_by, denotes_by, means_by};
 
 use go_model::Meaning;
 use go_module::{FIRST_NUMBER, ObjId};
 use go_tree::NodeId;
 use indexmap::IndexMap;
 
-/// What is known round the declarations of a package: what its names denote, the places of its declarations by their
-/// numbers, and the headers of declarations of packages that stand before.
+/// What is known round the declarations of a package: what its names denote, the places of those of its declarations
+/// that have no header before, by their numbers, and the headers of declarations of packages that stand before.
 #[derive(Clone, Copy)]
 pub struct Around<'a> {
     pub uses: &'a IndexMap<NodeId, ObjId>,
@@ -39,11 +39,11 @@ impl<'a> Around<'a> {
 
     // What an object means.
     fn object_meaning(&self, d: ObjId) -> Meaning
-        ensures { result ≡ spec.object_meaning (declares_by self.now) d }
+        ensures { result ≡ spec.object_meaning (may_have_by self.now) d }
     {
         if d.0 < FIRST_NUMBER {
             Meaning::Predeclared
-        } else if self.declares(d) {
+        } else if self.may_have_header(d) {
             Meaning::Declared(d)
         } else {
             Meaning::Other
@@ -51,8 +51,8 @@ impl<'a> Around<'a> {
     }
 
     // Whether an object is a declaration of the package, or one with a header before.
-    fn declares(&self, d: ObjId) -> bool
-        ensures { result ≡ declares_by self.now d }
+    fn may_have_header(&self, d: ObjId) -> bool
+        ensures { result ≡ may_have_by self.now d }
     {
         self.places.get(&d).is_some() || self.before.get(&d).is_some()
     }

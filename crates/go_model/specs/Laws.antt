@@ -15,7 +15,7 @@ use Rattle.go_module.specs.Names.Declarations.{Declaration}
 use Rattle.go_model.specs.Outcomes.Walk.{Headers}
 use Rattle.go_model.specs.Values.Headers.{Known}
 
--- an object has at most one header
+-- a declaration has at most one header
 abbrev pub OneHeader : Headers → (ℕ → Meaning) → List Declaration → Type 0
 OneHeader before means declarations = (d : ℕ) (h k : ℤ) → Known before means declarations d h → Known before means declarations d k → h ≡ k
 

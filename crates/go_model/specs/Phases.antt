@@ -25,7 +25,8 @@ use Rattle.go_model.specs.Values.Waiting.{Chain}
 use Rattle.go_module.specs.Names.Rules.BrokenNames.{broken_names}
 use Rattle.go_module.specs.Names.Imports.{known_in}
 
--- the headers that are known: those before and those of a package's declarations; and which of these wait for themselves
+-- the headers that are known, those before and those of a package's declarations; and which declarations wait for
+-- themselves
 pub record HasHeaders (before : Headers) (means : ℕ → Meaning) (declarations : List Declaration) (headers : Headers) (cyclic : ℕ → Bool) : Type 0 where
   pub known : (d : ℕ) (h : ℤ) → (headers d ≡ Some h) ↔ Known before means declarations d h
   pub is_cyclic : (d : ℕ) → (cyclic d ≡ true) ↔ Chain means declarations headers d d

@@ -1,4 +1,7 @@
 // Lines of the productions of `declaration_line`. Written by bench/lines.py.
+//
+// Above each line its production: what a look ahead allows is taken, and where a type may be read as an expression it
+// has to be written as a type is (docs/GRAMMAR.md, "How each choice is settled"). ";" is also the inserted one.
 use crate::line::Step;
 use crate::line_words::line;
 use crate::start_sets::{
@@ -8,8 +11,8 @@ use crate::start_sets::{
 use go_tree::{Form, Items, NodeKind, Production, TokenKind};
 
 /// Decl = "const" ( ConstSpec | "(" [ ConstSpec [ More(ConstSpecs) ] ] ")" ) | "var" ( VarSpec |
-///     "(" [ VarSpec [ More(VarSpecs) ] ] ")" ) | "type" ( TypeSpec | "(" [ TypeSpec [
-///     More(TypeSpecs) ] ] ")" ) .
+///     "(" [ VarSpec [ More(VarSpecs) ] ] ")" ) | "type" ( TypeSpec | "(" [ TypeSpec
+///     [ More(TypeSpecs) ] ] ")" ) .
 pub const DECL: &[Step] = line![
     Or 21 [KwConst], Seq 1, Open, Seq 1, Pass KwConst, Or 3 [Ident], Seq 1, Call ConstSpec,
     Close ConstDecl, Seq 11, Seq 1, Pass LeftParen, Seq 7, Or 5 [Ident], Seq 1, Call ConstSpec,
@@ -61,9 +64,9 @@ pub const TYPE_SPEC: &[Step] = line![
     Seq 1, Pass LeftBracket, Call TypeSpecBracket,
 ];
 
-/// TypeSpecBracket = "]" AnyType | "..." "]" AnyType | ExprNoName "]" AnyType | Name ( [ CallOrDot
-///     ] Tails "]" AnyType | ( "," Name { "," Name } Union | ConstraintAfterName ) [
-///     More(TypeParamGroups) ] "]" ( "=" AnyType | AnyType ) ) .
+/// TypeSpecBracket = "]" AnyType | "..." "]" AnyType | ExprNoName "]" AnyType | Name
+///     ( [ CallOrDot ] Tails "]" AnyType | ( "," Name { "," Name } Union | ConstraintAfterName )
+///     [ More(TypeParamGroups) ] "]" ( "=" AnyType | AnyType ) ) .
 pub const TYPE_SPEC_BRACKET: &[Step] = line![
     Or 7 [RightBracket], Seq 1, Pass RightBracket, Seq 1, Call AnyType, Seq 1, Close SliceType,
     Close TypeSpec, Or 9 [Ellipsis], Seq 1, Pass Ellipsis, Seq 1, Pass RightBracket, Seq 1,

@@ -1,4 +1,7 @@
 // Lines of the productions of `expression_line`. Written by bench/lines.py.
+//
+// Above each line its production: what a look ahead allows is taken, and where a type may be read as an expression it
+// has to be written as a type is (docs/GRAMMAR.md, "How each choice is settled"). ";" is also the inserted one.
 use crate::line::{Asked, Step};
 use crate::line_words::line;
 use crate::start_sets::{
@@ -196,9 +199,9 @@ pub const FUNC_OPERAND: &[Step] = line![
 ];
 
 /// AfterName = "." ( "(" ( "type" ")" | Expr(Plain) ")" ) { Suffix } | Name [ AfterSelector ] ) |
-///     "[" ( ":" ( "]" | Expr(Plain) ( "]" | ":" Expr(Plain) "]" ) ) { Suffix } | Expr(Plain) ( [
-///     More(Indexes) ] "]" [ AfterIndex ] | ":" ( "]" | Expr(Plain) ( "]" | ":" Expr(Plain) "]" ) )
-///     { Suffix } ) ) | ( "(" CallRest | Value ) { Suffix } .
+///     "[" ( ":" ( "]" | Expr(Plain) ( "]" | ":" Expr(Plain) "]" ) ) { Suffix } | Expr(Plain)
+///     ( [ More(Indexes) ] "]" [ AfterIndex ] | ":" ( "]" | Expr(Plain) ( "]" | ":" Expr(Plain)
+///     "]" ) ) { Suffix } ) ) | ( "(" CallRest | Value ) { Suffix } .
 pub const AFTER_NAME: &[Step] = line![
     Or 28 [Dot], Seq 1, Reopen, Seq 1, Pass Dot, Or 16 [LeftParen], Seq 1, Pass LeftParen, Seq 11,
     Or 5 [KwType], Seq 1, Pass KwType, Seq 1, Pass RightParen, Close TypeGuardExpr, Seq 1,
@@ -219,9 +222,9 @@ pub const AFTER_NAME: &[Step] = line![
 ];
 
 /// AfterSelector = "." ( "(" ( "type" ")" | Expr(Plain) ")" ) { Suffix } | Name { Suffix } ) | "["
-///     ( ":" ( "]" | Expr(Plain) ( "]" | ":" Expr(Plain) "]" ) ) { Suffix } | Expr(Plain) ( [
-///     More(Indexes) ] "]" [ AfterIndex ] | ":" ( "]" | Expr(Plain) ( "]" | ":" Expr(Plain) "]" ) )
-///     { Suffix } ) ) | ( "(" CallRest | Value ) { Suffix } .
+///     ( ":" ( "]" | Expr(Plain) ( "]" | ":" Expr(Plain) "]" ) ) { Suffix } | Expr(Plain)
+///     ( [ More(Indexes) ] "]" [ AfterIndex ] | ":" ( "]" | Expr(Plain) ( "]" | ":" Expr(Plain)
+///     "]" ) ) { Suffix } ) ) | ( "(" CallRest | Value ) { Suffix } .
 pub const AFTER_SELECTOR: &[Step] = line![
     Or 27 [Dot], Seq 1, Reopen, Seq 1, Pass Dot, Or 16 [LeftParen], Seq 1, Pass LeftParen, Seq 11,
     Or 5 [KwType], Seq 1, Pass KwType, Seq 1, Pass RightParen, Close TypeGuardExpr, Seq 1,
@@ -247,8 +250,8 @@ pub const AFTER_INDEX: &[Step] = line![
     Many SUFFIXES, Call Suffix,
 ];
 
-/// Suffix = "." ( "(" ( "type" ")" | Expr(Plain) ")" ) | Name ) | "[" ( ":" ( "]" | Expr(Plain) (
-///     "]" | ":" Expr(Plain) "]" ) ) | Expr(Plain) ( [ More(Indexes) ] "]" | ":" ( "]" |
+/// Suffix = "." ( "(" ( "type" ")" | Expr(Plain) ")" ) | Name ) | "[" ( ":" ( "]" | Expr(Plain)
+///     ( "]" | ":" Expr(Plain) "]" ) ) | Expr(Plain) ( [ More(Indexes) ] "]" | ":" ( "]" |
 ///     Expr(Plain) ( "]" | ":" Expr(Plain) "]" ) ) ) ) | "(" CallRest .
 pub const SUFFIX: &[Step] = line![
     Or 25 [Dot], Seq 1, Reopen, Seq 1, Pass Dot, Or 15 [LeftParen], Seq 1, Pass LeftParen, Seq 11,
@@ -309,8 +312,8 @@ pub const EXPR_NO_NAME: &[Step] = line![
     Close ArrowExpr, Call Tails,
 ];
 
-/// Tails = { MulTail(Plain) } { AddTail(Plain) } { CompareTail(Plain) } { AndTail(Plain) } {
-///     OrTail(Plain) } .
+/// Tails = { MulTail(Plain) } { AddTail(Plain) } { CompareTail(Plain) } { AndTail(Plain) }
+///     { OrTail(Plain) } .
 pub const TAILS: &[Step] = line![
     Seq 2, Many PRODUCTS, Call MulTail Plain, Seq 2, Many SUMS, Call AddTail Plain, Seq 2,
     Many COMPARISONS, Call CompareTail Plain, Seq 2, Many [LogicalAnd], Call AndTail Plain,

@@ -1,4 +1,7 @@
 // Lines of the productions of `file_line`. Written by bench/lines.py.
+//
+// Above each line its production: what a look ahead allows is taken, and where a type may be read as an expression it
+// has to be written as a type is (docs/GRAMMAR.md, "How each choice is settled"). ";" is also the inserted one.
 use crate::line::Step;
 use crate::line_words::line;
 use crate::start_sets::SEMICOLONS;

@@ -1,4 +1,7 @@
 // Lines of the productions of `statement_line`. Written by bench/lines.py.
+//
+// Above each line its production: what a look ahead allows is taken, and where a type may be read as an expression it
+// has to be written as a type is (docs/GRAMMAR.md, "How each choice is settled"). ";" is also the inserted one.
 use crate::line::Step;
 use crate::line_words::line;
 use crate::start_sets::{
@@ -103,8 +106,8 @@ pub const SIMPLE_TAIL_HEADER: &[Step] = line![
     Nothing, Seq 1, Pass Define, Seq 1, Call Exprs Header, Seq 1, Close DefineStmt, Nothing,
 ];
 
-/// If = "if" ( ";" Expr(Header) | Expr(Header) [ AfterExpr(Header) ";" Expr(Header) ] ) Block [
-///     "else" ( If | Block ) ] .
+/// If = "if" ( ";" Expr(Header) | Expr(Header) [ AfterExpr(Header) ";" Expr(Header) ] ) Block
+///     [ "else" ( If | Block ) ] .
 pub const IF: &[Step] = line![
     Seq 1, Open, Seq 37, Seq 1, Pass KwIf, Seq 25, Or 9 SEMICOLONS, Seq 7, Seq 1, Open, Seq 3,
     Or 1 [Semicolon], Pass Semicolon, Pass InsertedSemicolon, Close Init, Call Expr Header, Seq 1,
@@ -115,8 +118,8 @@ pub const IF: &[Step] = line![
     Seq 1, Pass KwElse, Or 1 [KwIf], Call If, Call Block, Nothing, Close IfStmt,
 ];
 
-/// Switch = "switch" [ ";" [ Simple(Header) ] | Simple(Header) [ ";" [ Simple(Header) ] ] ] "{" [
-///     Clause(Cases) ] "}" .
+/// Switch = "switch" [ ";" [ Simple(Header) ] | Simple(Header) [ ";" [ Simple(Header) ] ] ] "{"
+///     [ Clause(Cases) ] "}" .
 pub const SWITCH: &[Step] = line![
     Seq 1, Open, Seq 39, Seq 1, Pass KwSwitch, Seq 29,
     Or 27 [Ident Int Float Rune Text KwChan KwFunc KwInterface KwMap KwStruct Add Sub Mul And Xor Arrow Not LeftParen LeftBracket Semicolon InsertedSemicolon],
@@ -172,8 +175,8 @@ pub const AFTER_CLAUSE_STMT_COMMS: &[Step] = line![
     Call ClauseBody Comms, Close CommClause,
 ];
 
-/// For = "for" ( Block | ";" ForClauses | "range" Expr(Header) Block | Expr(Header) ForAfterExpr )
-///     .
+/// For = "for" ( Block | ";" ForClauses | "range" Expr(Header) Block | Expr(Header)
+///     ForAfterExpr ) .
 pub const FOR: &[Step] = line![
     Seq 1, Open, Seq 1, Pass KwFor, Or 3 [LeftBrace], Seq 1, Call Block, Close ForStmt,
     Or 9 SEMICOLONS, Seq 7, Seq 1, Open, Seq 3, Or 1 [Semicolon], Pass Semicolon,
@@ -187,8 +190,8 @@ pub const FOR: &[Step] = line![
 ///     Exprs(Header) ";" ForClauses | "*=" Exprs(Header) ";" ForClauses | "/=" Exprs(Header) ";"
 ///     ForClauses | "%=" Exprs(Header) ";" ForClauses | "&=" Exprs(Header) ";" ForClauses | "|="
 ///     Exprs(Header) ";" ForClauses | "^=" Exprs(Header) ";" ForClauses | "<<=" Exprs(Header) ";"
-///     ForClauses | ">>=" Exprs(Header) ";" ForClauses | "&^=" Exprs(Header) ";" ForClauses | "=" (
-///     "range" Expr(Header) Block | Exprs(Header) ";" ForClauses ) | ":=" ( "range" Expr(Header)
+///     ForClauses | ">>=" Exprs(Header) ";" ForClauses | "&^=" Exprs(Header) ";" ForClauses | "="
+///     ( "range" Expr(Header) Block | Exprs(Header) ";" ForClauses ) | ":=" ( "range" Expr(Header)
 ///     Block | Exprs(Header) ";" ForClauses ) ) .
 pub const FOR_AFTER_EXPR: &[Step] = line![
     Or 3 [LeftBrace], Seq 1, Call Block, Close ForStmt, Or 15 SEMICOLONS, Seq 5, Seq 1, Reopen,

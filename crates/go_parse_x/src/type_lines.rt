@@ -1,4 +1,7 @@
 // Lines of the productions of `type_line`. Written by bench/lines.py.
+//
+// Above each line its production: what a look ahead allows is taken, and where a type may be read as an expression it
+// has to be written as a type is (docs/GRAMMAR.md, "How each choice is settled"). ";" is also the inserted one.
 use crate::line::{Asked, Step};
 use crate::line_words::line;
 use crate::start_sets::{PARAMETERS, SEMICOLONS, TERMS, TYPES, TYPES_NO_BRACKET, TYPES_NO_NAME};
@@ -112,7 +115,7 @@ pub const PARAMS: &[Step] = line![
     Or 1 [Comma], Call More Parameters, Nothing, Nothing, Pass RightParen, Close Params,
 ];
 
-/// Param = ( "..." AnyType | TypeNoName | Name ParamAfterName ) .
+/// Param = "..." AnyType | TypeNoName | Name ParamAfterName .
 pub const PARAM: &[Step] = line![
     Seq 1, Open, Or 5 [Ellipsis], Seq 1, Pass Ellipsis, Seq 1, Call AnyType, Close UnnamedVariadic,
     Or 3 TYPES_NO_NAME, Seq 1, Call TypeNoName, Close UnnamedParam, Seq 1, Call Name,
@@ -120,8 +123,8 @@ pub const PARAM: &[Step] = line![
 ];
 
 /// ParamAfterName = [ "..." AnyType | TypeNoBracket | "." Name [ TypeArgs ] | "[" ( "]" AnyType |
-///     "..." "]" AnyType | Expr(Plain) ( "]" [ AnyType ] | "," [ AnyType [ More(Types) ] ] "]" ) )
-///     ] .
+///     "..." "]" AnyType | Expr(Plain) ( "]" [ AnyType ] | "," [ AnyType [ More(Types) ] ]
+///     "]" ) ) ] .
 pub const PARAM_AFTER_NAME: &[Step] = line![
     Or 5 [Ellipsis], Seq 1, Pass Ellipsis, Seq 1, Call AnyType, Close VariadicParam,
     Or 3 TYPES_NO_BRACKET, Seq 1, Call TypeNoBracket, Close Param, Or 13 [Dot], Seq 11, Seq 7,
@@ -144,16 +147,16 @@ pub const STRUCT_TYPE: &[Step] = line![
     Close StructType,
 ];
 
-/// Field = ( "*" TypeName [ StringLit ] | Name FieldAfterName ) .
+/// Field = "*" TypeName [ StringLit ] | Name FieldAfterName .
 pub const FIELD: &[Step] = line![
     Seq 1, Open, Or 9 [Mul], Seq 1, Pass Mul, Seq 1, Call TypeName, Seq 3, Or 1 [Text],
     Call StringLit, Nothing, Close EmbeddedPointer, Seq 1, Call Name, Call FieldAfterName,
 ];
 
 /// FieldAfterName = "," Name { "," Name } AnyType [ StringLit ] | TypeNoBracket [ StringLit ] | "."
-///     Name [ TypeArgs ] [ StringLit ] | "[" ( "]" AnyType [ StringLit ] | "..." "]" AnyType [
-///     StringLit ] | Expr(Plain) ( "]" ( AnyType [ StringLit ] | [ StringLit ] ) | "," [ AnyType [
-///     More(Types) ] ] "]" [ StringLit ] ) ) | [ StringLit ] .
+///     Name [ TypeArgs ] [ StringLit ] | "[" ( "]" AnyType [ StringLit ] | "..." "]" AnyType
+///     [ StringLit ] | Expr(Plain) ( "]" ( AnyType [ StringLit ] | [ StringLit ] ) | "," [ AnyType
+///     [ More(Types) ] ] "]" [ StringLit ] ) ) | [ StringLit ] .
 pub const FIELD_AFTER_NAME: &[Step] = line![
     Or 16 [Comma], Seq 1, Pass Comma, Seq 1, Call Name, Seq 4, Many [Comma], Seq 1, Pass Comma,
     Call Name, Seq 1, Call AnyType, Seq 3, Or 1 [Text], Call StringLit, Nothing, Close Field,
@@ -181,8 +184,8 @@ pub const INTERFACE_TYPE: &[Step] = line![
     Close InterfaceType,
 ];
 
-/// Elem = ( Name ( Signature | [ "." Name ] [ TypeArgs ] { "|" Term } ) | ( TypeNoName | "~"
-///     AnyType ) { "|" Term } ) .
+/// Elem = Name ( Signature | [ "." Name ] [ TypeArgs ] { "|" Term } ) | ( TypeNoName | "~"
+///     AnyType ) { "|" Term } .
 pub const ELEM: &[Step] = line![
     Seq 1, Open, Or 26 [Ident], Seq 1, Call Name, Or 3 [LeftParen], Seq 1, Call Signature,
     Close MethodElem, Seq 13, Seq 9, When Qualifier 7, Seq 1, Reopen, Seq 3, Seq 1, Pass Dot,

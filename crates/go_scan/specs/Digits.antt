@@ -26,8 +26,8 @@ is_whole_of base = is_digits (is_digit_of base)
 
 -- the letter that opens its exponent
 abbrev pub exponent_letter : Base → ℕ
-exponent_letter Hex = 112
-exponent_letter base = 101
+exponent_letter Hex = code "p"
+exponent_letter base = code "e"
 
 -- whether it may lack an exponent behind its point
 abbrev pub may_lack_exponent : Base → Bool

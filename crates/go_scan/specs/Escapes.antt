@@ -1,5 +1,6 @@
 -- The digits of an escape, digit by digit.
 -- Says which digits an escape of a kind has, and where the reading of a text stops.
+use Prim.Native.Char.{code}
 use Rattle.std.specs.Prelude.{◌≡◌, ◌≢◌, ℕ, ◌<◌, ◌≤◌, nat_le, Bool, true, List, [], ◌∷◌, ◌++◌, length, slice_index, slice_range, ◌⊎◌}
 use Rattle.std.specs.List.{list_all}
 use Rattle.go_tree.specs.Lexical.Characters.{IsForbidden}
@@ -58,7 +59,7 @@ IsEscape quote xs = is_escape quote xs ≡ true
 -- a quote of a literal: ASCII, and no digit or letter
 pub record IsQuote (quote : ℕ) : Type 0 where
   pub some : 0 < quote
-  pub small : quote < 48
+  pub small : quote < code "0"
 
 -- no character of a literal stands at `at`; one could still go on up to `stuck`, and no byte
 -- before is to blame

@@ -34,7 +34,7 @@ piece_text (Char c) = encode_utf8 c
 -- from `at` up to `close` each backslash begins an escape of an interpreted string
 pub data Escapes (bytes : List ℕ) (close : ℕ) : ℕ → Type 0 where
   done : close ≤ length bytes → Escapes bytes close close
-  byte : {at : ℕ} → at < close → slice_index bytes at ≢ 92 → Escapes bytes close (at + 1) → Escapes bytes close at
+  byte : {at : ℕ} → at < close → slice_index bytes at ≢ code "\\" → Escapes bytes close (at + 1) → Escapes bytes close at
   escape : {at to : ℕ} → slice_index bytes at ≡ code "\\" → IsEscape (code "\"") (slice_range bytes (at + 1) to) → to ≤ close → Escapes bytes close to → Escapes bytes close at
 
 -- a string literal of either form

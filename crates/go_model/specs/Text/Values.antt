@@ -21,7 +21,7 @@ path_text (b ∷ bs) = (b ∷ bs) ++ codes "."
 -- `@` and a place, if there is one
 abbrev pub at_text : Option At → List ℕ
 at_text None = []
-at_text (Some at) = 64 ∷ place_text at
+at_text (Some at) = code "@" ∷ place_text at
 
 -- `path.Name`, and behind it `@place` where it is declared in a function
 abbrev pub named_text : NamedData → List ℕ

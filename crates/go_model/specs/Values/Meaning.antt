@@ -21,22 +21,22 @@ use Rattle.go_module.specs.Names.Tables.{uses_of}
 abbrev pub uses_table : ModuleData → ℕ → PackageData → List (NodeId × ObjId)
 uses_table m k p = insert_all same_node [] (uses_of (known_in m) k p)
 
--- an object that is one of these declarations, or has a header before
-abbrev pub declares : Headers → List Declaration → ObjId → Bool
-declares before declarations d = is_some (declared_as declarations d.0) || is_some (before d.0)
+-- whether an object is one of these declarations, or has a header before
+abbrev pub may_have_header : Headers → List Declaration → ObjId → Bool
+may_have_header before declarations d = is_some (declared_as declarations d.0) || is_some (before d.0)
 
--- what an object means
+-- what an object means, by which objects may have a header
 abbrev pub object_meaning : (ObjId → Bool) → ObjId → Meaning
-object_meaning declares d = if is_predeclared d then Predeclared else (if declares d then Declared d else Other)
+object_meaning may_have d = if is_predeclared d then Predeclared else (if may_have d then Declared d else Other)
 
 abbrev pub denoted_meaning : (ObjId → Bool) → Option ObjId → Meaning
-denoted_meaning declares None = Other
-denoted_meaning declares (Some d) = object_meaning declares d
+denoted_meaning may_have None = Other
+denoted_meaning may_have (Some d) = object_meaning may_have d
 
 -- what an identifier means, by the objects of identifiers
 abbrev pub meaning_by : List (NodeId × ObjId) → (ObjId → Bool) → ℕ → Meaning
-meaning_by uses declares id = denoted_meaning declares (lookup (same_node (record { 0 = id })) uses)
+meaning_by uses may_have id = denoted_meaning may_have (lookup (same_node (record { 0 = id })) uses)
 
 -- what each identifier of the package at a place means, by the number of its node
 abbrev pub meaning_in : ModuleData → ℕ → PackageData → Headers → ℕ → Meaning
-meaning_in m k p before = meaning_by (uses_table m k p) (declares before (declarations_of p))
+meaning_in m k p before = meaning_by (uses_table m k p) (may_have_header before (declarations_of p))

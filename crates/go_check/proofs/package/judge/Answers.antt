@@ -14,7 +14,7 @@ use Rattle.go_names.specs.Views.{declarations_view}
 use Rattle.go_expr.specs.Table.{headers_by}
 use Rattle.go_check.specs.Packages.Known.{headers_in}
 use Rattle.go_check.specs.Packages.Verdicts.{IsAccepting}
-use Rattle.go_expr.specs.View.{before_by, denotes_by, known_by, means_by, places_by}
+use Rattle.go_expr.specs.View.{before_by, denotes_by, headers_listed, means_by, places_by}
 use Rattle.go_decl.specs.Waits.{marked_by}
 use Rattle.go_check.specs.View.{outline_view}
 use Rattle.go_check.proofs.KnownLemmas.{known_after}
@@ -42,10 +42,10 @@ returns-then-breaks_none c =
     let found = breaks m k p before means declarations same c.requires.declarations (headers_by around table) cyclic list (sound_names m k p at around.uses.now.entries uses) c.in_ok-table.ensures.exact chains listed in
     let accepting = subst (λ o. IsAccepting o k p (denotes_by around) means (headers_by around table) (verdict_view judged.verdict)) outline
     (subst (λ t. IsAccepting (outline_view c.args.outline.now) k p (denotes_by around) means (headers_by around t) (verdict_view judged.verdict)) c.deref-then-breaks_none.ensures.value (verdict k p c.requires.files)) in
-    let after : known_by (insert_all same_object around.before.now.entries judged.headers.items) ≡ headers_by around table =
-    ap (λ hs. known_by (insert_all same_object around.before.now.entries hs)) (headers ∙ ap (λ t. headers_in (headers_by around t) declarations) c.deref-then-breaks_none.ensures.value)
+    let after : headers_listed (insert_all same_object around.before.now.entries judged.headers.items) ≡ headers_by around table =
+    ap (λ hs. headers_listed (insert_all same_object around.before.now.entries hs)) (headers ∙ ap (λ t. headers_in (headers_by around t) declarations) c.deref-then-breaks_none.ensures.value)
     ∙ known_after around table declarations c.requires.around in
-    sound_verdict m k p before means declarations same c.requires.declarations (headers_by around table) (known_by (insert_all same_object around.before.now.entries judged.headers.items)) (denotes_by around) list (verdict_view judged.verdict) found none
+    sound_verdict m k p before means declarations same c.requires.declarations (headers_by around table) (headers_listed (insert_all same_object around.before.now.entries judged.headers.items)) (denotes_by around) list (verdict_view judged.verdict) found none
     (denotes_are m k p at declarations around c.requires.declarations c.requires.around uses)
     accepting after)
     c.accept.ensures.verdict c.accept.ensures.headers
@@ -67,6 +67,6 @@ returns c m k at outline uses =
     let found = breaks m k p before means declarations same c.requires.declarations (headers_by around table) cyclic list (sound_names m k p at around.uses.now.entries uses) c.in_ok-table.ensures.exact chains listed in
     let some : list ≢ [] = λ e. c.breaks_none.ensures.some c.if-breaks_none.false (c.deref-4.ensures.value ∙ e) in
     let placed : c.in_ok-placed_list.field-0.items ≡ map (placed_by p) list = c.in_ok-placed_list.ensures ∙ ap (map (placed_by p)) c.deref-else-breaks_none.ensures.value in
-    let after : before ≡ known_by (insert_all same_object around.before.now.entries c.new.result.items) = ap (λ hs. known_by (insert_all same_object around.before.now.entries hs)) (sym c.new.ensures.items) in
+    let after : before ≡ headers_listed (insert_all same_object around.before.now.entries c.new.result.items) = ap (λ hs. headers_listed (insert_all same_object around.before.now.entries hs)) (sym c.new.ensures.items) in
     subst (λ (b : Headers). IsVerdict m k p before (refused c.in_ok-placed_list.field-0.items) b) after
     (subst (λ bs. IsVerdict m k p before (refused bs) before) (sym placed) (refused_values m k p before (headers_by around table) list found some))
