@@ -75,14 +75,16 @@ fn add_one(
     if table[place].is_some() {
         return false;
     }
-    let Some(header) = value_over(around, table, declaration) else {
-        return false;
-    };
-    if !stands_at(around, declaration.number(), place) {
-        return false;
+    match value_over(around, table, declaration) {
+        Some(header) => {
+            if !stands_at(around, declaration.number(), place) {
+                return false;
+            }
+            table[place] = Some(header);
+            true
+        }
+        None => false,
     }
-    table[place] = Some(header);
-    true
 }
 
 // Whether an object has that place: of several declarations with one number, the first does.

@@ -7,15 +7,15 @@ use Rattle.go_names.specs.Views.{declaration_view, declarations_view}
 use Rattle.go_decl.proofs.RoundLemmas.{IsBacked-set, one_declaration, open_count-set, own_number, declared_at, was_open}
 use Rattle.go_decl.proofs.rounds.add_one.Goals as goal
 
-pub returns-in-Some-clause-backed : goal.returns-in-Some-clause-backed
-returns-in-Some-clause-backed c =
+pub returns-else-not-stands_at-clause-backed : goal.returns-else-not-stands_at-clause-backed
+returns-else-not-stands_at-clause-backed c =
     let around = c.args.around.now in
     let fits : FitsSigned w128 c.in-Some.header = search rules in
     let declared = declared_at c.args.declarations.now c.args.place c.index-declarations-place.result c.requires.within c.index-declarations-place.is in
     simp to_z-of_z (IsBacked-set (before_by around) (means_by around) (declarations_view c.args.declarations.now) (places_by around) c.requires.around c.args.table.now c.number.result c.args.place c.in-Some.header _ c.requires.backed (omega arith) (c.stands_at.ensures.0 c.if-not-stands_at.false) declared (sym c.in-Some.ensures))
 
-pub returns-in-Some-clause-fewer : goal.returns-in-Some-clause-fewer
-returns-in-Some-clause-fewer c = λ _. open_count-set c.args.table.now c.args.place _ (omega arith) (was_open c.args.table.now c.args.place c.if-is_some.ensures)
+pub returns-else-not-stands_at-clause-fewer : goal.returns-else-not-stands_at-clause-fewer
+returns-else-not-stands_at-clause-fewer c = λ _. open_count-set c.args.table.now c.args.place _ (omega arith) (was_open c.args.table.now c.args.place c.if-is_some.ensures)
 
 pub returns-in-None-clause-settled : goal.returns-in-None-clause-settled
 returns-in-None-clause-settled c = λ _ d at h _ f.
