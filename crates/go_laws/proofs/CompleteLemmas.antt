@@ -1,0 +1,364 @@
+-- Why an accepted package is complete: what has no header waits for what has none, and so on, and finitely many that do so
+-- come back to one that waits for itself.
+use Rattle.std.proofs.Common.{◌≡◌, ◌≢◌, ℕ, ℤ, Bool, true, false, cond, Option, Some, None, List, [], ◌∷◌, ◌++◌, ◌⊎◌, inl, inr, map, Contains, refl, sym, ap, ◌∙◌, subst, ⊎_elim}
+use Rattle.std.specs.Prelude.{◌==◌, ◌||◌, ◌&&◌, not, is_some, IsSome, length, option_and_then, if◌then◌else◌}
+use Rattle.std.specs.List.{flat_map, list_all}
+use Rattle.std.specs.Map.{lookup}
+use Rattle.std.proofs.lemmas.Bool.{cases_eq, eq-eqb, ne_eqb}
+use Rattle.std.proofs.lemmas.List.Elements.{Contains-append_right}
+use Rattle.go_base.specs.declared.ids.ObjId.{ObjId}
+use Rattle.go_base.specs.declared.rule.Rule.{Rule}
+use Rattle.go_tree.specs.Tree.{Tree, branch, start_of}
+use Rattle.go_module.specs.Broken.{broken_at, told_if}
+use Rattle.go_module.proofs.BrokenListLemmas.{none_found}
+use Rattle.go_module.proofs.MemberLemmas.{cons_cases, contains_head, contains_none, contains_tail}
+use Rattle.go_module.specs.Modules.Module.{ModuleData, PackageData}
+use Rattle.go_module.specs.Names.Declarations.{Declaration, Spec, declarations_in, declarations_of, declared_in, number_of, pairs, rests_on, specs_of, with_list}
+use Rattle.go_module.specs.Names.Occurrences.{nodes_in}
+use Rattle.go_module.specs.Places.{with_number}
+use Rattle.go_module.specs.Scopes.{same_node}
+use Rattle.go_module.specs.declared.declaration.Built.TheVariants.{Pair}
+use Rattle.go_model.specs.declared.meaning.Meaning.{Meaning}
+use Rattle.go_model.specs.declared.meaning.Meaning.TheVariants.{Declared}
+use Rattle.go_model.specs.declared.outcome.Spot.{Spot}
+use Rattle.go_model.specs.Outcomes.Judged.{Broken, Waits, OutcomeData}
+use Rattle.go_model.specs.Outcomes.Readings.{awaited_in, broken_spots, record_in}
+use Rattle.go_model.specs.Outcomes.Walk.{Headers, outcome}
+use Rattle.go_model.specs.Phases.{HasHeaders, IsVerdict, sound}
+use Rattle.go_model.specs.Report.{LineData, NamedData, accepted}
+use Rattle.go_model.specs.Values.Declared.{declared_as}
+use Rattle.go_model.specs.Values.Headers.{Follows, Justified, Known, headers_of}
+use Rattle.go_model.specs.Values.Meaning.{may_have_header, meaning_in, uses_table}
+use Rattle.go_model.specs.Values.Quests.{IsPart}
+use Rattle.go_model.specs.Values.Records.{bound_value, record_of, value_over}
+use Rattle.go_model.specs.Values.Rules.{are_unequal, broken_cycles, broken_in, broken_in_files, broken_node, broken_spec, broken_values, cyclic_at, unequal_at, unequal_sides}
+use Rattle.go_model.specs.Values.Waiting.{Chain, Waits as WaitsFor, awaited_by_nodes, more, one}
+use Rattle.go_model.proofs.ExactWaitLemmas.{outcome_exactly}
+use Rattle.go_model.proofs.HeaderLemmas.{both_justified, closed_under, headers_of-here, kept, later_part, stays, value_over-part}
+use Rattle.go_model.proofs.OutcomeLemmas.{outcome_stays}
+use Rattle.go_expr.proofs.AwaitedLemmas.{awaited_means}
+use Rattle.go_decl.proofs.WaitLemmas.{denoted_may_have}
+use Rattle.go_laws.specs.Complete.{AreAsked, IsComplete, asked_in, values_in}
+use Rattle.go_laws.proofs.AskedLemmas.{IsGood, IsUnbroken, asked_are_nodes, each_good, flat_cases, flat_contains, map_cases, map_contains}
+use Rattle.go_laws.proofs.WalkLemmas.{no_walk}
+
+-- what makes an empty list makes nothing of any item
+none_by : {X Y : Type 0} (f : X → List Y) (xs : List X) → flat_map f xs ≡ [] → (x : X) → Contains xs x → (l : List Y) → f x ≡ l → l ≡ []
+none_by f xs e x h [] is = refl
+none_by f xs e x h (y ∷ ys) is =
+    let here : Contains (f x) y = subst (λ l. Contains l y) (sym is) (contains_head y ys y refl) in
+    absurd (contains_none y (subst (λ l. Contains l y) e (flat_contains f xs x y h here)))
+
+none_each : {X Y : Type 0} (f : X → List Y) (xs : List X) → flat_map f xs ≡ [] → (x : X) → Contains xs x → f x ≡ []
+none_each f xs e x h = none_by f xs e x h (f x) refl
+
+left_empty : {X : Type 0} (xs ys : List X) → xs ++ ys ≡ [] → xs ≡ []
+left_empty [] ys e = refl
+left_empty (x ∷ xs) ys e = cc
+
+right_empty : {X : Type 0} (xs ys : List X) → xs ++ ys ≡ [] → ys ≡ []
+right_empty [] ys e = e
+right_empty (x ∷ xs) ys e = cc
+
+map_empty : {X Y : Type 0} (f : X → Y) (xs : List X) → map f xs ≡ [] → xs ≡ []
+map_empty f [] e = refl
+map_empty f (x ∷ xs) e = cc
+
+-- what a number names is a declaration with that number, and each has one that its number names
+pub record Names (declarations : List Declaration) (n : ℕ) (d : Declaration) : Type 0 where
+  pub among : Contains declarations d
+  pub number : (number_of d).0 ≡ n
+
+declared_names : (declarations : List Declaration) (n : ℕ) (d : Declaration) → declared_as declarations n ≡ Some d → Names declarations n d
+declared_names [] n d e = absurd (let never : None ≡ Some d = e in cc)
+declared_names (x ∷ xs) n d e =
+    ⊎_elim
+    (λ here. (let first : Some x ≡ Some d = sym (ap (λ b. cond b (Some x) (declared_as xs n)) (eq-eqb (number_of x).0 n here)) ∙ e in
+    let same : x ≡ d = cc in
+    record { among = contains_head x xs d same; number = ap (λ y. (number_of y).0) (sym same) ∙ here }))
+    (λ ne. (let there = declared_names xs n d (sym (ap (λ b. cond b (Some x) (declared_as xs n)) (ne_eqb (number_of x).0 n ne)) ∙ e) in
+    record { among = contains_tail x xs d there.among; number = there.number }))
+    (cases_eq (number_of x).0 n)
+
+names_declared : (declarations : List Declaration) (d : Declaration) → Contains declarations d → (first : Declaration) × (declared_as declarations (number_of d).0 ≡ Some first)
+names_declared [] d h = absurd (contains_none d h)
+names_declared (x ∷ xs) d h =
+    ⊎_elim
+    (λ here. (x, ap (λ b. cond b (Some x) (declared_as xs (number_of d).0)) (eq-eqb (number_of x).0 (number_of d).0 here)))
+    (λ ne. (let there = later ne (cons_cases x xs d h) (names_declared xs d) in
+    (there.0, ap (λ b. cond b (Some x) (declared_as xs (number_of d).0)) (ne_eqb (number_of x).0 (number_of d).0 ne) ∙ there.1)))
+    (cases_eq (number_of x).0 (number_of d).0)
+  where
+    later : ((number_of x).0 ≡ (number_of d).0 → ⊥) → (x ≡ d) ⊎ Contains xs d → (Contains xs d → (first : Declaration) × (declared_as xs (number_of d).0 ≡ Some first)) → (first : Declaration) × (declared_as xs (number_of d).0 ≡ Some first)
+    later ne (inl same) rest = absurd (ne (ap (λ y. (number_of y).0) same))
+    later ne (inr there) rest = rest there
+
+-- a declaration of a spec with as many names as expressions is that of one of these
+pub record IsPair (spec : Spec) (values : List Tree) (d : Declaration) : Type 0 where
+  pub value : Tree
+  pub among : Contains values value
+  pub values_are : d.values ≡ value ∷ []
+  pub built : d.built ≡ Pair
+
+pair_is : (spec : Spec) (names values : List Tree) (d : Declaration) → Contains (pairs spec names values) d → IsPair spec values d
+pair_is spec [] values d h = absurd (contains_none d h)
+pair_is spec (name ∷ names) [] d h = absurd (contains_none d h)
+pair_is spec (name ∷ names) (value ∷ values) d h = by_cases (cons_cases _ (pairs spec names values) d h) (pair_is spec names values d)
+  where
+    by_cases : (record { file = spec.file; kind = spec.kind; name = name; types = spec.types; values = value ∷ []; built = Pair } ≡ d) ⊎ Contains (pairs spec names values) d → (Contains (pairs spec names values) d → IsPair spec values d) → IsPair spec (value ∷ values) d
+    by_cases (inl same) rest = record {
+      value = value;
+      among = contains_head value values value refl;
+      values_are = ap (λ (x : Declaration). x.values) (sym same);
+      built = ap (λ (x : Declaration). x.built) (sym same);
+    }
+    by_cases (inr there) rest = let found = rest there in record {
+      value = found.value;
+      among = contains_tail value values found.value found.among;
+      values_are = found.values_are;
+      built = found.built;
+    }
+
+self_in : (t : Tree) → Contains (nodes_in t) t
+self_in (branch id from to kind text parts) = contains_head (branch id from to kind text parts) _ (branch id from to kind text parts) refl
+
+self_asked : (means : ℕ → Meaning) (t : Tree) → Contains (asked_in means t) t
+self_asked means (branch id from to kind text parts) = contains_head (branch id from to kind text parts) _ (branch id from to kind text parts) refl
+
+some_spots : (means : ℕ → Meaning) (headers : Headers) (t : Tree) (rule : Rule) (spots : List Spot) → outcome means headers t ≡ Broken rule spots → spots ≢ []
+some_spots means headers (branch id from to kind text parts) rule spots e = (((outcome_exactly means headers id from to kind text parts).broken rule spots).0 e).some
+
+module _ (before : Headers) (means : ℕ → Meaning) (specs : List Spec) (headers : Headers) (cyclic : ℕ → Bool)
+    (has : HasHeaders before means (declarations_in specs) headers cyclic)
+    (no_cycles : broken_cycles cyclic (declarations_in specs) ≡ [])
+    (no_broken : flat_map (broken_spec means headers) specs ≡ [])
+    (named : (id : ℕ) (object : ObjId) → means id ≡ Declared object → may_have_header before (declarations_in specs) object ≡ true)
+    (asked : AreAsked means (flat_map (λ spec. spec.values) specs)) where
+  abbrev all : List Declaration
+  all = declarations_in specs
+
+  -- what is known before is known
+  base : IsPart before headers
+  base d h e = (has.known d h).1 (record { list = []; justified = tt; has = e })
+
+  -- RECORDS
+
+  unbroken : (spec : Spec) → Contains specs spec → (t : Tree) → Contains spec.values t → (s : Tree) → Contains (nodes_in t) s → IsUnbroken means headers s
+  unbroken spec is t among s inside rule spots e =
+      let whole = none_each (broken_spec means headers) specs no_broken spec is in
+      let parts = right_empty (unequal_at means headers spec) (flat_map (broken_in spec.file spec.told_at means headers) (spec.types ++ spec.values)) whole in
+      let part = none_each (broken_in spec.file spec.told_at means headers) (spec.types ++ spec.values) parts t (Contains-append_right spec.types spec.values t among) in
+      let node = none_each (broken_node spec.file spec.told_at means headers) (nodes_in t) part s inside in
+      some_spots means headers s rule spots e (map_empty _ spots (ap (broken_spots spec.file spec.told_at s) (sym e) ∙ node))
+
+  good : (spec : Spec) → Contains specs spec → (t : Tree) → Contains spec.values t → (s : Tree) → Contains (asked_in means t) s → IsGood means headers (outcome means headers s)
+  good spec is t among s h =
+      each_good means headers t
+      (λ r there. (asked t (flat_contains (λ (x : Spec). x.values) specs spec t is among) r there, unbroken spec is t among r (asked_are_nodes means t r there)))
+      s h
+
+  -- WHAT HAS NO HEADER
+
+  record Lacking (n : ℕ) : Type 0 where
+    pub missing : headers n ≡ None
+    pub declaration : Declaration
+    pub declared : declared_as all n ≡ Some declaration
+
+  own : (object : ObjId) → may_have_header before all object ≡ true → headers object.0 ≡ None → (d : Declaration) × (declared_as all object.0 ≡ Some d)
+  own object declared missing = by_declaration (declared_as all object.0) refl
+    where
+      none_before : (o : Option ℤ) → before object.0 ≡ o → is_some o ≡ true → ⊥
+      none_before None e some = cc
+      none_before (Some h) e some = let known = base object.0 h e in let never : Some h ≡ None = sym known ∙ missing in cc
+
+      by_declaration : (o : Option Declaration) → declared_as all object.0 ≡ o → (d : Declaration) × (declared_as all object.0 ≡ Some d)
+      by_declaration (Some d) e = (d, e)
+      by_declaration None e = absurd (none_before (before object.0) refl (ap (λ (o : Option Declaration). is_some o || is_some (before object.0)) (sym e) ∙ declared))
+
+  waits_lack : (t : Tree) (n : ℕ) → outcome means headers t ≡ Waits n → Lacking n
+  waits_lack t n e =
+      let missing = (outcome_stays means headers headers (λ _ _ q. q) t).lacks n e in
+      let is = awaited_means (λ i. headers i ≡ None → (d : Declaration) × (declared_as all i ≡ Some d)) means headers (λ id object m. own object (named id object m)) t n e missing in
+      record { missing = missing; declaration = is.0; declared = is.1 }
+
+  -- HEADERS THAT FOLLOW
+
+  record One (numbers : List ℕ) : Type 0 where
+    pub list : List (ℕ × ℤ)
+    pub justified : Justified before means all list
+    pub has_all : (n : ℕ) → Contains numbers n → (h : ℤ) → headers n ≡ Some h → headers_of before list n ≡ Some h
+
+  -- one justified list has the headers of all these numbers
+  in_one : (numbers : List ℕ) → One numbers
+  in_one [] = record { list = []; justified = tt; has_all = λ n h. absurd (contains_none n h) }
+  in_one (n ∷ numbers) = by_header (in_one numbers) (headers n) refl
+    where
+      by_header : One numbers → (o : Option ℤ) → headers n ≡ o → One (n ∷ numbers)
+      by_header rest None e = record {
+        list = rest.list;
+        justified = rest.justified;
+        has_all = λ i there h known. by_cases (cons_cases n numbers i there) h known;
+      }
+        where
+          by_cases : {i : ℕ} → (n ≡ i) ⊎ Contains numbers i → (h : ℤ) → headers i ≡ Some h → headers_of before rest.list i ≡ Some h
+          by_cases {i} (inl same) h known = absurd (let never : None ≡ Some h = sym e ∙ ap headers same ∙ known in cc)
+          by_cases {i} (inr there) h known = rest.has_all i there h known
+      by_header rest (Some g) e =
+          let k = (has.known n g).0 e in
+          record {
+            list = k.list ++ rest.list;
+            justified = both_justified before means all rest.list rest.justified k.list k.justified;
+            has_all = λ i there h known. by_cases k (cons_cases n numbers i there) h known;
+          }
+        where
+          by_cases : (k : Known before means all n g) → {i : ℕ} → (n ≡ i) ⊎ Contains numbers i → (h : ℤ) → headers i ≡ Some h → headers_of before (k.list ++ rest.list) i ≡ Some h
+          by_cases k {i} (inl same) h known =
+              let value : g ≡ h = (let both : Some g ≡ Some h = sym e ∙ ap headers same ∙ known in cc) in
+              subst (λ j. headers_of before (k.list ++ rest.list) j ≡ Some h) same (closed_under before means all rest.list rest.justified k.list k.justified n h (k.has ∙ ap Some value))
+          by_cases k {i} (inr there) h known = later_part before means all rest.list rest.justified k.list k.justified i h (rest.has_all i there h known)
+
+  abbrev numbers : List ℕ
+  numbers = map (λ (d : Declaration). (number_of d).0) all
+
+  number_in : (d : Declaration) → Contains all d → (n : ℕ) → (number_of d).0 ≡ n → Contains numbers n
+  number_in d among n same = subst (Contains numbers) same (map_contains (λ (x : Declaration). (number_of x).0) all d among)
+
+  -- what follows from the headers is among them
+  follows_known : (n : ℕ) (d : Declaration) (v : ℤ) → declared_as all n ≡ Some d → headers n ≡ None → value_over means headers d ≡ Some v → ⊥
+  follows_known n d v declared missing value =
+      let single = in_one numbers in
+      let whole = value_over-part means headers (headers_of before single.list) (in_list single) d v value in
+      let follows : Follows before means all (headers_of before single.list) n v = record { declaration = d; declared = declared; fresh = fresh (before n) refl; value = whole } in
+      let known = (has.known n v).1 (record { list = (n, v) ∷ single.list; justified = (single.justified, follows); has = headers_of-here before (n, v) single.list n refl }) in
+      let never : None ≡ Some v = sym missing ∙ known in cc
+    where
+      fresh : (o : Option ℤ) → before n ≡ o → before n ≡ None
+      fresh None e = e
+      fresh (Some h) e = absurd (let never : None ≡ Some h = sym missing ∙ base n h e in cc)
+
+      in_list : (single : One numbers) → IsPart headers (headers_of before single.list)
+      in_list single i h known = by_cause (stays before means all k.list k.justified i h k.has)
+        where
+          k : Known before means all i h
+          k = (has.known i h).0 known
+
+          by_cause : (before i ≡ Some h) ⊎ Follows before means all (headers_of before k.list) i h → headers_of before single.list i ≡ Some h
+          by_cause (inl was) = kept before means all single.list single.justified i h was
+          by_cause (inr follows) =
+              let is = declared_names all i follows.declaration follows.declared in
+              single.has_all i (number_in follows.declaration is.among i is.number) h known
+
+  -- WAITS
+
+  record Next (n : ℕ) : Type 0 where
+    pub other : ℕ
+    pub lacking : Lacking other
+    pub waits : WaitsFor means all headers n other
+
+  -- by an expression that a declaration rests on
+  next_by : (n : ℕ) (d : Declaration) → declared_as all n ≡ Some d → (t : Tree) → Contains d.values t → (e : ℕ) → outcome means headers t ≡ Waits e → Next n
+  next_by n d declared t among e waits =
+      let here : Contains (awaited_in (outcome means headers t)) e = subst (λ (x : OutcomeData ℤ). Contains (awaited_in x) e) (sym waits) (contains_head e [] e refl) in
+      let node = flat_contains (λ node. awaited_in (outcome means headers node)) (nodes_in t) t e (self_in t) here in
+      record {
+        other = e;
+        lacking = waits_lack t e waits;
+        waits = record { declaration = d; declared = declared; awaits = flat_contains (awaited_by_nodes means headers) (rests_on d) t e (Contains-append_right d.types d.values t among) node };
+      }
+
+  record AWait (trees : List Tree) : Type 0 where
+    pub tree : Tree
+    pub among : Contains trees tree
+    pub number : ℕ
+    pub waits : outcome means headers tree ≡ Waits number
+
+  all_or_wait : (trees : List Tree) → ((t : Tree) → Contains trees t → IsGood means headers (outcome means headers t)) → (list_all (λ t. is_some (record_of means headers t)) trees ≡ true) ⊎ AWait trees
+  all_or_wait [] each = inl refl
+  all_or_wait (t ∷ trees) each = by_outcome (each t (contains_head t trees t refl)) (all_or_wait trees (λ s there. each s (contains_tail t trees s there)))
+    where
+      by_outcome : IsGood means headers (outcome means headers t) → (list_all (λ s. is_some (record_of means headers s)) trees ≡ true) ⊎ AWait trees → (list_all (λ s. is_some (record_of means headers s)) (t ∷ trees) ≡ true) ⊎ AWait (t ∷ trees)
+      by_outcome (inr waits) rest = inr (record { tree = t; among = contains_head t trees t refl; number = waits.0; waits = waits.1 })
+      by_outcome (inl found) (inr w) = inr (record { tree = w.tree; among = contains_tail t trees w.tree w.among; number = w.number; waits = w.waits })
+      by_outcome (inl found) (inl rest) = inl (ap (λ x. is_some (record_in x) && list_all (λ s. is_some (record_of means headers s)) trees) found.1 ∙ rest)
+
+  next : (n : ℕ) → Lacking n → Next n
+  next n l =
+      let is = declared_names all n l.declaration l.declared in
+      let from = flat_cases declared_in specs l.declaration is.among in
+      by_sides from.0 from.1 (length from.0.names == length from.0.values) refl from.2
+    where
+      paired : (spec : Spec) → Contains specs spec → IsPair spec spec.values l.declaration → Next n
+      paired spec is p = by_outcome (good spec is p.value p.among p.value (self_asked means p.value))
+        where
+          bound : bound_value l.declaration.built l.declaration.values ≡ Some p.value
+          bound = (λ i. bound_value (p.built i) (p.values_are i))
+
+          by_outcome : IsGood means headers (outcome means headers p.value) → Next n
+          by_outcome (inl found) = absurd (follows_known n l.declaration found.0 l.declared l.missing (ap (option_and_then (record_of means headers)) bound ∙ ap record_in found.1))
+          by_outcome (inr waits) = next_by n l.declaration l.declared p.value (subst (λ vs. Contains vs p.value) (sym p.values_are) (contains_head p.value [] p.value refl)) waits.0 waits.1
+
+      listed : (spec : Spec) → Contains specs spec → (length spec.names == length spec.values) ≡ false → l.declaration.values ≡ spec.values → Next n
+      listed spec is unequal values = by_records (all_or_wait spec.values (λ t among. good spec is t among t (self_asked means t)))
+        where
+          by_records : (list_all (λ t. is_some (record_of means headers t)) spec.values ≡ true) ⊎ AWait spec.values → Next n
+          by_records (inl recorded) =
+              let broken : are_unequal means headers spec.names spec.values ≡ true = (λ i. not (unequal i) && recorded i) in
+              let told = broken_at spec.file (start_of spec.node) unequal_sides in
+              let none = left_empty (unequal_at means headers spec) _ (none_each (broken_spec means headers) specs no_broken spec is) in
+              absurd (let never : told ∷ [] ≡ [] = ap (λ b. told_if b told) (sym broken) ∙ none in cc)
+          by_records (inr w) = next_by n l.declaration l.declared w.tree (subst (λ vs. Contains vs w.tree) (sym values) w.among) w.number w.waits
+
+      by_sides : (spec : Spec) → Contains specs spec → (b : Bool) → (length spec.names == length spec.values) ≡ b → Contains (declared_in spec) l.declaration → Next n
+      by_sides spec is true e h = paired spec is (pair_is spec spec.names spec.values l.declaration (subst (λ c. Contains (if c then pairs spec spec.names spec.values else map (with_list spec) spec.names) l.declaration) e h))
+      by_sides spec is false e h =
+          let from = map_cases (with_list spec) spec.names l.declaration (subst (λ c. Contains (if c then pairs spec spec.names spec.values else map (with_list spec) spec.names) l.declaration) e h) in
+          listed spec is e (ap (λ (d : Declaration). d.values) (sym from.2))
+
+  no_return : (n : ℕ) → Lacking n → Chain means all headers n n → ⊥
+  no_return n l chain =
+      let is = declared_names all n l.declaration l.declared in
+      let marked : cyclic (number_of l.declaration).0 ≡ true = ap cyclic is.number ∙ (has.is_cyclic n).1 chain in
+      let none = none_each (λ d. cyclic_at (cyclic (number_of d).0) d) all no_cycles l.declaration is.among in
+      let never = ap (λ b. cyclic_at b l.declaration) (sym marked) ∙ none in cc never
+
+  none_lacks : (n : ℕ) → Lacking n → ⊥
+  none_lacks n l =
+      no_walk Lacking (WaitsFor means all headers) (Chain means all headers)
+      (λ a b w. one b w) (λ a b c way w. more b c way w)
+      no_return
+      (λ a o. (let there = next a o in (there.other, there.lacking, there.waits)))
+      numbers n l
+      (λ i o. (let is = declared_names all i o.declaration o.declared in number_in o.declaration is.among i is.number))
+
+  -- CONCLUSION
+
+  pub each_declared : (d : Declaration) → Contains all d → IsSome (headers (number_of d).0)
+  each_declared d among = by_header (headers (number_of d).0) refl
+    where
+      by_header : (o : Option ℤ) → headers (number_of d).0 ≡ o → IsSome o
+      by_header (Some h) e = refl
+      by_header None e = absurd (let first = names_declared all d among in none_lacks (number_of d).0 (record { missing = e; declaration = first.0; declared = first.1 }))
+
+  pub each_recorded : (t : Tree) → Contains (flat_map (λ spec. spec.values) specs) t → (s : Tree) → Contains (asked_in means t) s → IsSome (record_of means headers s)
+  each_recorded t among s h =
+      let from = flat_cases (λ (spec : Spec). spec.values) specs t among in
+      by_outcome (good from.0 from.1 t from.2 s h)
+    where
+      by_outcome : IsGood means headers (outcome means headers s) → IsSome (record_of means headers s)
+      by_outcome (inl found) = subst (λ (x : OutcomeData ℤ). IsSome (record_in x)) (sym found.1) refl
+      by_outcome (inr waits) = absurd (none_lacks waits.0 (waits_lack s waits.0 waits.1))
+
+-- an accepted package is complete
+pub complete : (m : ModuleData) (k : ℕ) (p : PackageData) (before after : Headers) (lines : List LineData) (names : List NamedData)
+    → IsVerdict m k p before (accepted lines names) after → AreAsked (meaning_in m k p before) (values_in p)
+    → IsComplete (meaning_in m k p before) after p
+complete m k p before after lines names (sound headers _ breaks _) asked =
+    let means = meaning_in m k p before in
+    let none = map_empty (with_number p.files) (broken_in_files means headers breaks.cyclic p) (none_found (broken_values means headers breaks.cyclic p) breaks.is_list) in
+    let no_cycles = left_empty (broken_cycles breaks.cyclic (declarations_of p)) (flat_map (broken_spec means headers) (specs_of p)) none in
+    let no_broken = right_empty (broken_cycles breaks.cyclic (declarations_of p)) (flat_map (broken_spec means headers) (specs_of p)) none in
+    let named = λ (id : ℕ) (object : ObjId) (e : means id ≡ Declared object). denoted_may_have (may_have_header before (declarations_of p)) (lookup (same_node (record { 0 = id })) (uses_table m k p)) object e in
+    record {
+      declared = each_declared before means (specs_of p) headers breaks.cyclic breaks.has_headers no_cycles no_broken named asked;
+      recorded = each_recorded before means (specs_of p) headers breaks.cyclic breaks.has_headers no_cycles no_broken named asked;
+    }
