@@ -27,6 +27,3 @@ pub use around::Around;
 pub use evaluated::{Evaluated, evaluate};
 pub use node_outcome::NodeOutcome;
 pub use outcomes::{outcome, record, value_over};
-
-#[cfg(test)]
-mod tests;
