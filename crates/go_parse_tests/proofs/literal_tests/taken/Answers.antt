@@ -9,4 +9,4 @@ returns-then-eq-clause-token c =
     let same : c.in-Ok.token.kind ≡ c.args.kind = sym (same_true the_type tt _ _ (sym c.eq.ensures ∙ c.if-eq.true)) in
     let goes_on : c.in-Ok.token.kind ≡ End → ⊥ = λ e. c.requires.kind (sym same ∙ e) in
     let passed = c.in-Ok.ensures.passed goes_on in
-    (same, (c.in-Ok.ensures.token, (goes_on, (sym passed.0, sym passed.1))))
+    (same, (c.in-Ok.ensures.token, goes_on, (sym passed.0, sym passed.1)))
