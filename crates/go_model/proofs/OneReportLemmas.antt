@@ -21,7 +21,7 @@ use Rattle.go_model.specs.Phases.{HasHeaders, BreaksValues, IsVerdict, by_names,
 use Rattle.go_model.proofs.LineOrderLemmas.{one_list_in_order}
 use Rattle.go_module.proofs.BrokenListLemmas.{one_list, none_of_none}
 
-same_option : (x y : Option ℤ) → ((h : ℤ) → x ≡ Some h → y ≡ Some h) → ((h : ℤ) → y ≡ Some h → x ≡ Some h) → x ≡ y
+same_option : {H : Type 0} (x y : Option H) → ((h : H) → x ≡ Some h → y ≡ Some h) → ((h : H) → y ≡ Some h → x ≡ Some h) → x ≡ y
 same_option None None f g = refl
 same_option None (Some h) f g = g h refl
 same_option (Some h) y f g = sym (f h refl)

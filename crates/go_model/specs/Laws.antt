@@ -1,7 +1,7 @@
 -- Laws of known headers, and of the objects that reports name.
 -- Says that a declaration has one header, and that each object which an identifier denotes has a place. What holds of every
 -- question: `Stays` of `Quests`; of every outcome: `Stays` of `Outcomes`.
-use Rattle.std.specs.Prelude.{◌≡◌, ℕ, ℤ, ◌⊎◌, true, Some, List, Contains, IsSome, slice_get}
+use Rattle.std.specs.Prelude.{◌≡◌, ℕ, ◌⊎◌, true, Some, List, Contains, IsSome, slice_get}
 use Rattle.std.specs.Map.{lookup}
 use Rattle.go_base.specs.declared.ids.ObjId.{ObjId}
 use Rattle.go_tree.specs.declared.node.NodeId.{NodeId}
@@ -12,12 +12,13 @@ use Rattle.go_module.specs.Scopes.{same_object}
 use Rattle.go_model.specs.Outline.{is_predeclared, outline_of}
 use Rattle.go_model.specs.declared.meaning.Meaning.{Meaning}
 use Rattle.go_module.specs.Names.Declarations.{Declaration}
+use Rattle.go_model.specs.Outcomes.Records.{HeaderData}
 use Rattle.go_model.specs.Outcomes.Walk.{Headers}
 use Rattle.go_model.specs.Values.Headers.{Known}
 
 -- a declaration has at most one header
 abbrev pub OneHeader : Headers → (ℕ → Meaning) → List Declaration → Type 0
-OneHeader before means declarations = (d : ℕ) (h k : ℤ) → Known before means declarations d h → Known before means declarations d k → h ≡ k
+OneHeader before means declarations = (d : ℕ) (h k : HeaderData) → Known before means declarations d h → Known before means declarations d k → h ≡ k
 
 -- a universe name, or an object whose declaration the outline of the module has
 abbrev pub IsDeclared : ModuleData → ObjId → Type 0

@@ -1,4 +1,5 @@
 -- One outcome a node of an expression: how it is judged, the constructs, the walk over them, and what holds of it.
+pub mod Records
 pub mod Judged
 pub mod Operands
 pub mod Constructs

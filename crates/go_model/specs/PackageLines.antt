@@ -2,13 +2,11 @@
 -- Decides which lines it has: one for each name that is written where it is declared, one for each use of a name, and one
 -- for each expression; of what stands in a copy of an omitted list, neither uses nor expressions. How they are ordered:
 -- `LineOrder`. How a line reads: `Text`.
-use Rattle.std.specs.Prelude.{◌≡◌, ℕ, ℤ, ◌+◌, Bool, is_none, if◌then◌else◌, List, [], ◌∷◌, ◌++◌, Option, Some, None, filter, map}
+use Rattle.std.specs.Prelude.{◌≡◌, ℕ, ◌+◌, Bool, is_none, if◌then◌else◌, List, [], ◌∷◌, ◌++◌, Option, Some, None, filter, map}
 use Rattle.std.specs.List.{flat_map}
 use Rattle.std.specs.Option.{option_map_or}
 use Rattle.go_base.specs.Place.{line_of, column_of}
 use Rattle.go_base.specs.declared.ids.ObjId.{ObjId}
-use Rattle.go_num.specs.declared.value.Value.TheVariants.{Int}
-use Rattle.go_term.specs.declared.basic.Basic.TheVariants.{UntypedInt}
 use Rattle.go_term.specs.Types.{TypeData, basic, named}
 use Rattle.go_tree.specs.declared.node.NodeId.{NodeId}
 use Rattle.go_tree.specs.Tree.{Tree, Trees, no_trees, more_trees, end_of, parts_of, start_of}
@@ -22,16 +20,12 @@ use Rattle.go_module.specs.Names.Occurrences.{names_in_parts, nodes_in_parts}
 use Rattle.go_module.specs.Places.{at_offset}
 use Rattle.go_module.specs.Scopes.{same_object}
 use Rattle.go_model.specs.declared.meaning.Meaning.{Meaning}
-use Rattle.go_model.specs.declared.rec.Mode.TheVariants.{Const as ConstMode}
 use Rattle.go_model.specs.Outline.{Outline, declared_at, named_by, path_at}
 use Rattle.go_model.specs.LineOrder.{AreInOrder}
-use Rattle.go_model.specs.Report.{constant, imported, WhatData, defined, used, expression, LineData, NamedData}
+use Rattle.go_model.specs.Report.{DefinedData, constant, imported, WhatData, defined, used, expression, LineData, NamedData}
+use Rattle.go_model.specs.Outcomes.Records.{HeaderData, RecData, constant as ConstantHeader}
 use Rattle.go_model.specs.Outcomes.Walk.{Headers}
-use Rattle.go_model.specs.Values.Records.{record_of, value_over}
-
--- the type of each constant
-abbrev pub untyped_int : TypeData
-untyped_int = basic UntypedInt
+use Rattle.go_model.specs.Values.Records.{header_over, record_of}
 
 -- the specs that are written, and no copies
 abbrev pub written : List Spec → List Spec
@@ -52,10 +46,13 @@ import_defs_in outline stub f place parts = []
 abbrev pub import_defs : Outline → Bool → FileData → Importing → List LineData
 import_defs outline stub f i = import_defs_in outline stub f i.imported (parts_of i.spec)
 
--- each declaration that is built is a constant, with its value
+-- what a declaration is told as, by its header
+abbrev pub told_as : HeaderData → DefinedData
+told_as (ConstantHeader type value) = constant type value
+
 abbrev pub declaration_defs : Bool → FileData → (ℕ → Meaning) → Headers → Declaration → List LineData
 declaration_defs stub f means headers d =
-    option_map_or (λ v. line_at stub f (start_of d.name) (defined (name_text d.name) (constant untyped_int (Int v))) ∷ []) (value_over means headers d) []
+    option_map_or (λ h. line_at stub f (start_of d.name) (defined (name_text d.name) (told_as h)) ∷ []) (header_over means headers d) []
 
 abbrev pub defs_in : Outline → Bool → (ℕ → Meaning) → Headers → ℕ → FileData → List Importing → List LineData
 defs_in outline stub means headers file f imports =
@@ -86,9 +83,9 @@ uses_from outline stub denotes file [] = []
 uses_from outline stub denotes file (f ∷ files) = uses_in outline stub denotes file f ∷ uses_from outline stub denotes (file + 1) files
 
 -- a node, where it has a record: the place of its end, and its record
-abbrev pub record_line : Bool → FileData → ℕ → ℕ → Option ℤ → List LineData
-record_line stub f from to value =
-    option_map_or (λ v. line_at stub f from (expression (record { line = line_of f.bytes to; col = column_of f.bytes to }) ConstMode (Some untyped_int) (Some (Int v))) ∷ []) value []
+abbrev pub record_line : Bool → FileData → ℕ → ℕ → Option RecData → List LineData
+record_line stub f from to found =
+    option_map_or (λ r. line_at stub f from (expression (record { line = line_of f.bytes to; col = column_of f.bytes to }) r.mode r.type r.value) ∷ []) found []
 
 abbrev pub expr_at : Bool → FileData → (ℕ → Meaning) → Headers → Tree → List LineData
 expr_at stub f means headers t = record_line stub f (start_of t) (end_of t) (record_of means headers t)

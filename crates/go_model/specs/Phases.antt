@@ -3,7 +3,7 @@
 -- breaks a rule ends it, names before values. What the phases before break: `Loading` of go_load; names:
 -- `Names` of go_module; values: `Rules`; the lines of an accepted package: `PackageLines`. Files are known by
 -- their numbers, which differ in each module that is loaded.
-use Rattle.std.specs.Prelude.{◌≡◌, ℕ, ℤ, ◌+◌, ◌↔◌, Bool, true, false, None, Some, List, [], ◌∷◌, ◌++◌, map}
+use Rattle.std.specs.Prelude.{◌≡◌, ℕ, ◌+◌, ◌↔◌, Bool, true, false, None, Some, List, [], ◌∷◌, ◌++◌, map}
 use Rattle.std.specs.List.{list_all}
 use Rattle.std.specs.Map.{lookup}
 use Rattle.go_base.specs.declared.rule.Broken.{Broken}
@@ -17,6 +17,7 @@ use Rattle.go_model.specs.Outline.{outline_of}
 use Rattle.go_model.specs.PackageLines.{AreLines, named_in}
 use Rattle.go_module.specs.Graph.{is_marked}
 use Rattle.go_module.specs.Places.{placed_by}
+use Rattle.go_model.specs.Outcomes.Records.{HeaderData}
 use Rattle.go_model.specs.Outcomes.Walk.{Headers}
 use Rattle.go_model.specs.Report.{LineData, VerdictData, accepted, refused, skipped, PackageReportData, ReportData}
 use Rattle.go_model.specs.Values.Rules.{broken_values}
@@ -28,7 +29,7 @@ use Rattle.go_module.specs.Names.Imports.{known_in}
 -- the headers that are known, those before and those of a package's declarations; and which declarations wait for
 -- themselves
 pub record HasHeaders (before : Headers) (means : ℕ → Meaning) (declarations : List Declaration) (headers : Headers) (cyclic : ℕ → Bool) : Type 0 where
-  pub known : (d : ℕ) (h : ℤ) → (headers d ≡ Some h) ↔ Known before means declarations d h
+  pub known : (d : ℕ) (h : HeaderData) → (headers d ≡ Some h) ↔ Known before means declarations d h
   pub is_cyclic : (d : ℕ) → (cyclic d ≡ true) ↔ Chain means declarations headers d d
 
 -- what the values of a package break, as one list

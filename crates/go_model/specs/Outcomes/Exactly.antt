@@ -1,5 +1,5 @@
 -- Where a node has a record, breaks a rule, waits, and has nothing, in words.
-use Rattle.std.specs.Prelude.{◌≡◌, ◌≢◌, ℕ, ℤ, ◌⊎◌, ◌↔◌, true, Option, Some, None, List, [], ◌∷◌, ◌++◌, Contains, map}
+use Rattle.std.specs.Prelude.{◌≡◌, ◌≢◌, ℕ, ◌⊎◌, ◌↔◌, true, Option, Some, None, List, [], ◌∷◌, ◌++◌, Contains, map}
 use Rattle.std.specs.List.{AllByRecursion}
 use Rattle.go_base.specs.declared.rule.Rule.{Rule}
 use Rattle.go_tree.specs.declared.node_kind.NodeKind.{NodeKind}
@@ -7,6 +7,7 @@ use Rattle.go_tree.specs.Tree.{Trees, branch, list_of}
 use Rattle.go_model.specs.declared.meaning.Meaning.{Meaning}
 use Rattle.go_model.specs.declared.outcome.Spot.{Spot}
 use Rattle.go_model.specs.Outcomes.Judged.{Asks, Broken, Found, Nothing, OutcomeData, Construct, RuleTest, Waits, first_lack, no_spots, outcome_at}
+use Rattle.go_model.specs.Outcomes.Records.{RecData}
 use Rattle.go_model.specs.Outcomes.Stays.{HasFailed}
 use Rattle.go_model.specs.Values.Quests.{Decided, Lacks, run}
 use Rattle.go_model.specs.Outcomes.Walk.{Headers, construct, outcome, outcomes}
@@ -75,7 +76,7 @@ HasNothing {H} {R} construct parts =
 
 -- a node has a record exactly there, breaks a rule exactly there, waits exactly there, and has nothing exactly there
 pub record OutcomeExactly (means : ℕ → Meaning) (headers : Headers) (id from to : ℕ) (kind : NodeKind) (text : List ℕ) (parts : Trees) : Type 0 where
-  pub found : (v : ℤ) → (outcome means headers (branch id from to kind text parts) ≡ Found v) ↔ HasRecord headers (construct means id kind text (list_of parts)) (outcomes means headers parts) v
+  pub found : (r : RecData) → (outcome means headers (branch id from to kind text parts) ≡ Found r) ↔ HasRecord headers (construct means id kind text (list_of parts)) (outcomes means headers parts) r
   pub broken : (rule : Rule) (spots : List Spot) → (outcome means headers (branch id from to kind text parts) ≡ Broken rule spots) ↔ Breaks headers (construct means id kind text (list_of parts)) (outcomes means headers parts) rule spots
   pub waits : (d : ℕ) → (outcome means headers (branch id from to kind text parts) ≡ Waits d) ↔ WaitsFor headers (construct means id kind text (list_of parts)) (outcomes means headers parts) d
   pub nothing : (outcome means headers (branch id from to kind text parts) ≡ Nothing) ↔ HasNothing (construct means id kind text (list_of parts)) (outcomes means headers parts)

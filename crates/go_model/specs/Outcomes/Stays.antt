@@ -1,10 +1,11 @@
 -- What stays of outcomes as the map of headers grows.
-use Rattle.std.specs.Prelude.{◌≡◌, ℕ, ℤ, ◌⊎◌, None, List, Contains}
+use Rattle.std.specs.Prelude.{◌≡◌, ℕ, ◌⊎◌, None, List, Contains}
 use Rattle.go_base.specs.declared.rule.Rule.{Rule}
 use Rattle.go_tree.specs.Tree.{Tree}
 use Rattle.go_model.specs.declared.meaning.Meaning.{Meaning}
 use Rattle.go_model.specs.declared.outcome.Spot.{Spot}
 use Rattle.go_model.specs.Outcomes.Judged.{Broken, Found, Nothing, OutcomeData, Waits}
+use Rattle.go_model.specs.Outcomes.Records.{RecData}
 use Rattle.go_model.specs.Outcomes.Walk.{Headers, outcome}
 
 -- the rule is broken, at these places and maybe more
@@ -24,7 +25,7 @@ HasFailed Nothing = Unit {0}
 -- has nothing has nothing; and what waits for d waits for d or has failed, as long as the header of d is missing. What
 -- a node waits for is missing
 pub record OutcomeStays (means : ℕ → Meaning) (known more : Headers) (t : Tree) : Type 0 where
-  pub found : (v : ℤ) → outcome means known t ≡ Found v → outcome means more t ≡ Found v
+  pub found : (r : RecData) → outcome means known t ≡ Found r → outcome means more t ≡ Found r
   pub broken : (rule : Rule) (spots : List Spot) → outcome means known t ≡ Broken rule spots → StillBroken rule spots (outcome means more t)
   pub nothing : outcome means known t ≡ Nothing → outcome means more t ≡ Nothing
   pub waits : (d : ℕ) → outcome means known t ≡ Waits d → more d ≡ None → (outcome means more t ≡ Waits d) ⊎ HasFailed (outcome means more t)

@@ -1,17 +1,18 @@
--- Constants; Constant expressions (Go specification).
--- Decides the record of an expression, which is its value, over a map of headers: that of its outcome. Each constant
--- here is an untyped integer constant, so that its header is its value.
-use Rattle.std.specs.Prelude.{ℕ, ℤ, List, Option, None, option_and_then, slice_get}
+-- Constants; Constant expressions; Constant declarations (Go specification).
+-- Decides the record of an expression over a map of headers, which is that of its outcome, and the header that a
+-- declaration has by it.
+use Rattle.std.specs.Prelude.{ℕ, List, Option, None, option_and_then, slice_get}
 use Rattle.go_tree.specs.Tree.{Tree}
 use Rattle.go_model.specs.declared.meaning.Meaning.{Meaning}
 use Rattle.go_module.specs.declared.declaration.Built.{Built}
 use Rattle.go_module.specs.declared.declaration.Built.TheVariants.{Itself, Pair, WholeList}
 use Rattle.go_module.specs.Names.Declarations.{Declaration}
 use Rattle.go_model.specs.Outcomes.Readings.{record_in}
+use Rattle.go_model.specs.Outcomes.Records.{HeaderData, RecData, declared_header}
 use Rattle.go_model.specs.Outcomes.Walk.{Headers, outcome}
 
 -- the record of an expression over the headers, where it has one
-abbrev pub record_of : (ℕ → Meaning) → Headers → Tree → Option ℤ
+abbrev pub record_of : (ℕ → Meaning) → Headers → Tree → Option RecData
 record_of means headers t = record_in (outcome means headers t)
 
 -- the expression whose value a declaration has: that which stands for its name
@@ -20,6 +21,6 @@ bound_value Pair values = slice_get values 0
 bound_value WholeList values = None
 bound_value Itself values = None
 
--- the value of a declaration over the headers
-abbrev pub value_over : (ℕ → Meaning) → Headers → Declaration → Option ℤ
-value_over means headers d = option_and_then (record_of means headers) (bound_value d.built d.values)
+-- the header of a declaration over the headers: by the record of the expression whose value it has
+abbrev pub header_over : (ℕ → Meaning) → Headers → Declaration → Option HeaderData
+header_over means headers d = option_and_then declared_header (option_and_then (record_of means headers) (bound_value d.built d.values))

@@ -1,16 +1,17 @@
 -- Integer literals; Constants (Go specification).
 -- Decides what is asked of an integer literal, which has no operand: rule L2, whether its value is within the limits
 -- (own).
-use Rattle.std.specs.Prelude.{ℕ, ℤ, pos, is_some, List, [], ◌∷◌}
+use Rattle.std.specs.Prelude.{ℕ, pos, is_some, List, [], ◌∷◌}
 use Rattle.go_num.specs.Arithmetic.{limited}
 use Rattle.go_tree.specs.Lexical.LiteralValues.{int_lit_value}
 use Rattle.go_model.specs.Outcomes.Judged.{Construct}
 use Rattle.go_model.specs.Outcomes.Constructs.Limits.{wide_integer}
 use Rattle.go_model.specs.Outcomes.Operands.{at_whole, leaf}
+use Rattle.go_model.specs.Outcomes.Records.{HeaderData, RecData, integer}
 use Rattle.go_model.specs.Values.Quests.{Done}
 
-abbrev pub literal : List ℕ → Construct ℤ ℤ
+abbrev pub literal : List ℕ → Construct HeaderData RecData
 literal text = leaf (record {
   tests = at_whole wide_integer (Done (is_some (limited (pos (int_lit_value text))))) ∷ [];
-  gives = Done (pos (int_lit_value text));
+  gives = Done (integer (pos (int_lit_value text)));
 })

@@ -1,9 +1,10 @@
 -- Operands (Go specification).
 -- Decides what is asked of an expression in parentheses: its part is the operand, and has its record.
-use Rattle.std.specs.Prelude.{ℤ, []}
+use Rattle.std.specs.Prelude.{[]}
 use Rattle.go_model.specs.Outcomes.Judged.{Construct}
 use Rattle.go_model.specs.Outcomes.Operands.{of_one}
+use Rattle.go_model.specs.Outcomes.Records.{HeaderData, RecData}
 use Rattle.go_model.specs.Values.Quests.{Done}
 
-abbrev pub parentheses : Construct ℤ ℤ
+abbrev pub parentheses : Construct HeaderData RecData
 parentheses = of_one (λ x. record { tests = []; gives = Done x })

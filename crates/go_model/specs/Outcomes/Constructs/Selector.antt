@@ -1,16 +1,17 @@
 -- Qualified identifiers; Selectors (Go specification).
 -- Decides what is asked of `x.f`: where f is a name of a package x, what is asked of that name; else x is the operand,
 -- and a selector of a value breaks U0, so that its record is never asked.
-use Rattle.std.specs.Prelude.{ℤ, false, [], ◌∷◌}
+use Rattle.std.specs.Prelude.{false, [], ◌∷◌}
 use Rattle.go_module.specs.Rules.{unbuilt_form}
 use Rattle.go_model.specs.declared.meaning.Meaning.{Meaning}
 use Rattle.go_model.specs.declared.meaning.Meaning.TheVariants.{Declared, Predeclared, Other}
 use Rattle.go_model.specs.Outcomes.Judged.{Construct}
 use Rattle.go_model.specs.Outcomes.Constructs.Name.{name}
 use Rattle.go_model.specs.Outcomes.Operands.{at_whole, of_one}
+use Rattle.go_model.specs.Outcomes.Records.{HeaderData, RecData}
 use Rattle.go_model.specs.Values.Quests.{Done}
 
-abbrev pub selector : Meaning → Construct ℤ ℤ
+abbrev pub selector : Meaning → Construct HeaderData RecData
 selector Other = of_one (λ x. record { tests = at_whole unbuilt_form (Done false) ∷ []; gives = Done x })
 selector (Declared d) = name (Declared d)
 selector Predeclared = name Predeclared

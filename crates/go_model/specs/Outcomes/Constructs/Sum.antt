@@ -1,16 +1,17 @@
 -- Arithmetic operators; Constant expressions (Go specification).
 -- Decides what is asked of a sum, whose parts are both operands: rule L2, whether its value is within the limits
 -- (own).
-use Rattle.std.specs.Prelude.{ℤ, is_some, [], ◌∷◌}
+use Rattle.std.specs.Prelude.{is_some, [], ◌∷◌}
 use Rattle.go_num.specs.declared.arithmetic.IntOp.TheVariants.{Add}
 use Rattle.go_num.specs.Arithmetic.{binary_value, limited}
 use Rattle.go_model.specs.Outcomes.Judged.{Construct}
 use Rattle.go_model.specs.Outcomes.Constructs.Limits.{wide_integer}
-use Rattle.go_model.specs.Outcomes.Operands.{at_whole, of_two}
+use Rattle.go_model.specs.Outcomes.Operands.{at_whole, of_two_integers}
+use Rattle.go_model.specs.Outcomes.Records.{HeaderData, RecData, integer}
 use Rattle.go_model.specs.Values.Quests.{Done}
 
-abbrev pub sum : Construct ℤ ℤ
-sum = of_two (λ x y. record {
+abbrev pub sum : Construct HeaderData RecData
+sum = of_two_integers (λ x y. record {
   tests = at_whole wide_integer (Done (is_some (limited (binary_value Add x y)))) ∷ [];
-  gives = Done (binary_value Add x y);
+  gives = Done (integer (binary_value Add x y));
 })
