@@ -1,5 +1,5 @@
 -- The places of declarations by the numbers of their objects.
-use Rattle.std.proofs.Common.{◌≡◌, ℕ, ℤ, zero, suc, ◌+◌, ◌-◌, ◌<◌, Bool, true, false, cond, not, Option, Some, None, List, [], ◌∷◌, length, map, drop, get_or, refl, sym, ap, ◌∙◌, subst, arith}
+use Rattle.std.proofs.Common.{◌≡◌, ℕ, zero, suc, ◌+◌, ◌-◌, ◌<◌, Bool, true, false, cond, not, Option, Some, None, List, [], ◌∷◌, length, map, drop, get_or, refl, sym, ap, ◌∙◌, subst, arith}
 use Rattle.std.proofs.lemmas.Bool.{eq-eqb, ne_eqb}
 use Rattle.std.proofs.lemmas.Bool.Decides.{nat_tests}
 use Rattle.std.specs.Prelude.{◌||◌, nat_lt, position, slice_get, is_some, if◌then◌else◌}
@@ -10,6 +10,7 @@ use Rattle.indexmap.specs.IndexMap.{insert_entry}
 use Rattle.go_base.specs.declared.ids.ObjId.{ObjId}
 use Rattle.go_module.specs.Names.Declarations.{Declaration, number_of, numbers_of}
 use Rattle.go_module.specs.Scopes.{same_object}
+use Rattle.go_model.specs.Outcomes.Records.{HeaderData}
 use Rattle.go_model.specs.Outcomes.Walk.{Headers}
 use Rattle.go_model.specs.Values.Declared.{declared_as}
 use Rattle.go_expr.specs.Places.{place_among}
@@ -249,17 +250,17 @@ pub record IsOpen (before : Headers) (declarations : List Declaration) (d : ObjI
 pub open_is : (before : Headers) (declarations : List Declaration) (d : ObjId) (place : ℕ) → open_place before declarations d ≡ Some place → IsOpen before declarations d place
 open_is before declarations d place e = by_header (before d.0) refl
   where
-    by_header : (o : Option ℤ) → before d.0 ≡ o → IsOpen before declarations d place
-    by_header (Some h) at = absurd (let never : None ≡ Some place = sym (ap (λ (x : Option ℤ). if is_some x then None else place_among (numbers_of declarations) d) at) ∙ e in cc)
+    by_header : (o : Option HeaderData) → before d.0 ≡ o → IsOpen before declarations d place
+    by_header (Some h) at = absurd (let never : None ≡ Some place = sym (ap (λ (x : Option HeaderData). if is_some x then None else place_among (numbers_of declarations) d) at) ∙ e in cc)
     by_header None at = record {
       fresh = at;
-      placed = place_declared declarations d place (sym (ap (λ (x : Option ℤ). if is_some x then None else place_among (numbers_of declarations) d) at) ∙ e);
+      placed = place_declared declarations d place (sym (ap (λ (x : Option HeaderData). if is_some x then None else place_among (numbers_of declarations) d) at) ∙ e);
     }
 
 pub has_open : (before : Headers) (declarations : List Declaration) (d : ObjId) (declaration : Declaration) → before d.0 ≡ None → declared_as declarations d.0 ≡ Some declaration → (place : ℕ) × (open_place before declarations d ≡ Some place) × (place < length declarations)
 has_open before declarations d declaration fresh declared =
     let there = declared_place declarations d declaration declared in
-    (there.place, ap (λ (x : Option ℤ). if is_some x then None else place_among (numbers_of declarations) d) fresh ∙ there.is, there.within)
+    (there.place, ap (λ (x : Option HeaderData). if is_some x then None else place_among (numbers_of declarations) d) fresh ∙ there.is, there.within)
 
 -- what has a place, or a header before, is declared, or has a header before
 pub may_have_are : (before : Headers) (declarations : List Declaration) (d : ObjId) → (is_some (open_place before declarations d) || is_some (before d.0)) ≡ (is_some (declared_as declarations d.0) || is_some (before d.0))
@@ -277,12 +278,12 @@ may_have_are before declarations d = by_header (before d.0) refl
     one_place None (Some x) at is = absurd (let there = declared_place declarations d x is in let never : None ≡ Some there.place = sym at ∙ there.is in cc)
     one_place (Some n) None at is = absurd (let there = place_declared declarations d n at in let never : None ≡ Some there.declaration = sym is ∙ there.declared in cc)
 
-    by_header : (o : Option ℤ) → before d.0 ≡ o → (is_some (if is_some (before d.0) then None else place_among (numbers_of declarations) d) || is_some (before d.0)) ≡ (is_some (declared_as declarations d.0) || is_some (before d.0))
+    by_header : (o : Option HeaderData) → before d.0 ≡ o → (is_some (if is_some (before d.0) then None else place_among (numbers_of declarations) d) || is_some (before d.0)) ≡ (is_some (declared_as declarations d.0) || is_some (before d.0))
     by_header (Some h) at =
-        ap (λ (x : Option ℤ). is_some (if is_some x then None else place_among (numbers_of declarations) d) || is_some x) at
+        ap (λ (x : Option HeaderData). is_some (if is_some x then None else place_among (numbers_of declarations) d) || is_some x) at
         ∙ some_right false (is_some (declared_as declarations d.0))
-        ∙ sym (ap (λ (x : Option ℤ). is_some (declared_as declarations d.0) || is_some x) at)
+        ∙ sym (ap (λ (x : Option HeaderData). is_some (declared_as declarations d.0) || is_some x) at)
     by_header None at =
-        ap (λ (x : Option ℤ). is_some (if is_some x then None else place_among (numbers_of declarations) d) || is_some x) at
+        ap (λ (x : Option HeaderData). is_some (if is_some x then None else place_among (numbers_of declarations) d) || is_some x) at
         ∙ ap (λ b. b || false) (one_place (place_among (numbers_of declarations) d) (declared_as declarations d.0) refl refl)
-        ∙ sym (ap (λ (x : Option ℤ). is_some (declared_as declarations d.0) || is_some x) at)
+        ∙ sym (ap (λ (x : Option HeaderData). is_some (declared_as declarations d.0) || is_some x) at)

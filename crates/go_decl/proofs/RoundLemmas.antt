@@ -1,43 +1,45 @@
 -- What the rounds keep, and why the table that they end with is exact.
 use Rattle.std.proofs.Common.{◌≡◌, ℕ, zero, suc, ◌<◌, ℤ, false, Option, Some, None, List, [], ◌∷◌, length, get_or, is_some, take, drop, ◌++◌, ◌⊎◌, refl, sym, ap, ◌∙◌, subst, inl, inr, ⊎_elim, arith}
 use Rattle.std.specs.Prelude.{◌↔◌, replicate, slice_get, slice_set}
+use Rattle.std.specs.Option.{option_map}
 use Rattle.std.proofs.lemmas.Bool.{cases_eq}
 use Rattle.std.proofs.lemmas.List.{take_at}
 use Rattle.std.proofs.lemmas.Option.{unwrap_or-slice_get}
 use Rattle.go_base.specs.declared.ids.ObjId.{ObjId}
 use Rattle.go_model.specs.declared.meaning.Meaning.{Meaning}
 use Rattle.go_model.specs.Names.Declarations.{Declaration, number_of}
+use Rattle.go_model.specs.Outcomes.Records.{HeaderData}
 use Rattle.go_model.specs.Outcomes.Walk.{Headers}
 use Rattle.go_model.specs.Values.Declared.{declared_as}
-use Rattle.go_model.specs.Values.Records.{value_over}
+use Rattle.go_model.specs.Values.Records.{header_over}
 use Rattle.go_model.specs.Values.Headers.{headers_of, Follows, Known}
 use Rattle.go_model.specs.Values.Quests.{IsPart}
-use Rattle.go_model.proofs.HeaderLemmas.{value_over-part, Follows-part, Follows-same, has_all, headers_of-here, headers_of-there, kept, stays}
+use Rattle.go_model.proofs.HeaderLemmas.{header_over-part, Follows-part, Follows-same, has_all, headers_of-here, headers_of-there, kept, stays}
 use Rattle.go_names.specs.declared.declaration.Declaration.{Declaration as OwnDeclaration}
 use Rattle.go_decl.specs.Rounds.{IsBacked, IsSettled, open_count}
 use Rattle.go_expr.specs.Table.{header_at, headers_at, slot_of}
-use Rattle.go_expr.specs.View.{open_place}
+use Rattle.go_expr.specs.View.{integer_header, open_place}
 use Rattle.go_names.specs.Views.{declaration_view, declarations_view}
 use Rattle.go_decl.proofs.PlaceLemmas.{open_is}
 
 module _ (before : Headers) (means : ℕ → Meaning) (declarations : List Declaration) (headers : Headers) (b : IsBacked before means declarations headers) where
   -- what these headers have where a header follows from them
-  settled_header : ((d : ℕ) → IsSettled before means declarations headers d) → (d : ℕ) (h : ℤ) → Follows before means declarations headers d h → headers d ≡ Some h
+  settled_header : ((d : ℕ) → IsSettled before means declarations headers d) → (d : ℕ) (h : HeaderData) → Follows before means declarations headers d h → headers d ≡ Some h
   settled_header s d h g = by_header (headers d) refl
     where
       part : IsPart (headers_of before b.list) headers
       part d' h' q = b.same d' ∙ q
 
-      by_either : (v : ℤ) → (before d ≡ Some v) ⊎ Follows before means declarations (headers_of before b.list) d v → v ≡ h
+      by_either : (v : HeaderData) → (before d ≡ Some v) ⊎ Follows before means declarations (headers_of before b.list) d v → v ≡ h
       by_either v (inl was) = absurd (let never : None ≡ Some v = sym g.fresh ∙ was in cc)
       by_either v (inr f) = Follows-same before means declarations headers d v h (Follows-part before means declarations (headers_of before b.list) headers part d v f) g
 
-      by_header : (o : Option ℤ) → headers d ≡ o → headers d ≡ Some h
+      by_header : (o : Option HeaderData) → headers d ≡ o → headers d ≡ Some h
       by_header None e = absurd (s d h e g)
       by_header (Some v) e = e ∙ ap Some (by_either v (stays before means declarations b.list b.justified d v (sym (b.same d) ∙ e)))
 
   -- the rounds are exact
-  pub exact : ((d : ℕ) → IsSettled before means declarations headers d) → (d : ℕ) (h : ℤ) → (headers d ≡ Some h) ↔ Known before means declarations d h
+  pub exact : ((d : ℕ) → IsSettled before means declarations headers d) → (d : ℕ) (h : HeaderData) → (headers d ≡ Some h) ↔ Known before means declarations d h
   exact s d h = (
     λ e. record { list = b.list; justified = b.justified; has = sym (b.same d) ∙ e },
     λ k. has_all before means declarations headers (λ d' h' e. b.same d' ∙ kept before means declarations b.list b.justified d' h' e) (settled_header s) k.list k.justified d h k.has,
@@ -73,22 +75,22 @@ module _ (before : Headers) (means : ℕ → Meaning) (declarations : List Decla
     where
       by_place : (o : Option ℕ) → places (record { 0 = d }) ≡ o → header_at table (before d) o ≡ before d
       by_place None e = refl
-      by_place (Some n) e = vacant n ∙ sym (open_is before declarations (record { 0 = d }) n (sym (around (record { 0 = d })) ∙ e)).fresh
+      by_place (Some n) e = ap (option_map integer_header) (vacant n) ∙ sym (open_is before declarations (record { 0 = d }) n (sym (around (record { 0 = d })) ∙ e)).fresh
 
   -- the header of a declaration stands at its place
-  pub header_there : (table : List (Option ℤ)) (d : ObjId) (place : ℕ) → places d ≡ Some place → headers_at before places table d.0 ≡ slot_of table place
+  pub header_there : (table : List (Option ℤ)) (d : ObjId) (place : ℕ) → places d ≡ Some place → headers_at before places table d.0 ≡ option_map integer_header (slot_of table place)
   header_there table d place e = ap (header_at table (before d.0)) e
 
   -- with one more header, for the object at a place
-  set_here : (table : List (Option ℤ)) (d : ObjId) (place : ℕ) (h : ℤ) → places d ≡ Some place → place < length table → headers_at before places (slice_set table place (Some h)) d.0 ≡ Some h
-  set_here table d place h e lt = header_there (slice_set table place (Some h)) d place e ∙ slot_of-here table place h lt
+  set_here : (table : List (Option ℤ)) (d : ObjId) (place : ℕ) (h : ℤ) → places d ≡ Some place → place < length table → headers_at before places (slice_set table place (Some h)) d.0 ≡ Some (integer_header h)
+  set_here table d place h e lt = header_there (slice_set table place (Some h)) d place e ∙ ap (option_map integer_header) (slot_of-here table place h lt)
 
   set_there : (table : List (Option ℤ)) (d : ObjId) (place : ℕ) (h : ℤ) → places d ≡ Some place → (n : ℕ) → (d.0 ≡ n → ⊥) → headers_at before places (slice_set table place (Some h)) n ≡ headers_at before places table n
   set_there table d place h e n ne = by_place (places (record { 0 = n })) refl
     where
       by_place : (o : Option ℕ) → places (record { 0 = n }) ≡ o → header_at (slice_set table place (Some h)) (before n) o ≡ header_at table (before n) o
       by_place None at = refl
-      by_place (Some other) at = slot_of-there table place other h (λ same. ne (one_number same))
+      by_place (Some other) at = ap (option_map integer_header) (slot_of-there table place other h (λ same. ne (one_number same)))
         where
           -- one place is that of one object
           one_number : place ≡ other → d.0 ≡ n
@@ -112,26 +114,26 @@ module _ (before : Headers) (means : ℕ → Meaning) (declarations : List Decla
 
   -- a header that follows from the table may be put into it
   pub IsBacked-set : (table : List (Option ℤ)) (d : ObjId) (place : ℕ) (h : ℤ) (declaration : Declaration) → IsBacked before means declarations (headers_at before places table) → place < length table
-      → places d ≡ Some place → slice_get declarations place ≡ Some declaration → value_over means (headers_at before places table) declaration ≡ Some h
+      → places d ≡ Some place → slice_get declarations place ≡ Some declaration → header_over means (headers_at before places table) declaration ≡ Some (integer_header h)
       → IsBacked before means declarations (headers_at before places (slice_set table place (Some h)))
   IsBacked-set table d place h declaration b lt e at v =
       let is = open_is before declarations d place (sym (around d) ∙ e) in
       let one : is.placed.declaration ≡ declaration = cc (is.placed.at, at) in
       let part : IsPart (headers_at before places table) (headers_of before b.list) = λ d' h' q. sym (b.same d') ∙ q in
       record {
-        list = (d.0, h) ∷ b.list;
+        list = (d.0, integer_header h) ∷ b.list;
         justified = (
           b.justified,
           record {
             declaration = declaration;
             declared = is.placed.declared ∙ ap Some one;
             fresh = is.fresh;
-            value = value_over-part means (headers_at before places table) (headers_of before b.list) part declaration h v;
+            tells = header_over-part means (headers_at before places table) (headers_of before b.list) part declaration (integer_header h) v;
           },
         );
         same = λ n. ⊎_elim
-            (λ here. subst (λ m. headers_at before places (slice_set table place (Some h)) m ≡ headers_of before ((d.0, h) ∷ b.list) m) here (set_here table d place h e lt ∙ sym (headers_of-here before (d.0, h) b.list d.0 refl)))
-            (λ ne. set_there table d place h e n ne ∙ b.same n ∙ sym (headers_of-there before (d.0, h) b.list n ne))
+            (λ here. subst (λ m. headers_at before places (slice_set table place (Some h)) m ≡ headers_of before ((d.0, integer_header h) ∷ b.list) m) here (set_here table d place h e lt ∙ sym (headers_of-here before (d.0, integer_header h) b.list d.0 refl)))
+            (λ ne. set_there table d place h e n ne ∙ b.same n ∙ sym (headers_of-there before (d.0, integer_header h) b.list n ne))
             (cases_eq d.0 n);
       }
 

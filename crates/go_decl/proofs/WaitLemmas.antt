@@ -18,6 +18,7 @@ use Rattle.go_model.specs.Values.Meaning.{denoted_meaning}
 use Rattle.go_model.specs.Outcomes.Judged.{Broken, Found, Nothing, OutcomeData}
 use Rattle.go_model.specs.Outcomes.Judged as outcomes
 use Rattle.go_model.specs.Outcomes.Readings.{awaited_in}
+use Rattle.go_model.specs.Outcomes.Records.{HeaderData, RecData}
 use Rattle.go_model.specs.Outcomes.Walk.{outcome}
 use Rattle.go_model.specs.Values.Waiting.{Chain, Waits, awaited_by, awaited_by_nodes, more, one}
 use Rattle.go_model.proofs.OutcomeLemmas.{outcome_stays}
@@ -50,7 +51,7 @@ module _ (around : Around) (table : List (Option ℤ)) where
   lacking_place : (object : ObjId) → may_have_by around object ≡ true → headers_by around table object.0 ≡ None → HasPlace (places_by around) object.0
   lacking_place object declares lacks = by_place (places_by around object) refl
     where
-      none_before : (o : Option ℤ) → before_by around object.0 ≡ o → header_at table (before_by around object.0) None ≡ None → (is_some (before_by around object.0) ≡ true) → ⊥
+      none_before : (o : Option HeaderData) → before_by around object.0 ≡ o → header_at table (before_by around object.0) None ≡ None → (is_some (before_by around object.0) ≡ true) → ⊥
       none_before None at none some = let never : false ≡ true = sym (ap is_some at) ∙ some in cc
       none_before (Some v) at none some = let never : Some v ≡ None = sym at ∙ none in cc
 
@@ -69,7 +70,7 @@ module _ (around : Around) (table : List (Option ℤ)) where
       (λ id object m. lacking_place object (denoted_may_have (may_have_by around) (denotes_by around (record { 0 = id })) object m))
       t d e lacks
 
-  placed : (t : Tree) (x : OutcomeData ℤ) → outcome (means_by around) (headers_by around table) t ≡ x → All (HasPlace (places_by around)) (awaited_in x)
+  placed : (t : Tree) (x : OutcomeData RecData) → outcome (means_by around) (headers_by around table) t ≡ x → All (HasPlace (places_by around)) (awaited_in x)
   placed t (Found v) e = All-nil (HasPlace (places_by around))
   placed t (Broken rule spots) e = All-nil (HasPlace (places_by around))
   placed t (outcomes.Waits d) e = All-cons (HasPlace (places_by around)) d [] (awaited_place t d e) (All-nil (HasPlace (places_by around)))

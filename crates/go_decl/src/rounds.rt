@@ -1,6 +1,7 @@
 // The headers of declarations, found in rounds (Go specification, "Constant declarations").
-ghost use Rattle.std.specs.Prelude.{◌≡◌, ◌<◌, ◌↔◌, ℕ, ℤ, Some, false, length, IfOk, IsTrue};
+ghost use Rattle.std.specs.Prelude.{◌≡◌, ◌<◌, ◌↔◌, ℕ, Some, false, length, IfOk, IsTrue};
 ghost use Rattle.go_base.specs.declared.ids.ObjId.{ObjId as Object};
+ghost use Rattle.go_model.specs.Outcomes.Records.{HeaderData};
 ghost use Rattle.go_model.specs.Values.Headers.{Known};
 ghost use Rattle.go_decl.specs.Rounds.{IsBacked, IsSettled, open_count};
 ghost use Rattle.go_expr.specs.Table.{headers_by};
@@ -13,7 +14,7 @@ use go_module::ObjId;
 use go_names::Declaration;
 use std::alloc::Global;
 
-/// The headers of the declarations that have one, by their places, beside those that are known before. An error is want
+/// The values of the declarations that have a header, by their places, beside those that are known before. An error is want
 /// of memory.
 pub fn headers(
     alloc: Global,
@@ -22,7 +23,7 @@ pub fn headers(
 ) -> Result<Vec<Option<i128>>, NoMemory>
     requires around { IsAround (declarations_view declarations.now) around.now }
     ensures length { IfOk result (λ table. length table.items ≡ length declarations.now) }
-    ensures exact { IfOk result (λ table. (d : ℕ) (h : ℤ) → (headers_by around.now table.items d ≡ Some h)
+    ensures exact { IfOk result (λ table. (d : ℕ) (h : HeaderData) → (headers_by around.now table.items d ≡ Some h)
         ↔ Known (before_by around.now) (means_by around.now) (declarations_view declarations.now) d h) }
 {
     let mut table = vec![in alloc; None; declarations.len()]?;

@@ -1,6 +1,7 @@
 -- Where the outcome of a node waits: for what an identifier in it means.
 use Rattle.std.proofs.Common.{◌≡◌, ℕ, ℤ, pos, Bool, true, false, Option, Some, None, [], ◌∷◌, ◌⊎◌, inl, inr, refl, subst, ◌∙◌}
-use Rattle.std.specs.Prelude.{is_some}
+use Rattle.std.specs.Prelude.{is_some, option_and_then}
+use Rattle.std.specs.Option.{option_map}
 use Rattle.go_base.specs.declared.ids.ObjId.{ObjId}
 use Rattle.go_base.specs.declared.rule.Rule.{Rule}
 use Rattle.go_num.specs.declared.arithmetic.IntOp.TheVariants.{Add}
@@ -17,22 +18,23 @@ use Rattle.go_model.specs.Outcomes.Constructs.Name.{name}
 use Rattle.go_model.specs.Outcomes.Constructs.Parentheses.{parentheses}
 use Rattle.go_model.specs.Outcomes.Constructs.Selector.{selector}
 use Rattle.go_model.specs.Outcomes.Constructs.Sum.{sum}
-use Rattle.go_model.specs.Outcomes.Judged.{Broken, Found, Nothing, OutcomeData, Waits, judged, made, tested}
+use Rattle.go_model.specs.Outcomes.Judged.{Asks, Broken, Found, Nothing, OutcomeData, Waits, asked, judged, made, tested}
 use Rattle.go_model.specs.Outcomes.Operands.{at_whole}
+use Rattle.go_model.specs.Outcomes.Records.{HeaderData, RecData, integer, integer_in, named_record}
 use Rattle.go_model.specs.Outcomes.Walk.{Headers, outcome}
 use Rattle.go_model.specs.Values.Quests.{Asked, Decided, Done, Lacks}
 use Rattle.go_expr.specs.Outcomes.{outcome_by_operands}
 use Rattle.go_expr.proofs.NodeOutcomeLemmas.{by_operands_is}
 
 -- a test that is decided never waits
-never_waits : (headers : Headers) (own : Rule) (x : ℤ) (b : Bool) (d : ℕ) → tested headers (at_whole own (Done b) ∷ []) (Done x) ≡ Waits d → ⊥
-never_waits headers own x false d e = let never : ◌≡◌ {A = OutcomeData ℤ} (Broken own (Whole ∷ [])) (Waits d) = e in cc
+never_waits : (headers : Headers) (own : Rule) (x : RecData) (b : Bool) (d : ℕ) → tested headers (at_whole own (Done b) ∷ []) (Done x) ≡ Waits d → ⊥
+never_waits headers own x false d e = let never : ◌≡◌ {A = OutcomeData RecData} (Broken own (Whole ∷ [])) (Waits d) = e in cc
 never_waits headers own x true d e = let never : Found x ≡ Waits d = e in cc
 
-nothing_waits : (d : ℕ) → ◌≡◌ {A = OutcomeData ℤ} Nothing (Waits d) → ⊥
+nothing_waits : (d : ℕ) → ◌≡◌ {A = OutcomeData RecData} Nothing (Waits d) → ⊥
 nothing_waits d e = cc
 
-found_waits : (x : ℤ) (d : ℕ) → Found x ≡ Waits d → ⊥
+found_waits : (x : RecData) (d : ℕ) → Found x ≡ Waits d → ⊥
 found_waits x d e = cc
 
 -- an object that an identifier means has that number
@@ -41,35 +43,45 @@ pub record Names (m : Meaning) (d : ℕ) : Type 0 where
   pub means : m ≡ Declared object
   pub number : object.0 ≡ d
 
-declared_waits : (object : ObjId) (o : Option ℤ) (d : ℕ) → made (elim o as (λ _. Asked ℤ) [ None ↦ Lacks object.0 | Some h ↦ Decided h ]) ≡ Waits d → Names (Declared object) d
+declared_waits : (object : ObjId) (o : Option HeaderData) (d : ℕ) → made (elim o as (λ _. Asked RecData) [ None ↦ Lacks object.0 | Some h ↦ Decided (named_record object h) ]) ≡ Waits d → Names (Declared object) d
 declared_waits object None d e =
-    let same : ◌≡◌ {A = OutcomeData ℤ} (Waits object.0) (Waits d) = e in
+    let same : ◌≡◌ {A = OutcomeData RecData} (Waits object.0) (Waits d) = e in
     let is : object.0 ≡ d = cc in
     record { object = object; means = refl; number = is }
-declared_waits object (Some h) d e = absurd (found_waits h d e)
+declared_waits object (Some h) d e = absurd (found_waits (named_record object h) d e)
+
+-- what is asked of a sum of two integers
+abbrev sum_of : ℤ → ℤ → Asks HeaderData RecData
+sum_of x y = record { tests = at_whole wide_integer (Done (is_some (limited (binary_value Add x y)))) ∷ []; gives = Done (integer (binary_value Add x y)) }
 
 module _ (headers : Headers) where
   name_waits : (m : Meaning) (d : ℕ) → judged headers (name m) [] ≡ Waits d → Names m d
   name_waits (Declared object) d e = declared_waits object (headers object.0) d e
-  name_waits Predeclared d e = absurd (let never : ◌≡◌ {A = OutcomeData ℤ} (Broken unbuilt_form (Whole ∷ [])) (Waits d) = e in cc)
+  name_waits Predeclared d e = absurd (let never : ◌≡◌ {A = OutcomeData RecData} (Broken unbuilt_form (Whole ∷ [])) (Waits d) = e in cc)
   name_waits Other d e = absurd (nothing_waits d e)
 
-  selector_waits : (m : Meaning) (x : OutcomeData ℤ) (d : ℕ) → judged headers (selector m) (x ∷ []) ≡ Waits d → Names m d ⊎ (x ≡ Waits d)
+  selector_waits : (m : Meaning) (x : OutcomeData RecData) (d : ℕ) → judged headers (selector m) (x ∷ []) ≡ Waits d → Names m d ⊎ (x ≡ Waits d)
   selector_waits (Declared object) x d e = inl (declared_waits object (headers object.0) d e)
-  selector_waits Predeclared x d e = absurd (let never : ◌≡◌ {A = OutcomeData ℤ} (Broken unbuilt_form (Whole ∷ [])) (Waits d) = e in cc)
-  selector_waits Other (Found v) d e = absurd (let never : ◌≡◌ {A = OutcomeData ℤ} (Broken unbuilt_form (Whole ∷ [])) (Waits d) = e in cc)
+  selector_waits Predeclared x d e = absurd (let never : ◌≡◌ {A = OutcomeData RecData} (Broken unbuilt_form (Whole ∷ [])) (Waits d) = e in cc)
+  selector_waits Other (Found v) d e = absurd (let never : ◌≡◌ {A = OutcomeData RecData} (Broken unbuilt_form (Whole ∷ [])) (Waits d) = e in cc)
   selector_waits Other (Broken rule spots) d e = absurd (nothing_waits d e)
   selector_waits Other (Waits c) d e = inr e
   selector_waits Other Nothing d e = absurd (nothing_waits d e)
 
-  parentheses_wait : (x : OutcomeData ℤ) (d : ℕ) → judged headers parentheses (x ∷ []) ≡ Waits d → x ≡ Waits d
+  parentheses_wait : (x : OutcomeData RecData) (d : ℕ) → judged headers parentheses (x ∷ []) ≡ Waits d → x ≡ Waits d
   parentheses_wait (Found v) d e = absurd (found_waits v d e)
   parentheses_wait (Broken rule spots) d e = absurd (nothing_waits d e)
   parentheses_wait (Waits c) d e = e
   parentheses_wait Nothing d e = absurd (nothing_waits d e)
 
-  sum_waits : (x y : OutcomeData ℤ) (d : ℕ) → judged headers sum (x ∷ (y ∷ [])) ≡ Waits d → (x ≡ Waits d) ⊎ (y ≡ Waits d)
-  sum_waits (Found a) (Found b) d e = absurd (never_waits headers wide_integer (binary_value Add a b) (is_some (limited (binary_value Add a b))) d e)
+  -- two integers never wait
+  integers_wait : (a b : Option ℤ) (d : ℕ) → asked headers (option_and_then (λ x. option_map (sum_of x) b) a) ≡ Waits d → ⊥
+  integers_wait None b d e = nothing_waits d e
+  integers_wait (Some x) None d e = nothing_waits d e
+  integers_wait (Some x) (Some y) d e = never_waits headers wide_integer (integer (binary_value Add x y)) (is_some (limited (binary_value Add x y))) d e
+
+  sum_waits : (x y : OutcomeData RecData) (d : ℕ) → judged headers sum (x ∷ (y ∷ [])) ≡ Waits d → (x ≡ Waits d) ⊎ (y ≡ Waits d)
+  sum_waits (Found a) (Found b) d e = absurd (integers_wait (integer_in a) (integer_in b) d e)
   sum_waits (Found a) (Broken rule spots) d e = absurd (nothing_waits d e)
   sum_waits (Found a) (Waits c) d e = inr e
   sum_waits (Found a) Nothing d e = absurd (nothing_waits d e)
@@ -86,7 +98,7 @@ module _ (P : ℕ → Type 0) (means : ℕ → Meaning) (headers : Headers) (eac
   named id d n = subst P n.number (each id n.object n.means)
 
   by_waits : (t : Tree) (d : ℕ) → outcome_by_operands means headers t ≡ Waits d → P d
-  by_waits (branch id from to IntLit text parts) d e = absurd (never_waits headers wide_integer (pos (int_lit_value text)) (is_some (limited (pos (int_lit_value text)))) d e)
+  by_waits (branch id from to IntLit text parts) d e = absurd (never_waits headers wide_integer (integer (pos (int_lit_value text))) (is_some (limited (pos (int_lit_value text)))) d e)
   by_waits (branch id from to Name text parts) d e = named id d (name_waits headers (means id) d e)
   by_waits (branch id from to SelectorExpr text (more_trees a (more_trees b no_trees))) d e = by_either (selector_waits headers (means (id_of b)) (outcome_by_operands means headers a) d e) (by_waits a d)
     where

@@ -16,6 +16,7 @@ use Rattle.go_model.specs.Outcomes.Constructs.Selector.{selector}
 use Rattle.go_model.specs.Outcomes.Constructs.Sum.{sum}
 use Rattle.go_model.specs.Outcomes.Judged.{Found, OutcomeData, judged, tested}
 use Rattle.go_model.specs.Outcomes.Operands.{at_whole}
+use Rattle.go_model.specs.Outcomes.Records.{RecData, integer}
 use Rattle.go_model.specs.Outcomes.Walk.{Headers, outcome, outcomes}
 use Rattle.go_model.specs.Values.Quests.{Done}
 use Rattle.go_expr.specs.Outcomes.{both_of, limited_view, only_of, outcome_by_operands, outcome_by_parts, selector_by_parts}
@@ -29,22 +30,22 @@ limited_is : (x y : ℤ) → limited x ≡ Some y → x ≡ y
 limited_is (pos n) y e = cond_some (nat_lt n (2 ^ 127)) (pos n) y e
 limited_is (negsuc n) y e = cond_some (nat_lt n (2 ^ 127)) (negsuc n) y e
 
-by_limit : (headers : Headers) (x : ℤ) (o : Option ℤ) → limited x ≡ o → limited_view o ≡ tested headers (at_whole wide_integer (Done (is_some o)) ∷ []) (Done x)
+by_limit : (headers : Headers) (x : ℤ) (o : Option ℤ) → limited x ≡ o → limited_view o ≡ tested headers (at_whole wide_integer (Done (is_some o)) ∷ []) (Done (integer x))
 by_limit headers x None e = refl
-by_limit headers x (Some y) e = ap Found (sym (limited_is x y e))
+by_limit headers x (Some y) e = ap (λ v. Found (integer v)) (sym (limited_is x y e))
 
 -- what is asked whether it is within the limits, and then given
-pub limited_outcome : (headers : Headers) (x : ℤ) → limited_view (limited x) ≡ tested headers (at_whole wide_integer (Done (is_some (limited x))) ∷ []) (Done x)
+pub limited_outcome : (headers : Headers) (x : ℤ) → limited_view (limited x) ≡ tested headers (at_whole wide_integer (Done (is_some (limited x))) ∷ []) (Done (integer x))
 limited_outcome headers x = by_limit headers x (limited x) refl
 
 -- an identifier has no operand
-name_parts : (headers : Headers) (m : Meaning) (xs ys : List (OutcomeData ℤ)) → judged headers (name m) xs ≡ judged headers (name m) ys
+name_parts : (headers : Headers) (m : Meaning) (xs ys : List (OutcomeData RecData)) → judged headers (name m) xs ≡ judged headers (name m) ys
 name_parts headers (Declared d) xs ys = refl
 name_parts headers Predeclared xs ys = refl
 name_parts headers Other xs ys = refl
 
 -- the name behind a `.` is no operand
-selector_parts : (headers : Headers) (m : Meaning) (x : OutcomeData ℤ) (xs ys : List (OutcomeData ℤ)) → judged headers (selector m) (x ∷ xs) ≡ judged headers (selector m) (x ∷ ys)
+selector_parts : (headers : Headers) (m : Meaning) (x : OutcomeData RecData) (xs ys : List (OutcomeData RecData)) → judged headers (selector m) (x ∷ xs) ≡ judged headers (selector m) (x ∷ ys)
 selector_parts headers (Declared d) x xs ys = refl
 selector_parts headers Predeclared x xs ys = refl
 selector_parts headers Other x xs ys = refl
@@ -86,7 +87,7 @@ module _ (means : ℕ → Meaning) (headers : Headers) where
   by_parts_is (branch id from to kind text parts) = refl
 
 -- a selector of a name of a package is as that name
-pub name_selector : (headers : Headers) (m : Meaning) (x : OutcomeData ℤ) (xs : List (OutcomeData ℤ)) → (m ≡ Other → ⊥) → judged headers (name m) (x ∷ xs) ≡ judged headers (selector m) (x ∷ xs)
+pub name_selector : (headers : Headers) (m : Meaning) (x : OutcomeData RecData) (xs : List (OutcomeData RecData)) → (m ≡ Other → ⊥) → judged headers (name m) (x ∷ xs) ≡ judged headers (selector m) (x ∷ xs)
 name_selector headers (Declared d) x xs other = refl
 name_selector headers Predeclared x xs other = refl
 name_selector headers Other x xs other = absurd (other refl)
@@ -108,7 +109,7 @@ module _ (means : ℕ → Meaning) (headers : Headers) where
   pub at_literal : (t : Tree) → kind_of t ≡ IntLit → outcome_by_operands means headers t ≡ judged headers (literal (text_of t)) []
   at_literal (branch id from to kind text parts) e = ap (λ k. outcome_by_operands means headers (branch id from to k text parts)) e
 
-  pub at_literal_by_parts : (t : Tree) (xs : List (OutcomeData ℤ)) → kind_of t ≡ IntLit → outcome_by_parts means headers t xs ≡ judged headers (literal (text_of t)) []
+  pub at_literal_by_parts : (t : Tree) (xs : List (OutcomeData RecData)) → kind_of t ≡ IntLit → outcome_by_parts means headers t xs ≡ judged headers (literal (text_of t)) []
   at_literal_by_parts (branch id from to kind text parts) xs e = ap (λ k. outcome_by_parts means headers (branch id from to k text parts) xs) e
 
   pub at_parentheses : (t a : Tree) → kind_of t ≡ ParenExpr → parts_of t ≡ more_trees a no_trees → outcome_by_operands means headers t ≡ judged headers parentheses (outcome_by_operands means headers a ∷ [])
@@ -117,5 +118,5 @@ module _ (means : ℕ → Meaning) (headers : Headers) where
   pub at_sum : (t a b : Tree) → kind_of t ≡ AddExpr → parts_of t ≡ more_trees a (more_trees b no_trees) → outcome_by_operands means headers t ≡ judged headers sum (outcome_by_operands means headers a ∷ (outcome_by_operands means headers b ∷ []))
   at_sum (branch id from to kind text parts) a b e is = (λ i. outcome_by_operands means headers (branch id from to (e i) text (is i)))
 
-  pub at_selector_by_parts : (t a b : Tree) (xs : List (OutcomeData ℤ)) → kind_of t ≡ SelectorExpr → parts_of t ≡ more_trees a (more_trees b no_trees) → outcome_by_parts means headers t xs ≡ selector_by_parts headers (means (id_of b)) xs
+  pub at_selector_by_parts : (t a b : Tree) (xs : List (OutcomeData RecData)) → kind_of t ≡ SelectorExpr → parts_of t ≡ more_trees a (more_trees b no_trees) → outcome_by_parts means headers t xs ≡ selector_by_parts headers (means (id_of b)) xs
   at_selector_by_parts (branch id from to kind text parts) a b xs e is = (λ i. outcome_by_parts means headers (branch id from to (e i) text (is i)) xs)

@@ -1,16 +1,17 @@
 -- The nodes of an expression or a type, each with its outcome.
-use Rattle.std.specs.Prelude.{ℕ, ℤ, List, map}
+use Rattle.std.specs.Prelude.{ℕ, List, map}
 use Rattle.go_tree.specs.Tree.{Tree, tree_of}
 use Rattle.go_module.specs.Names.Occurrences.{nodes_in}
 use Rattle.go_model.specs.declared.meaning.Meaning.{Meaning}
 use Rattle.go_model.specs.Outcomes.Judged.{OutcomeData}
+use Rattle.go_model.specs.Outcomes.Records.{RecData}
 use Rattle.go_model.specs.Outcomes.Walk.{Headers, outcome}
 use Rattle.go_expr.specs.Outcomes.{outcome_view}
 use Rattle.go_expr.specs.declared.evaluated.Evaluated.{Evaluated}
 
 pub record EvaluatedData : Type 0 where
   pub tree : Tree
-  pub outcome : OutcomeData ℤ
+  pub outcome : OutcomeData RecData
 
 abbrev pub evaluated : (ℕ → Meaning) → Headers → Tree → EvaluatedData
 evaluated means headers t = record { tree = t; outcome = outcome means headers t }

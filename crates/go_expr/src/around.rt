@@ -2,7 +2,7 @@
 // identifiers").
 ghost use Rattle.std.specs.Prelude.{◌≡◌};
 ghost use Rattle.go_model.specs.Values.Meaning as spec;
-ghost use Rattle.go_expr.specs.Table.{headers_by, slot_of};
+ghost use Rattle.go_expr.specs.Table.{slot_of, values_by};
 ghost use Rattle.go_expr.specs.View.{may_have_by, denotes_by, means_by};
 
 use go_model::Meaning;
@@ -11,7 +11,7 @@ use go_tree::NodeId;
 use indexmap::IndexMap;
 
 /// What is known round the declarations of a package: what its names denote, the places of those of its declarations
-/// that have no header before, by their numbers, and the headers of declarations of packages that stand before.
+/// that have no header before, by their numbers, and the values of constants of packages that stand before.
 #[derive(Clone, Copy)]
 pub struct Around<'a> {
     pub uses: &'a IndexMap<NodeId, ObjId>,
@@ -57,9 +57,9 @@ impl<'a> Around<'a> {
         self.places.get(&d).is_some() || self.before.get(&d).is_some()
     }
 
-    /// The header of a declaration, which the table has at its place, or which is known before.
-    pub fn header(&self, table: &[Option<i128>], d: ObjId) -> Option<i128>
-        ensures { result ≡ headers_by self.now table.now d.0 }
+    /// The value of a declaration that is an integer constant, which the table has at its place, or which is known before.
+    pub fn value(&self, table: &[Option<i128>], d: ObjId) -> Option<i128>
+        ensures { result ≡ values_by self.now table.now d.0 }
     {
         match self.places.get(&d) {
             Some(place) => slot(table, *place),

@@ -25,5 +25,5 @@ mod outcomes;
 
 pub use around::Around;
 pub use evaluated::{Evaluated, evaluate};
-pub use node_outcome::NodeOutcome;
+pub use node_outcome::{Integer, NodeOutcome};
 pub use outcomes::{outcome, record, value_over};

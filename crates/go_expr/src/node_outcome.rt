@@ -1,12 +1,19 @@
-// What a node comes to where each record is a value. `Outcome` of go_model, with records that have types, is not used
-// yet.
+// What a node comes to where each record is that of an integer constant. `Outcome` of go_model, with records of every
+// kind, is not used yet.
 use go_base::{ObjId, Rule};
 
-/// What a node comes to: the value that is its record; the rule that it breaks, as a whole; the declaration whose
-/// header it waits for; or nothing, where an operand has failed or nothing is asked.
+/// The record of an untyped integer constant: its value, and the object that it denotes where it is a name.
+#[derive(Clone, Copy, Debug, PartialEq, Eq)]
+pub struct Integer {
+    pub value: i128,
+    pub object: Option<ObjId>,
+}
+
+/// What a node comes to: its record; the rule that it breaks, as a whole; the declaration whose header it waits for; or
+/// nothing, where an operand has failed or nothing is asked.
 #[derive(Clone, Copy, Debug, PartialEq, Eq)]
 pub enum NodeOutcome {
-    Found(i128),
+    Found(Integer),
     Broken(Rule),
     Waits(ObjId),
     Nothing,

@@ -7,14 +7,14 @@ ghost use Rattle.go_model.specs.Outcomes.Walk as walk;
 ghost use Rattle.go_model.specs.Outcomes.Readings.{record_in};
 ghost use Rattle.go_model.specs.Values.Records as records;
 ghost use Rattle.go_names.specs.Views.{declaration_view};
-ghost use Rattle.go_expr.specs.Outcomes.{outcome_by_operands, outcome_view};
+ghost use Rattle.go_expr.specs.Outcomes.{integer_record, outcome_by_operands, outcome_view};
 ghost use Rattle.go_expr.specs.Table.{headers_by};
-ghost use Rattle.go_expr.specs.View.{means_by};
+ghost use Rattle.go_expr.specs.View.{integer_header, means_by};
 
 use crate::around::Around;
 use crate::literal::literal;
 use crate::name::name;
-use crate::node_outcome::NodeOutcome;
+use crate::node_outcome::{Integer, NodeOutcome};
 use crate::parentheses::parentheses;
 use crate::selector::selector;
 use crate::sum::sum;
@@ -57,20 +57,20 @@ fn found(around: &Around, table: &[Option<i128>], node: &Node) -> NodeOutcome
     }
 }
 
-/// The record of an expression, its value, over the headers that the table has; None where its outcome is another.
-pub fn record(around: &Around, table: &[Option<i128>], node: &Node) -> Option<i128>
-    ensures { result ≡ records.record_of (means_by around.now) (headers_by around.now table.now) (tree_of node.now) }
+/// The record of an expression over the headers that the table has; None where its outcome is another.
+pub fn record(around: &Around, table: &[Option<i128>], node: &Node) -> Option<Integer>
+    ensures { option_map integer_record result ≡ records.record_of (means_by around.now) (headers_by around.now table.now) (tree_of node.now) }
 {
     outcome(around, table, node).record()
 }
 
 impl NodeOutcome {
     /// The record, where the node has one.
-    pub fn record(self) -> Option<i128>
-        ensures { result ≡ record_in (outcome_view self) }
+    pub fn record(self) -> Option<Integer>
+        ensures { option_map integer_record result ≡ record_in (outcome_view self) }
     {
         match self {
-            NodeOutcome::Found(value) => Some(value),
+            NodeOutcome::Found(found) => Some(found),
             NodeOutcome::Broken(_) => None,
             NodeOutcome::Waits(_) => None,
             NodeOutcome::Nothing => None,
@@ -78,16 +78,16 @@ impl NodeOutcome {
     }
 }
 
-/// The value of a declaration over the headers that the table has.
+/// The value of a declaration over the headers that the table has, by which it has a header.
 pub fn value_over(
     around: &Around,
     table: &[Option<i128>],
     declaration: &Declaration,
 ) -> Option<i128>
-    ensures { result ≡ records.value_over (means_by around.now) (headers_by around.now table.now)
+    ensures { option_map integer_header result ≡ records.header_over (means_by around.now) (headers_by around.now table.now)
         (declaration_view declaration.now) }
 {
-    record(around, table, bound_value(declaration)?)
+    Some(record(around, table, bound_value(declaration)?)?.value)
 }
 
 // The expression whose value a declaration has.

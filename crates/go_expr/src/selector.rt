@@ -1,8 +1,9 @@
 // Qualified identifiers and selectors (Go specification, "Qualified identifiers", "Selectors").
-ghost use Rattle.std.specs.Prelude.{◌≡◌, ℤ, List, ◌∷◌};
+ghost use Rattle.std.specs.Prelude.{◌≡◌, List, ◌∷◌};
 ghost use Rattle.go_model.specs.declared.meaning.Meaning.TheVariants as meanings;
 ghost use Rattle.go_model.specs.Outcomes.Constructs.Selector as spec;
 ghost use Rattle.go_model.specs.Outcomes.Judged.{OutcomeData, judged};
+ghost use Rattle.go_model.specs.Outcomes.Records.{RecData};
 ghost use Rattle.go_model.specs.Outcomes.Walk.{Headers};
 ghost use Rattle.go_expr.specs.Outcomes.{outcome_view};
 ghost use Rattle.go_expr.specs.Table.{headers_by};
@@ -21,7 +22,7 @@ pub fn selector(
     meaning: Meaning,
     operand: NodeOutcome,
 ) -> NodeOutcome
-    ensures { (parts : List (OutcomeData ℤ)) → outcome_view result
+    ensures { (parts : List (OutcomeData RecData)) → outcome_view result
         ≡ judged (headers_by around.now table.now) (spec.selector meaning) (outcome_view operand ∷ parts) }
 {
     match meaning {
@@ -33,7 +34,7 @@ pub fn selector(
 
 // A selector of a value, by the outcome of its operand.
 fn of_value(operand: NodeOutcome) -> NodeOutcome
-    ensures { (headers : Headers) (parts : List (OutcomeData ℤ)) → outcome_view result
+    ensures { (headers : Headers) (parts : List (OutcomeData RecData)) → outcome_view result
         ≡ judged headers (spec.selector meanings.Other) (outcome_view operand ∷ parts) }
 {
     match operand {

@@ -22,7 +22,7 @@ returns-in-None-clause-settled c = λ _ d at h _ f.
     let around = c.args.around.now in
     let declared = declared_at c.args.declarations.now c.args.place c.index-declarations-place.result c.requires.within c.index-declarations-place.is in
     let same : f.declaration ≡ declaration_view c.index-declarations-place.result = one_declaration (before_by around) (means_by around) (declarations_view c.args.declarations.now) (places_by around) c.requires.around d c.args.place at f.declaration f.declared _ declared in
-    cc (f.value, same, c.in-None.ensures)
+    cc (f.tells, same, c.in-None.ensures)
 
 pub returns-then-not-stands_at-clause-settled : goal.returns-then-not-stands_at-clause-settled
 returns-then-not-stands_at-clause-settled c = λ _ d at h _ f.

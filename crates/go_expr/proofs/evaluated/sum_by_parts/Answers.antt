@@ -1,7 +1,8 @@
-use Rattle.std.proofs.Common.{ℤ, Option, [], ◌∷◌, sym, ap, ◌∙◌}
+use Rattle.std.proofs.Common.{Option, [], ◌∷◌, sym, ap, ◌∙◌}
 use Rattle.std.specs.Option.{option_map_or}
 use Rattle.go_model.specs.Outcomes.Constructs.Sum.{sum}
 use Rattle.go_model.specs.Outcomes.Judged.{Nothing, OutcomeData, judged}
+use Rattle.go_model.specs.Outcomes.Records.{RecData}
 use Rattle.go_expr.specs.Outcomes.{outcome_view}
 use Rattle.go_expr.proofs.NodeOutcomeLemmas.{both_of-map}
 use Rattle.go_expr.proofs.evaluated.sum_by_parts.Goals as goal
@@ -9,4 +10,4 @@ use Rattle.go_expr.proofs.evaluated.sum_by_parts.Goals as goal
 pub returns-in-Some : goal.returns-in-Some
 returns-in-Some c = λ headers.
     let both = both_of-map outcome_view c.args.outcomes.now c.in-Some.left c.in-Some.right (sym c.both.ensures ∙ c.in-Some.is) in
-    c.sum.ensures headers [] ∙ ap (λ (o : Option (OutcomeData ℤ × OutcomeData ℤ)). option_map_or (λ p. judged headers sum (p.0 ∷ (p.1 ∷ []))) o Nothing) (sym both)
+    c.sum.ensures headers [] ∙ ap (λ (o : Option (OutcomeData RecData × OutcomeData RecData)). option_map_or (λ p. judged headers sum (p.0 ∷ (p.1 ∷ []))) o Nothing) (sym both)

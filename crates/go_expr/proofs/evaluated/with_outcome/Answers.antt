@@ -1,7 +1,8 @@
-use Rattle.std.proofs.Common.{ℤ, ap, ◌∙◌}
+use Rattle.std.proofs.Common.{ap, ◌∙◌}
 use Rattle.go_tree.specs.Tree.{tree_of}
 use Rattle.go_expr.specs.Evaluated.{EvaluatedData}
 use Rattle.go_model.specs.Outcomes.Judged.{OutcomeData}
+use Rattle.go_model.specs.Outcomes.Records.{RecData}
 use Rattle.go_expr.specs.Outcomes.{outcome_by_parts}
 use Rattle.go_expr.specs.Table.{headers_by}
 use Rattle.go_expr.specs.View.{means_by}
@@ -13,6 +14,6 @@ returns c =
     let means = means_by c.args.around.now in
     let headers = headers_by c.args.around.now c.args.table.now in
     let t = tree_of c.args.node.now in
-    let node : OutcomeData ℤ → EvaluatedData = λ x. record { tree = t; outcome = x } in
+    let node : OutcomeData RecData → EvaluatedData = λ x. record { tree = t; outcome = x } in
     ap node
     (c.found_by_parts.ensures ∙ ap (outcome_by_parts means headers t) c.requires ∙ by_parts_is means headers t)

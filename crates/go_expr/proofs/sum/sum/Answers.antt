@@ -9,9 +9,8 @@ use Rattle.go_expr.proofs.sum.sum.Goals as goal
 
 pub returns-in-Found : goal.returns-in-Found
 returns-in-Found c = λ headers parts.
-    let fits : FitsSigned w128 c.in-Found.value = search rules in
     c.sum_of_found.ensures headers parts
-    ∙ ap (λ left. judged headers spec.sum (left ∷ (outcome_view c.args.right ∷ parts))) (ap outcomes.Found (simp to_z-of_z refl) ∙ sym (ap outcome_view c.in-Found.is))
+    ∙ ap (λ left. judged headers spec.sum (left ∷ (outcome_view c.args.right ∷ parts))) (sym (ap outcome_view c.in-Found.is))
 
 pub returns-in-Waits : goal.returns-in-Waits
 returns-in-Waits c = λ headers parts.
