@@ -20,6 +20,7 @@ use Rattle.go_model.specs.Phases.{ArePackageLines, HasHeaders, BreaksValues, IsV
 use Rattle.go_model.specs.Report.{VerdictData, accepted, refused}
 use Rattle.go_model.specs.Values.Headers.{Known}
 use Rattle.go_model.specs.Values.Meaning.{may_have_header, meaning_by, meaning_in, uses_table}
+use Rattle.go_model.specs.Outcomes.Records.{HeaderData}
 use Rattle.go_model.specs.Outcomes.Walk.{Headers}
 use Rattle.go_model.specs.Values.Rules.{broken_values}
 use Rattle.go_model.specs.Values.Waiting.{Chain}
@@ -63,7 +64,7 @@ module _ (m : ModuleData) (k : ℕ) (p : PackageData) (at : slice_get m.packages
 module _ (m : ModuleData) (k : ℕ) (p : PackageData) (before : Headers) (means : ℕ → Meaning) (declarations : List Declaration) (means_are : means ≡ meaning_in m k p before) (declarations_are : declarations ≡ declarations_of p) where
   -- what the values break, over what was found
   pub breaks : (headers : Headers) (cyclic : ℕ → Bool) (list : List Broken) → broken_names (known_in m) k p ≡ []
-      → ((d : ℕ) (h : ℤ) → (headers d ≡ Some h) ↔ Known before means declarations d h)
+      → ((d : ℕ) (h : HeaderData) → (headers d ≡ Some h) ↔ Known before means declarations d h)
       → ((d : ℕ) → (cyclic d ≡ true) ↔ Chain means declarations headers d d)
       → IsListOf (broken_values means headers cyclic p) list
       → BreaksValues m k p before headers list

@@ -1,4 +1,4 @@
-// The lines of expressions: of each node that has a record, where it ends, and its value (Go specification, "Constant
+// The lines of expressions: of each node that has a record, where it ends, and that (Go specification, "Constant
 // expressions").
 ghost use Rattle.std.specs.Prelude.{◌≡◌, ◌∷◌, ◌++◌, [], IfOk, OnOk, Some, map};
 ghost use Rattle.std.specs.List.{flat_map};
@@ -9,6 +9,7 @@ ghost use Rattle.go_model.specs.PackageLines as rule;
 ghost use Rattle.go_model.specs.Report.{line_view};
 ghost use Rattle.go_names.specs.Views.{spec_view, specs_view};
 ghost use Rattle.go_expr.specs.Evaluated.{evaluated_view, evaluated_views};
+ghost use Rattle.go_expr.specs.Outcomes.{integer_record};
 ghost use Rattle.go_check.specs.Lines.Nodes.{line_by};
 ghost use Rattle.go_check.specs.Lines.Found.{expr_lines, own_file_view};
 ghost use Rattle.go_expr.specs.Table.{headers_by};
@@ -17,7 +18,7 @@ ghost use Rattle.go_expr.specs.View.{means_by};
 use crate::own_file::OwnFile;
 use crate::uses::written;
 use go_base::NoMemory;
-use go_expr::{Around, Evaluated, evaluate};
+use go_expr::{Around, Evaluated, Integer, evaluate};
 use go_model::{Line, Mode, What};
 use go_names::Spec;
 use go_num::Value;
@@ -93,21 +94,21 @@ fn push_one(file: &OwnFile, node: &Evaluated, lines: &mut Vec<Line>) -> Result<(
     ensures { OnOk result (map line_view lines.new.items ≡ map line_view lines.old.items
         ++ line_by file.now.stub (file_view file.now.file.now) (evaluated_view node.now)) }
 {
-    if let Some(v) = node.outcome.record() {
-        lines.push(expr_line(file, node.node, v)?)?;
+    if let Some(found) = node.outcome.record() {
+        lines.push(expr_line(file, node.node, found)?)?;
     }
     Ok(())
 }
 
-// The line of an expression with that value.
-fn expr_line(file: &OwnFile, node: &Node, v: i128) -> Result<Line, NoMemory>
+// The line of an expression with that record.
+fn expr_line(file: &OwnFile, node: &Node, found: Integer) -> Result<Line, NoMemory>
     ensures { IfOk result (λ line. line_view line ∷ [] ≡ rule.record_line file.now.stub
-        (file_view file.now.file.now) (start_of (tree_of node.now)) (end_of (tree_of node.now)) (Some v)) }
+        (file_view file.now.file.now) (start_of (tree_of node.now)) (end_of (tree_of node.now)) (Some (integer_record found))) }
 {
     let end = file.file.line_col(node.end());
     let term = Term::Basic(Basic::UntypedInt);
     Ok(Line {
         at: file.file.at(file.stub, node.start())?,
-        what: What::Expr(end, Mode::Const, Some(term), Some(Value::Int(v))),
+        what: What::Expr(end, Mode::Const, Some(term), Some(Value::Int(found.value))),
     })
 }

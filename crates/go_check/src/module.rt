@@ -24,7 +24,7 @@ use indexmap::IndexMap;
 use std::alloc::Global;
 use std::sync::ledger::Ledger;
 
-/// The packages that are checked: which of them are accepted, the values of the constants of those that are accepted,
+/// The packages that are checked: which of them are accepted, the values of the constants of these,
 /// and their reports.
 #[derive(Drop)]
 pub struct State {

@@ -13,9 +13,9 @@ ghost use Rattle.go_model.specs.Report.{line_view, named_view, verdict_view};
 ghost use Rattle.go_names.specs.Views.{declarations_view};
 ghost use Rattle.go_check.specs.Lines.Found.{own_files_in, own_files_view};
 ghost use Rattle.go_check.specs.Packages.Denoted.{AreDenoted, AreUses};
-ghost use Rattle.go_check.specs.Packages.Known.{headers_in};
+ghost use Rattle.go_check.specs.Packages.Known.{values_in};
 ghost use Rattle.go_check.specs.Packages.Names.{ImportsSound, sound_at};
-ghost use Rattle.go_expr.specs.Table.{headers_by};
+ghost use Rattle.go_expr.specs.Table.{headers_by, values_by};
 ghost use Rattle.go_check.specs.Packages.Verdicts.{IsAccepting};
 ghost use Rattle.go_expr.specs.View.{IsAround, before_by, denotes_by, headers_listed, means_by};
 ghost use Rattle.go_check.specs.View.{outline_view};
@@ -38,7 +38,7 @@ use go_tree::NodeId;
 use indexmap::IndexMap;
 use std::alloc::Global;
 
-/// The verdict on the package at a place of the module, whose imports are accepted. `before` has the headers of the
+/// The verdict on the package at a place of the module, whose imports are accepted. `before` has the values of the
 /// declarations of accepted packages, and gets those of the package where it is accepted. An error is want of memory.
 pub fn check_package(
     alloc: Global,
@@ -87,16 +87,16 @@ fn check_values(
         places: &places,
         before,
     };
-    let Judged { verdict, headers } = judge(alloc, own, outline, &around, &files, &declarations)?;
-    add_headers(before, &headers)?;
+    let Judged { verdict, values } = judge(alloc, own, outline, &around, &files, &declarations)?;
+    add_values(before, &values)?;
     Ok(verdict)
 }
 
-// A verdict, and the headers of declarations that are known behind it.
+// A verdict, and the values of declarations that are known behind it.
 #[derive(Drop)]
 struct Judged {
     verdict: Verdict,
-    headers: Vec<(ObjId, i128)>,
+    values: Vec<(ObjId, i128)>,
 }
 
 // The verdict by the values of declarations.
@@ -114,7 +114,7 @@ fn judge(
     ensures { IfOk result (λ judged. (m : ModuleData) (k : ℕ) → slice_get m.packages k ≡ Some (package_view own.now)
         → outline_view outline.now ≡ outline_of m → AreUses m k around.now.uses.now.entries → phases.IsVerdict m k
         (package_view own.now) (before_by around.now) (verdict_view judged.verdict)
-        (headers_listed (insert_all same_object around.now.before.now.entries judged.headers.items))) }
+        (headers_listed (insert_all same_object around.now.before.now.entries judged.values.items))) }
 {
     let table = headers(alloc, around, declarations)?;
     let cyclic = cyclic_declarations(alloc, around, &table, declarations)?;
@@ -125,7 +125,7 @@ fn judge(
         let verdict = Verdict::Refused(placed_list(alloc, own, &list)?);
         Ok(Judged {
             verdict,
-            headers: Vec::new(alloc),
+            values: Vec::new(alloc),
         })
     }
 }
@@ -142,60 +142,60 @@ fn accept(
     ensures verdict { IfOk result (λ judged. (k : ℕ) (p : PackageData) → own_files_view files.now ≡ own_files_in p
         → IsAccepting (outline_view outline.now) k p (denotes_by around.now) (means_by around.now)
         (headers_by around.now table.now) (verdict_view judged.verdict)) }
-    ensures headers { IfOk result (λ judged. judged.headers.items
-        ≡ headers_in (headers_by around.now table.now) (declarations_view declarations.now)) }
+    ensures values { IfOk result (λ judged. judged.values.items
+        ≡ values_in (values_by around.now table.now) (declarations_view declarations.now)) }
 {
     let lines = lines_of(alloc, outline, files, around, table)?;
     let named = named_in(alloc, outline, &lines)?;
-    let headers = headers_in(alloc, around, table, declarations)?;
+    let values = values_in(alloc, around, table, declarations)?;
     Ok(Judged {
         verdict: Verdict::Accepted(Records { lines, named }),
-        headers,
+        values,
     })
 }
 
-// The headers of declarations, by their numbers.
-fn headers_in(
+// The values of declarations, by their numbers.
+fn values_in(
     alloc: Global,
     around: &Around,
     table: &[Option<i128>],
     declarations: &[Declaration],
 ) -> Result<Vec<(ObjId, i128)>, NoMemory>
-    ensures { IfOk result (λ headers. headers.items
-        ≡ headers_in (headers_by around.now table.now) (declarations_view declarations.now)) }
+    ensures { IfOk result (λ values. values.items
+        ≡ values_in (values_by around.now table.now) (declarations_view declarations.now)) }
 {
-    let mut headers = Vec::new(alloc);
+    let mut values = Vec::new(alloc);
     for declaration in declarations {
         let number = declaration.number();
-        push_header(number, around.header(table, number), &mut headers)?;
+        push_value(number, around.value(table, number), &mut values)?;
     }
-    Ok(headers)
+    Ok(values)
 }
 
-// Pushes the header, if there is one.
-fn push_header(
+// Pushes the value, if there is one.
+fn push_value(
     number: ObjId,
-    header: Option<i128>,
-    headers: &mut Vec<(ObjId, i128)>,
+    value: Option<i128>,
+    values: &mut Vec<(ObjId, i128)>,
 ) -> Result<(), NoMemory>
-    ensures { OnOk result (headers.new.items ≡ headers.old.items
-        ++ option_map_or (λ h. (number, h) ∷ []) header []) }
+    ensures { OnOk result (values.new.items ≡ values.old.items
+        ++ option_map_or (λ v. (number, v) ∷ []) value []) }
 {
-    if let Some(header) = header {
-        headers.push((number, header))?;
+    if let Some(value) = value {
+        values.push((number, value))?;
     }
     Ok(())
 }
 
-// Adds headers to those that are known.
-fn add_headers(
+// Adds values to those that are known.
+fn add_values(
     before: &mut IndexMap<ObjId, i128>,
-    headers: &[(ObjId, i128)],
+    values: &[(ObjId, i128)],
 ) -> Result<(), NoMemory>
-    ensures { OnOk result (before.new.entries ≡ insert_all same_object before.old.entries headers.now) }
+    ensures { OnOk result (before.new.entries ≡ insert_all same_object before.old.entries values.now) }
 {
-    for (number, header) in headers {
-        before.insert(*number, *header)?;
+    for (number, value) in values {
+        before.insert(*number, *value)?;
     }
     Ok(())
 }

@@ -11,8 +11,8 @@ use Rattle.go_model.specs.Report.{refused, verdict_view}
 use Rattle.go_model.specs.Values.Rules.{broken_values}
 use Rattle.go_model.specs.Values.Waiting.{Chain}
 use Rattle.go_names.specs.Views.{declarations_view}
-use Rattle.go_expr.specs.Table.{headers_by}
-use Rattle.go_check.specs.Packages.Known.{headers_in}
+use Rattle.go_expr.specs.Table.{headers_by, values_by}
+use Rattle.go_check.specs.Packages.Known.{values_in}
 use Rattle.go_check.specs.Packages.Verdicts.{IsAccepting}
 use Rattle.go_expr.specs.View.{before_by, denotes_by, headers_listed, means_by, places_by}
 use Rattle.go_decl.specs.Waits.{marked_by}
@@ -37,18 +37,18 @@ returns-then-breaks_none c =
     let listed = subst (λ t. IsListOf (broken_values means (headers_by around table) (marked_by (places_by around) t) p) list) c.deref-3.ensures.value over_table in
     let none : list ≡ [] = sym c.deref-4.ensures.value ∙ c.breaks_none.ensures.none c.if-breaks_none.true in
     both_if_ok c.accept.result _ _ _
-    (λ judged verdict headers m k at outline uses.
+    (λ judged verdict values m k at outline uses.
     let same = means_are m k p at declarations around c.requires.declarations c.requires.around uses in
     let found = breaks m k p before means declarations same c.requires.declarations (headers_by around table) cyclic list (sound_names m k p at around.uses.now.entries uses) c.in_ok-table.ensures.exact chains listed in
     let accepting = subst (λ o. IsAccepting o k p (denotes_by around) means (headers_by around table) (verdict_view judged.verdict)) outline
     (subst (λ t. IsAccepting (outline_view c.args.outline.now) k p (denotes_by around) means (headers_by around t) (verdict_view judged.verdict)) c.deref-then-breaks_none.ensures.value (verdict k p c.requires.files)) in
-    let after : headers_listed (insert_all same_object around.before.now.entries judged.headers.items) ≡ headers_by around table =
-    ap (λ hs. headers_listed (insert_all same_object around.before.now.entries hs)) (headers ∙ ap (λ t. headers_in (headers_by around t) declarations) c.deref-then-breaks_none.ensures.value)
+    let after : headers_listed (insert_all same_object around.before.now.entries judged.values.items) ≡ headers_by around table =
+    ap (λ hs. headers_listed (insert_all same_object around.before.now.entries hs)) (values ∙ ap (λ t. values_in (values_by around t) declarations) c.deref-then-breaks_none.ensures.value)
     ∙ known_after around table declarations c.requires.around in
-    sound_verdict m k p before means declarations same c.requires.declarations (headers_by around table) (headers_listed (insert_all same_object around.before.now.entries judged.headers.items)) (denotes_by around) list (verdict_view judged.verdict) found none
+    sound_verdict m k p before means declarations same c.requires.declarations (headers_by around table) (headers_listed (insert_all same_object around.before.now.entries judged.values.items)) (denotes_by around) list (verdict_view judged.verdict) found none
     (denotes_are m k p at declarations around c.requires.declarations c.requires.around uses)
     accepting after)
-    c.accept.ensures.verdict c.accept.ensures.headers
+    c.accept.ensures.verdict c.accept.ensures.values
 
 pub returns : goal.returns
 returns c m k at outline uses =
