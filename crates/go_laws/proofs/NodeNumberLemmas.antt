@@ -1,7 +1,7 @@
 -- The numbers of the nodes of a module: they ascend, so a number tells its node.
-use Rattle.std.proofs.Common.{◌≡◌, ◌≢◌, ℕ, zero, suc, ◌+◌, ◌<◌, ◌≤◌, Bool, true, false, not, cond, Option, Some, None, List, [], ◌∷◌, ◌++◌, ◌⊎◌, inl, inr, length, map, get_or, Contains, refl, sym, ap, ◌∙◌, subst, ⊎_elim, arith}
+use Rattle.std.proofs.Common.{◌≡◌, ℕ, zero, suc, ◌+◌, ◌<◌, ◌≤◌, Bool, true, false, not, cond, Option, Some, None, List, [], ◌∷◌, ◌++◌, ◌⊎◌, inl, inr, length, map, get_or, Contains, refl, sym, ap, ◌∙◌, subst, ⊎_elim, arith}
 use Rattle.std.specs.Prelude.{AllPairs, filter, slice_get, unwrap_or, if◌then◌else◌}
-use Rattle.std.specs.List.{cons_option, filter_map, flat_map, list_any, range_with_len}
+use Rattle.std.specs.List.{cons_option, filter_map, list_any, range_with_len}
 use Rattle.std.specs.List.Sorted.{IsStrictlySortedBy}
 use Rattle.std.specs.Cmp.Lexicographic.{slice_cmp}
 use Rattle.std.specs.Ordering.{nat_cmp}
@@ -11,7 +11,6 @@ use Rattle.std.proofs.lemmas.List.Elements.{Contains-append_cases, Contains-appe
 use Rattle.std.proofs.lemmas.List.FromFn.{get_or-range_with_len, length-range_with_len}
 use Rattle.std.proofs.lemmas.List.Kept.{AllPairs-cons, AllPairs-filter}
 use Rattle.std.proofs.lemmas.Option.{none-some, same_Some}
-use Rattle.go_tree.specs.declared.node_kind.NodeKind.{NodeKind}
 use Rattle.go_tree.specs.declared.node_kind.NodeKind.TheVariants.{ConstCopy, ConstDecl, ConstGroup}
 use Rattle.go_tree.specs.Tree.{Tree, Trees, branch, id_of, kind_of, list_of, more_trees, no_trees, node_count, node_count_of_all, parts_of}
 use Rattle.go_text.specs.Copies.{with_copies}
@@ -25,7 +24,7 @@ use Rattle.go_module.specs.Modules.Packages.{files_of, is_home}
 use Rattle.go_module.specs.Modules.Paths.{homes, own_paths}
 use Rattle.go_module.specs.Modules.Texts.{SourceText}
 use Rattle.go_module.specs.Names.Declarations.{Spec, behind_names, const_spec, specs_from, specs_in, specs_in_file, specs_of, values_behind}
-use Rattle.go_module.specs.Names.Inner.{all_behind, behind_key, first_alone, inner_by, inner_of, is_name_kind, is_named_param, is_tag_kind, is_unnamed_param, last_alone, types_alone}
+use Rattle.go_module.specs.Names.Inner.{all_behind, behind_key, first_alone, inner_by, inner_of, is_name_kind, is_named_param, is_tag_kind, is_unnamed_param, last_alone}
 use Rattle.go_module.specs.Names.Occurrences.{found_in, nodes_in, nodes_of_each}
 use Rattle.go_module.specs.NodeParts.{all_but_first}
 use Rattle.go_module.proofs.MemberLemmas.{cons_cases, contains_head, contains_none, contains_tail, range_more}
@@ -39,7 +38,7 @@ use Rattle.go_laws.specs.Complete.{values_in}
 use Rattle.go_laws.specs.NodeNumbers.{NodeNumbersAscend, nodes_by_end, nodes_by_end_among, nodes_in_files, numbers_in_files}
 use Rattle.go_laws.proofs.AskedLemmas.{flat_cases, flat_contains, map_cases, map_contains}
 
--- LISTS OF NUMBERS THAT ASCEND
+-- LISTS OF NUMBERS THAT ASCEND: the first is below the others, and two such lists, one below the other, make one
 
 abbrev pub Ascends : List ℕ → Type 0
 Ascends xs = AllPairs (λ (a b : ℕ). a < b) xs
@@ -134,7 +133,7 @@ module _ {X : Type 0} (number : X → ℕ) where
       let later = stands_once xs ys us vs x y (rest_ascends (number a) (map number (xs ++ x ∷ ys)) up) rest e in
       ((λ i. first i ∷ later.0 i), later.1, later.2)
 
--- THE NUMBERS OF A FILE
+-- THE NUMBERS OF A FILE: those of a range, in the order in which its nodes end
 
 abbrev pub numbers_in : Tree → List ℕ
 numbers_in t = map id_of (nodes_by_end t)
@@ -175,7 +174,7 @@ numbered_from first (branch id from to kind text parts) =
 file_numbered : (bytes : List ℕ) (first : ℕ) (tree : Tree) → IsFileOf bytes first tree → NumberedFrom first tree
 file_numbered bytes first tree is = subst (NumberedFrom first) (sym is.tree_is) (numbered_from first (with_copies is.written))
 
--- THE NUMBERS OF THE FILES OF A MODULE
+-- THE NUMBERS OF THE FILES OF A MODULE: each file's are behind those of the files before it
 
 -- the file at a place has ascending numbers, from the first on, and below those of a file behind it
 file_ascends : (number first : ℕ) (texts : List SourceText) (trees : List Tree) (i : ℕ) (f : FileData) → AreTrees first texts trees → slice_get (files_from number texts trees) i ≡ Some f → Ascends (numbers_in f.tree)
@@ -210,7 +209,7 @@ file_before number first (x ∷ xs) (t ∷ ts) zero (suc j) f g are lt e d a b h
     omega (arith, below, later)
 file_before number first (x ∷ xs) (t ∷ ts) (suc i) (suc j) f g are lt e d a b h k = file_before (number + 1) (id_of t + 1) xs ts i j f g are.1 (omega (arith, lt)) e d a b h k
 
--- THE NUMBERS OF A PACKAGE
+-- THE NUMBERS OF A PACKAGE: where its files stand at ascending places, they ascend, and a number stands at one place
 
 -- a number of files that are joined is one of theirs
 files_joined : (f : FileData) (files : List FileData) → numbers_in_files (f ∷ files) ≡ numbers_in f.tree ++ numbers_in_files files
@@ -288,7 +287,7 @@ one_row homes paths sorted i k j here there =
     let alike : b.0 ≡ a.0 = one_home (unwrap_or (slice_get homes j) None) b.0 a.0 home_b.1 home_a.1 in
     one_place paths i k a.0 sorted a.1 (b.1 ∙ ap (λ (p : List ℕ). Some p) alike)
 
--- THE MODULE
+-- THE MODULE: its packages have ascending places of files, and no two have one
 
 module _ (m : ModuleData) (is : IsLoaded m) where
   abbrev files : List FileData
@@ -344,8 +343,8 @@ module _ (m : ModuleData) (is : IsLoaded m) where
       one_place_of order j k x.number (order_once is.table order (record { order = is.is_module.order; is_order = is.is_module.is_order; list_is = refl })) x.at
       (y.at ∙ ap (λ (n : ℕ). Some n) row)
 
-  ascend_in : NodeNumbersAscend m
-  ascend_in = record {
+  pub loaded_ascend : NodeNumbersAscend m
+  loaded_ascend = record {
     ascend = λ k p at.
         let x = is_made k p at in
         subst (λ (q : PackageData). Ascends (numbers_in_files q.files)) x.package_is (picked_ascends files own_ascend before_others (row_at is.table.files x.number) (rows_ascend x.number));
@@ -356,7 +355,7 @@ module _ (m : ModuleData) (is : IsLoaded m) where
   }
 
 pub node_numbers_ascend : (own stubs : Folder) (m : ModuleData) → IsModule own stubs m → NodeNumbersAscend m
-node_numbers_ascend own stubs m is = ascend_in m is.loaded
+node_numbers_ascend own stubs m is = loaded_ascend m is.loaded
 
 -- two nodes of files of one package with one number are one
 
@@ -383,7 +382,7 @@ one_node_of_module m up j k p q at_j at_k s t h i e =
     (map_contains id_of (nodes_in_files q.files) t i)))
     (cases_eq j k)
 
--- THE NODES OF EXPRESSIONS STAND IN THEIR FILE
+-- THE NODES OF EXPRESSIONS: each is a node of the file in which the expression stands
 
 pub self_by_end : (t : Tree) → Contains (nodes_by_end t) t
 self_by_end (branch id from to kind text parts) = Contains-push (nodes_by_end_among parts) (branch id from to kind text parts)
