@@ -1,3 +1,4 @@
 pub mod AskedLemmas
 pub mod WalkLemmas
 pub mod CompleteLemmas
+pub mod NodeNumberLemmas
