@@ -1,3 +1,5 @@
 pub mod AskedLemmas
 pub mod WalkLemmas
 pub mod CompleteLemmas
+pub mod PickedLemmas
+pub mod UseLemmas
