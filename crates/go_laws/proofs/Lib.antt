@@ -6,3 +6,5 @@ pub mod UseLemmas
 pub mod OccursLemmas
 pub mod EmptyLemmas
 pub mod FileLemmas
+pub mod ResolvedLemmas
+pub mod DenotedLemmas
