@@ -8,3 +8,4 @@ pub mod EmptyLemmas
 pub mod FileLemmas
 pub mod ResolvedLemmas
 pub mod DenotedLemmas
+pub mod DenotingLemmas
