@@ -4,7 +4,7 @@ use Rattle.std.specs.Prelude.{◌||◌, IsSome, is_some, if◌then◌else◌, op
 use Rattle.std.specs.List.{cons_option, filter_map}
 use Rattle.std.specs.Map.{lookup}
 use Rattle.std.specs.Option.{option_map_or}
-use Rattle.std.proofs.lemmas.Bool.{cases_eq, eq-eqb, lt-ltb, ne_eqb}
+use Rattle.std.proofs.lemmas.Bool.{cases_eq, eq-eqb, ne_eqb}
 use Rattle.go_base.specs.declared.ids.ObjId.{ObjId}
 use Rattle.go_tree.specs.Tree.{Tree, Trees, more_trees, no_trees, parts_of}
 use Rattle.go_module.specs.declared.block.Region.{Region}
@@ -17,7 +17,7 @@ use Rattle.go_module.specs.Names.Imports.{Importing, PackageNames, dot_region, f
 use Rattle.go_module.specs.Names.PackageBlock.{binds, declared_region, names_of, object_id, objects_of, package_block, region_entries}
 use Rattle.go_module.specs.Names.Universe.{Predeclared, predeclared, universe, universe_from, universe_region}
 use Rattle.go_module.specs.Scopes.{same_object}
-use Rattle.go_module.proofs.MemberLemmas.{cons_cases, contains_head, contains_none, contains_tail}
+use Rattle.go_module.proofs.MemberLemmas.{cons_cases, contains_none}
 use Rattle.go_module.proofs.TableLemmas.{object_declared}
 use Rattle.go_model.specs.Outcomes.Walk.{Headers}
 use Rattle.go_model.specs.Values.Declared.{declared_as}

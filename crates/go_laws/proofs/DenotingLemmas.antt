@@ -1,7 +1,7 @@
 -- What identifiers denote where no rule on names is broken: one that is asked for a record denotes a universe name, a
 -- declaration of the package, or what a package that it imports exports.
-use Rattle.std.proofs.Common.{◌≡◌, ℕ, ◌+◌, ◌<◌, ◌≤◌, Bool, true, false, not, ◌&&◌, Option, Some, None, List, [], ◌∷◌, ◌++◌, ◌⊎◌, inl, inr, map, Contains, refl, sym, ap, ◌∙◌, subst, arith}
-use Rattle.std.specs.Prelude.{◌||◌, IsSome, is_none, is_some, if◌then◌else◌, option_and_then, slice_get}
+use Rattle.std.proofs.Common.{◌≡◌, ℕ, ◌<◌, ◌≤◌, Bool, true, false, not, ◌&&◌, Option, Some, None, List, [], ◌∷◌, ◌++◌, ◌⊎◌, inl, inr, map, Contains, refl, sym, ap, ◌∙◌, subst, arith}
+use Rattle.std.specs.Prelude.{◌||◌, is_none, is_some, if◌then◌else◌, option_and_then, slice_get}
 use Rattle.std.specs.List.{AllPairs, flat_map}
 use Rattle.std.specs.Option.{option_map_or}
 use Rattle.std.proofs.lemmas.Bool.{lt-ltb}
@@ -20,7 +20,7 @@ use Rattle.go_module.specs.declared.object.Object.{Object}
 use Rattle.go_module.specs.Modules.Module.{ModuleData, PackageData, first_number}
 use Rattle.go_module.specs.Names.Declarations.{Spec, declarations_of, specs_in_file, specs_of}
 use Rattle.go_module.specs.Names.Exported.{is_blank_identifier}
-use Rattle.go_module.specs.Names.Imports.{PackageNames, file_block, import_of, imports_of, known_in}
+use Rattle.go_module.specs.Names.Imports.{file_block, import_of, imports_of, known_in}
 use Rattle.go_module.specs.Names.Occurrences.{names_in, names_in_parts, occurrence, occurrences_in_file, selected_name, selecting}
 use Rattle.go_module.specs.Names.PackageBlock.{object_id, package_block}
 use Rattle.go_module.specs.Names.Regions.{is_held, regions_of, resolution}
@@ -30,12 +30,11 @@ use Rattle.go_module.specs.Names.Rules.ImportRules.{conflicting, unused}
 use Rattle.go_module.specs.Names.Rules.OccurrenceRules.{blank_at, blank_value, broken_occurrence, broken_occurrences, complex_at, denoted_package, misplaced_at, misplaced_package, missing_at, missing_in, missing_member, undeclared_at, undeclared_name}
 use Rattle.go_module.specs.Names.Tables.{Member, member_of, members_at, occurrences_from, uses_at, uses_of}
 use Rattle.go_module.proofs.MemberLemmas.{contains_head}
-use Rattle.go_model.specs.declared.meaning.Meaning.{Meaning}
 use Rattle.go_model.specs.declared.meaning.Meaning.TheVariants.{Declared, Other, Predeclared}
 use Rattle.go_model.specs.Outcomes.Walk.{Headers}
 use Rattle.go_model.specs.Outline.{is_predeclared}
 use Rattle.go_model.specs.Values.Declared.{declared_as}
-use Rattle.go_model.specs.Values.Meaning.{denoted_meaning, may_have_header, meaning_in, object_meaning}
+use Rattle.go_model.specs.Values.Meaning.{denoted_meaning, may_have_header, meaning_in}
 use Rattle.go_laws.specs.BuiltTrees.{IsBuilt}
 use Rattle.go_laws.specs.Complete.{asked_in, values_in}
 use Rattle.go_laws.specs.Denoting.{ImportsHaveHeaders}
@@ -44,7 +43,7 @@ use Rattle.go_laws.proofs.AskedLemmas.{flat_cases, flat_contains}
 use Rattle.go_laws.proofs.DenotedLemmas.{HasHeader, IsImported, block_may_have, block_no_package, file_imported, imported_known, universal}
 use Rattle.go_laws.proofs.EmptyLemmas.{left_is_empty, map_is_empty, none_of_each, not_told, right_is_empty}
 use Rattle.go_laws.proofs.FileLemmas.{AtFile, at_file, spec_file}
-use Rattle.go_laws.proofs.OccursLemmas.{IsBefore, Occurs, asked_occurs}
+use Rattle.go_laws.proofs.OccursLemmas.{Occurs, asked_occurs}
 use Rattle.go_laws.proofs.ResolvedLemmas.{Denotes, Stands, held_denotes}
 use Rattle.go_laws.proofs.UseLemmas.{use_found}
 
@@ -244,6 +243,8 @@ module _ (m : ModuleData) (k : ℕ) (p : PackageData) (before : Headers)
               let x = selecting spec.file spec.told_at is_before.selected (occurrence spec.file spec.told_at (id_of s) (start_of s) (text_of s)) in
               before_fine spec file x (inside x is_before.among) placed (selected_name spec.file spec.told_at is_before.selected) refl is_before.other e
 
+-- So an identifier that is asked for a record (not the name of a package before a `.`) does not mean nothing: it denotes a
+-- universe name, a declaration of the package, or an exported one of a package that it imports.
 pub names_denote : (m : ModuleData) (k : ℕ) (p : PackageData) (before : Headers)
     → slice_get m.packages k ≡ Some p → broken_names (known_in m) k p ≡ []
     → AllPairs (λ (a b : ℕ). a < b) (numbers_in_files p.files)

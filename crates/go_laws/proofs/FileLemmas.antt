@@ -1,7 +1,7 @@
 -- The file in which a spec of a package stands, with its imports, where the package breaks no rule on names.
-use Rattle.std.proofs.Common.{◌≡◌, ℕ, zero, suc, ◌+◌, Bool, Some, List, [], ◌∷◌, ◌++◌, ◌⊎◌, inl, inr, map, length, Contains, refl, sym, ap, subst, arith}
+use Rattle.std.proofs.Common.{◌≡◌, ℕ, zero, suc, ◌+◌, Bool, Some, List, [], ◌∷◌, ◌⊎◌, inl, inr, length, Contains, refl, sym, ap, subst, arith}
 use Rattle.std.specs.Prelude.{drop, slice_get, take}
-use Rattle.std.specs.List.{flat_map, zip}
+use Rattle.std.specs.List.{zip}
 use Rattle.std.proofs.lemmas.List.Elements.{Contains-append_cases, Contains-append_left, Contains-append_right}
 use Rattle.go_tree.specs.declared.node_kind.NodeKind.TheVariants.{ConstDecl, ConstGroup}
 use Rattle.go_tree.specs.Tree.{Tree, branch, list_of, parts_of}

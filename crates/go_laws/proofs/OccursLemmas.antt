@@ -3,9 +3,8 @@ use Rattle.std.proofs.Common.{◌≡◌, ℕ, Option, List, [], ◌∷◌, ◌++
 use Rattle.std.specs.List.{flat_map}
 use Rattle.std.proofs.lemmas.List.Elements.{Contains-append_cases, Contains-append_left, Contains-append_right}
 use Rattle.go_graph.specs.Graph.{row_at}
-use Rattle.go_tree.specs.declared.node_kind.NodeKind.{NodeKind}
 use Rattle.go_tree.specs.declared.node_kind.NodeKind.TheVariants.{AddExpr, IntLit, Name, ParenExpr, SelectorExpr}
-use Rattle.go_tree.specs.Tree.{Tree, Trees, branch, id_of, kind_of, more_trees, no_trees, start_of, text_of}
+use Rattle.go_tree.specs.Tree.{Tree, branch, id_of, kind_of, more_trees, no_trees, start_of, text_of}
 use Rattle.go_module.specs.declared.block.Occurrence.{Occurrence}
 use Rattle.go_module.specs.Names.Occurrences.{names_in, occurrence, selecting, with_selected}
 use Rattle.go_module.proofs.MemberLemmas.{cons_cases, contains_head, contains_none}

@@ -1,11 +1,11 @@
 -- Items that are picked from a list, in their order: of numbers that ascend they ascend.
-use Rattle.std.proofs.Common.{◌≡◌, ℕ, suc, ◌<◌, Bool, true, false, cond, not, List, [], ◌∷◌, ◌++◌, map, filter, Contains, ◌⊎◌, inl, inr, refl, sym, ap, ◌∙◌, subst, arith}
+use Rattle.std.proofs.Common.{◌≡◌, ℕ, suc, ◌<◌, Bool, true, false, cond, not, List, [], ◌∷◌, ◌++◌, map, filter, Contains, ◌⊎◌, inl, inr, sym, ap, ◌∙◌, subst, arith}
 use Rattle.std.specs.Prelude.{if◌then◌else◌}
 use Rattle.std.specs.List.{AllPairs, flat_map, list_any}
 use Rattle.go_tree.specs.Tree.{Tree, kind_of}
 use Rattle.go_module.specs.declared.inner.Inner.{Inner}
 use Rattle.go_module.specs.declared.inner.Inner.TheVariants.{All, First, Last, BehindFirst, BehindNames, BehindKey, TypesAlone, Neither}
-use Rattle.go_module.specs.Names.Inner.{is_name_kind, is_tag_kind, is_named_param, is_unnamed_param, first_alone, last_alone, all_behind, behind_key, types_alone, inner_by}
+use Rattle.go_module.specs.Names.Inner.{is_name_kind, is_tag_kind, is_named_param, is_unnamed_param, first_alone, last_alone, all_behind, behind_key, inner_by}
 use Rattle.go_laws.proofs.AskedLemmas.{map_contains}
 use Rattle.go_module.proofs.MemberLemmas.{cons_cases, contains_head, contains_none, contains_tail}
 

@@ -1,6 +1,6 @@
 -- Where no name is declared twice in a block, a name that is declared denotes what one region has.
-use Rattle.std.proofs.Common.{◌≡◌, ℕ, Bool, true, false, cond, Some, None, List, [], ◌∷◌, ◌⊎◌, inl, inr, Contains, refl, sym, ap, ◌∙◌, subst}
-use Rattle.std.specs.Prelude.{◌||◌, Option, find, if◌then◌else◌, slice_get}
+use Rattle.std.proofs.Common.{◌≡◌, ℕ, Bool, true, false, cond, Some, None, List, [], ◌∷◌, ◌⊎◌, inl, inr, Contains, refl, sym, ap, ◌∙◌}
+use Rattle.std.specs.Prelude.{◌||◌, find, if◌then◌else◌, slice_get}
 use Rattle.std.specs.List.{list_any}
 use Rattle.std.proofs.lemmas.Slice.Eq.{bytes_eq-Decides}
 use Rattle.go_module.specs.Broken.{broken_at}
@@ -14,7 +14,7 @@ use Rattle.go_module.specs.Names.Regions.{has_name, is_held, regions_of, resolut
 use Rattle.go_module.specs.Names.Rules.BlockRules.{is_repeated, repeated, repeated_at, repeated_name}
 use Rattle.go_module.specs.Names.Universe.{universe}
 use Rattle.go_module.proofs.MemberLemmas.{contains_head, contains_tail}
-use Rattle.go_scope.specs.Held.{innermost, is_declared, only_of}
+use Rattle.go_scope.specs.Held.{innermost, only_of}
 use Rattle.go_scope.proofs.ResolutionLemmas.{declared_is, innermost_is}
 use Rattle.go_laws.proofs.EmptyLemmas.{none_of_each, not_told}
 

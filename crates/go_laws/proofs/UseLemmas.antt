@@ -1,5 +1,5 @@
 -- Where each number is that of one node, the table of uses has at the number of an identifier what it denotes.
-use Rattle.std.proofs.Common.{◌≡◌, ℕ, suc, ◌+◌, ◌<◌, Option, Some, None, List, [], ◌∷◌, ◌++◌, map, Contains, refl, sym, ap, ◌∙◌, subst, rules}
+use Rattle.std.proofs.Common.{◌≡◌, ℕ, ◌+◌, ◌<◌, Option, Some, None, List, [], ◌∷◌, ◌++◌, map, Contains, refl, sym, ap, ◌∙◌, subst, rules}
 use Rattle.std.specs.Prelude.{IsSome}
 use Rattle.std.specs.List.{AllPairs, flat_map}
 use Rattle.std.specs.Map.{lookup}
@@ -18,7 +18,7 @@ use Rattle.go_module.specs.declared.object.Object.{Object}
 use Rattle.go_module.specs.Modules.Module.{FileData, ModuleData, PackageData}
 use Rattle.go_module.specs.Names.Declarations.{behind_names, const_spec, specs_in, types_behind, values_behind}
 use Rattle.go_module.specs.Names.Imports.{PackageNames, known_in}
-use Rattle.go_module.specs.Names.Inner.{inner_by, inner_of}
+use Rattle.go_module.specs.Names.Inner.{inner_of}
 use Rattle.go_module.specs.Names.Occurrences.{found_in, names_in, names_in_parts, names_of_each, occurrences_in_file, with_selected}
 use Rattle.go_module.specs.Names.PackageBlock.{object_id}
 use Rattle.go_module.specs.Names.Regions.{regions_of, resolution}
@@ -28,7 +28,7 @@ use Rattle.go_module.specs.Scopes.{same_node}
 use Rattle.go_module.proofs.TableLemmas.{node_denotes, node_found}
 use Rattle.go_model.specs.Values.Meaning.{uses_table}
 use Rattle.go_laws.specs.NodeNumbers.{nodes_by_end, nodes_by_end_among, numbers_in_files}
-use Rattle.go_laws.proofs.PickedLemmas.{Ascending, Picked, keep, none, one_numbered, pairs_ascend, picked_ascend, picked_behind, picked_both, picked_flat, picked_front, picked_inner, picked_self, picked_through}
+use Rattle.go_laws.proofs.PickedLemmas.{Ascending, Picked, none, one_numbered, pairs_ascend, picked_ascend, picked_behind, picked_both, picked_flat, picked_front, picked_inner, picked_self, picked_through}
 
 -- the numbers of the nodes of a tree, a node behind its parts
 abbrev mutual
