@@ -145,8 +145,8 @@ module _ (m : ModuleData) (k : ℕ) (p : PackageData) (before : Headers)
         by_cases (inl named) = record {
           object = λ none. absurd (let never : None ≡ Some is.place = sym none ∙ named in cc);
           exported = λ q e name o found. (
-          let same : q ≡ is.place = (let both : Some q ≡ Some is.place = sym e ∙ named in cc) in
-          (imported_known m p before headers is.place is.among).exported name o (subst (λ (n : ℕ). (known_in m n).exported name ≡ Some o) same found));
+              let same : q ≡ is.place = (let both : Some q ≡ Some is.place = sym e ∙ named in cc) in
+              (imported_known m p before headers is.place is.among).exported name o (subst (λ (n : ℕ). (known_in m n).exported name ≡ Some o) same found));
         }
         by_cases (inr dot) = no_package r (header_fine r.object ((imported_known m p before headers is.place is.among).exports r.object dot.1)) dot.0
 
