@@ -2,3 +2,11 @@ pub mod AskedLemmas
 pub mod WalkLemmas
 pub mod CompleteLemmas
 pub mod NodeNumberLemmas
+pub mod PickedLemmas
+pub mod UseLemmas
+pub mod OccursLemmas
+pub mod EmptyLemmas
+pub mod FileLemmas
+pub mod ResolvedLemmas
+pub mod DenotedLemmas
+pub mod DenotingLemmas

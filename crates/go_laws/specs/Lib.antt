@@ -1,2 +1,4 @@
 pub mod Complete
 pub mod NodeNumbers
+pub mod BuiltTrees
+pub mod Denoting

@@ -1,0 +1,165 @@
+-- What may have a header: the declarations of a package, and what the packages that it imports export.
+use Rattle.std.proofs.Common.{◌≡◌, ℕ, ◌+◌, ◌<◌, Bool, true, false, cond, Option, Some, None, List, [], ◌∷◌, ◌⊎◌, inl, inr, map, length, filter, Contains, refl, sym, ap, ◌∙◌, subst, ⊎_elim, arith}
+use Rattle.std.specs.Prelude.{◌||◌, IsSome, is_some, if◌then◌else◌, option_and_then, slice_get}
+use Rattle.std.specs.List.{cons_option, filter_map}
+use Rattle.std.specs.Map.{lookup}
+use Rattle.std.specs.Option.{option_map_or}
+use Rattle.std.proofs.lemmas.Bool.{cases_eq, eq-eqb, ne_eqb}
+use Rattle.go_base.specs.declared.ids.ObjId.{ObjId}
+use Rattle.go_tree.specs.Tree.{Tree, Trees, more_trees, no_trees, parts_of}
+use Rattle.go_module.specs.declared.block.Region.{Region}
+use Rattle.go_module.specs.declared.object.Object.{Object}
+use Rattle.go_module.specs.Modules.Module.{ModuleData, PackageData, first_number}
+use Rattle.go_module.specs.Modules.Paths.{same_text}
+use Rattle.go_module.specs.Names.Declarations.{Declaration, declarations_of, name_text, number_of}
+use Rattle.go_module.specs.Names.Exported.{is_blank_identifier, is_exported}
+use Rattle.go_module.specs.Names.Imports.{Importing, PackageNames, dot_region, file_block, import_parts, import_region, import_regions, is_dot, known_by_tables, known_in}
+use Rattle.go_module.specs.Names.PackageBlock.{binds, declared_region, names_of, object_id, objects_of, package_block, region_entries}
+use Rattle.go_module.specs.Names.Universe.{Predeclared, predeclared, universe, universe_from, universe_region}
+use Rattle.go_module.specs.Scopes.{same_object}
+use Rattle.go_module.proofs.MemberLemmas.{cons_cases, contains_none}
+use Rattle.go_module.proofs.TableLemmas.{object_declared}
+use Rattle.go_model.specs.Outcomes.Walk.{Headers}
+use Rattle.go_model.specs.Values.Declared.{declared_as}
+use Rattle.go_model.specs.Values.Meaning.{may_have_header}
+use Rattle.go_laws.specs.Denoting.{ImportsHaveHeaders}
+use Rattle.go_laws.proofs.AskedLemmas.{flat_cases, map_cases}
+use Rattle.go_laws.proofs.PickedLemmas.{picked_contains, picked_filter}
+
+-- each declaration has one that its number names
+declared_by_number : (declarations : List Declaration) (d : Declaration) → Contains declarations d → (first : Declaration) × (declared_as declarations (number_of d).0 ≡ Some first)
+declared_by_number [] d h = absurd (contains_none d h)
+declared_by_number (x ∷ xs) d h =
+    ⊎_elim
+    (λ here. (x, ap (λ b. cond b (Some x) (declared_as xs (number_of d).0)) (eq-eqb (number_of x).0 (number_of d).0 here)))
+    (λ ne. (let there = later ne (cons_cases x xs d h) (declared_by_number xs d) in
+    (there.0, ap (λ b. cond b (Some x) (declared_as xs (number_of d).0)) (ne_eqb (number_of x).0 (number_of d).0 ne) ∙ there.1)))
+    (cases_eq (number_of x).0 (number_of d).0)
+  where
+    later : ((number_of x).0 ≡ (number_of d).0 → ⊥) → (x ≡ d) ⊎ Contains xs d → (Contains xs d → (first : Declaration) × (declared_as xs (number_of d).0 ≡ Some first)) → (first : Declaration) × (declared_as xs (number_of d).0 ≡ Some first)
+    later ne (inl same) rest = absurd (ne (ap (λ y. (number_of y).0) same))
+    later ne (inr there) rest = rest there
+
+-- a region of the block of a package is of a declaration
+pub record IsDeclared (k : ℕ) (p : PackageData) (r : Region) : Type 0 where
+  pub declaration : Declaration
+  pub among : Contains (declarations_of p) declaration
+  pub is : declared_region k declaration ≡ r
+
+pub block_declared : (k : ℕ) (p : PackageData) (r : Region) → Contains (package_block k p) r → IsDeclared k p r
+block_declared k p r h =
+    let made = map_cases (declared_region k) (filter binds (declarations_of p)) r h in
+    record { declaration = made.0; among = picked_contains made.0 (picked_filter binds (declarations_of p)) made.1; is = made.2 }
+
+-- it may have a header, and is of no package
+pub block_may_have : (before : Headers) (k : ℕ) (p : PackageData) (r : Region) → Contains (package_block k p) r → may_have_header before (declarations_of p) (object_id r.object) ≡ true
+block_may_have before k p r h =
+    let own = block_declared k p r h in
+    let first = declared_by_number (declarations_of p) own.declaration own.among in
+    ap (λ (x : Region). may_have_header before (declarations_of p) (object_id x.object)) (sym own.is)
+    ∙ ap (λ (o : Option Declaration). is_some o || is_some (before (number_of own.declaration).0)) first.1
+
+pub block_no_package : (k : ℕ) (p : PackageData) (r : Region) → Contains (package_block k p) r → r.denotes ≡ None
+block_no_package k p r h = let own = block_declared k p r h in ap (λ (x : Region). x.denotes) (sym own.is)
+
+-- the universe
+pub record IsUniversal (r : Region) : Type 0 where
+  pub below : r.object.at.0 < first_number
+  pub no_package : r.denotes ≡ None
+
+universal_from : (i : ℕ) (names : List Predeclared) (r : Region) → i + length names < first_number → Contains (universe_from i names) r → IsUniversal r
+universal_from i [] r lt h = absurd (contains_none r h)
+universal_from i (name ∷ names) r lt h = by_cases (cons_cases (universe_region i name) (universe_from (i + 1) names) r h) (universal_from (i + 1) names r (omega arith))
+  where
+    by_cases : (universe_region i name ≡ r) ⊎ Contains (universe_from (i + 1) names) r → (Contains (universe_from (i + 1) names) r → IsUniversal r) → IsUniversal r
+    by_cases (inl here) later = subst IsUniversal here (record { below = omega arith; no_package = refl })
+    by_cases (inr there) later = later there
+
+pub universal : (r : Region) → Contains universe r → IsUniversal r
+unfolding universe
+universal r h = let size : length predeclared ≡ 44 = refl in universal_from 0 predeclared r (omega (arith, size)) h
+
+-- what a package is known by
+module _ (P : Object → Type 0) where
+  pub record AreKnown (known : PackageNames) : Type 0 where
+    pub exports : (o : Object) → Contains known.exports o → P o
+    pub exported : (name : List ℕ) (o : Object) → known.exported name ≡ Some o → P o
+
+  map_found : {X : Type 0} (f : X → Option Object) (xs : List X) → ((x : X) (o : Object) → f x ≡ Some o → P o) → (o : Object) → Contains (filter_map f xs) o → P o
+  map_found f [] each o h = absurd (contains_none o h)
+  map_found f (x ∷ xs) each o h = by_option (f x) refl h (map_found f xs each o)
+    where
+      by_cases : (y : Object) → f x ≡ Some y → (y ≡ o) ⊎ Contains (filter_map f xs) o → (Contains (filter_map f xs) o → P o) → P o
+      by_cases y e (inl same) later = each x o (e ∙ ap Some same)
+      by_cases y e (inr there) later = later there
+
+      by_option : (found : Option Object) → f x ≡ found → Contains (cons_option found (filter_map f xs)) o → (Contains (filter_map f xs) o → P o) → P o
+      by_option None e there later = later there
+      by_option (Some y) e there later = by_cases y e (cons_cases y (filter_map f xs) o there) later
+
+  module _ (regions : List Region) (each : (r : Region) → Contains regions r → P r.object) where
+    entry_found : (d : ObjId) (o : Object) → lookup (same_object d) (objects_of regions) ≡ Some o → P o
+    entry_found d o found =
+        let there : Contains (region_entries regions) (d, o) = object_declared (objects_of regions) (region_entries regions) d o refl found in
+        let made = map_cases (λ (r : Region). (object_id r.object, r.object)) regions (d, o) there in
+        subst P (ap (λ (e : ObjId × Object). e.1) made.2) (each made.0 made.1)
+
+    name_found : (b : Bool) (named : Option ObjId) (o : Object) → (if b then option_and_then (λ d. lookup (same_object d) (objects_of regions)) named else None) ≡ Some o → P o
+    name_found true None o found = absurd (let never : None ≡ Some o = found in cc)
+    name_found true (Some d) o found = entry_found d o found
+    name_found false named o found = absurd (let never : None ≡ Some o = found in cc)
+
+    tables_known : (clause : List ℕ) → AreKnown (known_by_tables clause (names_of regions) (objects_of regions))
+    tables_known clause = record {
+      exports = λ o h. map_found (λ (entry : List ℕ × ObjId). lookup (same_object entry.1) (objects_of regions)) (filter (λ (entry : List ℕ × ObjId). is_exported entry.0) (names_of regions)) (λ entry object found. entry_found entry.1 object found) o h;
+      exported = λ name o found. name_found (is_exported name) (lookup (same_text name) (names_of regions)) o found;
+    }
+
+  known_by_package : (m : ModuleData) (q : ℕ) → ((x : PackageData) → slice_get m.packages q ≡ Some x → (d : Declaration) → Contains (declarations_of x) d → (r : Region) → declared_region q d ≡ r → P r.object) → AreKnown (known_in m q)
+  known_by_package m q each = by_package (slice_get m.packages q) refl
+    where
+      by_package : (found : Option PackageData) → slice_get m.packages q ≡ found → AreKnown (option_map_or (λ (x : PackageData). known_by_tables x.name (names_of (package_block q x)) (objects_of (package_block q x))) found (known_by_tables [] [] []))
+      by_package None e = tables_known [] (λ r h. absurd (contains_none r h)) []
+      by_package (Some x) e = tables_known (package_block q x) (λ r h. (let own = block_declared q x r h in each x e own.declaration own.among r own.is)) x.name
+
+-- what an imported package exports has a header
+abbrev pub HasHeader : Headers → Object → Type 0
+HasHeader before o = IsSome (before (object_id o).0)
+
+pub imported_known : (m : ModuleData) (p : PackageData) (before : Headers) → ImportsHaveHeaders m p before → (q : ℕ) → Contains p.imports q → AreKnown (HasHeader before) (known_in m q)
+imported_known m p before headers q among =
+    known_by_package (HasHeader before) m q (λ x at d own r is. subst (λ (s : Region). HasHeader before s.object) is (headers q x among at d own))
+
+-- the block of a file: names of packages, and what these export
+pub record IsImported (known : ℕ → PackageNames) (packages : List ℕ) (r : Region) : Type 0 where
+  pub place : ℕ
+  pub among : Contains packages place
+  pub denoted : (r.denotes ≡ Some place) ⊎ ((r.denotes ≡ None) × Contains (known place).exports r.object)
+
+abbrev IsOf : PackageNames → Importing → Region → Type 0
+IsOf known i r = (r.denotes ≡ Some i.imported) ⊎ ((r.denotes ≡ None) × Contains known.exports r.object)
+
+package_of : (known : PackageNames) (i : Importing) (name : List ℕ) (node : Tree) (r : Region) → Contains (import_region i name node ∷ []) r → IsOf known i r
+package_of known i name node r h = by_cases (cons_cases (import_region i name node) [] r h)
+  where
+    by_cases : (import_region i name node ≡ r) ⊎ Contains [] r → IsOf known i r
+    by_cases (inl same) = inl (ap (λ (x : Region). x.denotes) (sym same))
+    by_cases (inr none) = absurd (contains_none r none)
+
+named_of : (known : PackageNames) (i : Importing) (name string : Tree) (r : Region) (dot blank : Bool) → Contains (if dot then map (dot_region i string) known.exports else if blank then [] else import_region i (name_text name) name ∷ []) r → IsOf known i r
+named_of known i name string r true blank h =
+    let made = map_cases (dot_region i string) known.exports r h in
+    inr (ap (λ (x : Region). x.denotes) (sym made.2), subst (λ (x : Region). Contains known.exports x.object) made.2 made.1)
+named_of known i name string r false true h = absurd (contains_none r h)
+named_of known i name string r false false h = package_of known i (name_text name) name r h
+
+parts_of_import : (known : PackageNames) (i : Importing) (parts : Trees) (r : Region) → Contains (import_parts known i parts) r → IsOf known i r
+parts_of_import known i no_trees r h = absurd (contains_none r h)
+parts_of_import known i (more_trees string no_trees) r h = package_of known i known.clause string r h
+parts_of_import known i (more_trees name (more_trees string no_trees)) r h = named_of known i name string r (is_dot name) (is_blank_identifier (name_text name)) h
+parts_of_import known i (more_trees a (more_trees b (more_trees c rest))) r h = absurd (contains_none r h)
+
+pub file_imported : (known : ℕ → PackageNames) (packages : List ℕ) (imports : List Importing) → ((i : Importing) → Contains imports i → Contains packages i.imported) → (r : Region) → Contains (file_block known imports) r → IsImported known packages r
+file_imported known packages imports each r h =
+    let from = flat_cases (import_regions known) imports r h in
+    record { place = from.0.imported; among = each from.0 from.1; denoted = parts_of_import (known from.0.imported) from.0 (parts_of from.0.spec) r from.2 }

@@ -1,0 +1,103 @@
+-- The file in which a spec of a package stands, with its imports, where the package breaks no rule on names.
+use Rattle.std.proofs.Common.{◌≡◌, ℕ, zero, suc, ◌+◌, Bool, Some, List, [], ◌∷◌, ◌⊎◌, inl, inr, length, Contains, refl, sym, ap, subst, arith}
+use Rattle.std.specs.Prelude.{drop, slice_get, take}
+use Rattle.std.specs.List.{zip}
+use Rattle.std.proofs.lemmas.List.Elements.{Contains-append_cases, Contains-append_left, Contains-append_right}
+use Rattle.go_tree.specs.declared.node_kind.NodeKind.TheVariants.{ConstDecl, ConstGroup}
+use Rattle.go_tree.specs.Tree.{Tree, branch, list_of, parts_of}
+use Rattle.go_module.specs.declared.block.Occurrence.{Occurrence}
+use Rattle.go_module.specs.declared.block.Region.{Region}
+use Rattle.go_module.specs.Modules.Heads.{import_specs}
+use Rattle.go_module.specs.Modules.Module.{FileData}
+use Rattle.go_module.specs.Names.Declarations.{Spec, const_spec, specs_from, specs_in, specs_in_file}
+use Rattle.go_module.specs.Names.Imports.{Importing, PackageNames, imports_from, imports_in}
+use Rattle.go_module.specs.Names.Occurrences.{occurrences_in_file}
+use Rattle.go_module.specs.Names.Rules.BrokenNames.{broken_file, broken_files}
+use Rattle.go_module.specs.Names.Tables.{occurrences_from}
+use Rattle.go_module.proofs.MemberLemmas.{cons_cases, contains_head, contains_none, contains_tail}
+use Rattle.go_laws.proofs.AskedLemmas.{flat_cases, map_cases}
+use Rattle.go_laws.proofs.EmptyLemmas.{left_is_empty, right_is_empty}
+
+-- a spec has the place of its file
+declaration_file : (file : ℕ) (d : Tree) (spec : Spec) → Contains (specs_in file d) spec → spec.file ≡ file
+declaration_file file (branch id from to ConstDecl text parts) spec h = let made = map_cases (const_spec file) (list_of parts) spec h in ap (λ (s : Spec). s.file) (sym made.2)
+declaration_file file (branch id from to ConstGroup text parts) spec h = let made = map_cases (const_spec file) (list_of parts) spec h in ap (λ (s : Spec). s.file) (sym made.2)
+declaration_file file (branch id from to kind text parts) spec h = absurd (contains_none spec h)
+
+pub spec_file : (file : ℕ) (tree : Tree) (spec : Spec) → Contains (specs_in_file file tree) spec → spec.file ≡ file
+spec_file file tree spec h = let from = flat_cases (specs_in file) (list_of (parts_of tree)) spec h in declaration_file file from.0 spec from.2
+
+-- what is imported in a file is imported by the package
+in_take : (n : ℕ) (xs : List ℕ) (x : ℕ) → Contains (take n xs) x → Contains xs x
+in_take zero xs x h = absurd (contains_none x h)
+in_take (suc n) [] x h = absurd (contains_none x h)
+in_take (suc n) (y ∷ xs) x h = by_cases (cons_cases y (take n xs) x h) (in_take n xs x)
+  where
+    by_cases : (y ≡ x) ⊎ Contains (take n xs) x → (Contains (take n xs) x → Contains xs x) → Contains (y ∷ xs) x
+    by_cases (inl here) later = contains_head y xs x here
+    by_cases (inr there) later = contains_tail y xs x (later there)
+
+in_drop : (n : ℕ) (xs : List ℕ) (x : ℕ) → Contains (drop n xs) x → Contains xs x
+in_drop zero xs x h = h
+in_drop (suc n) [] x h = absurd (contains_none x h)
+in_drop (suc n) (y ∷ xs) x h = contains_tail y xs x (in_drop n xs x h)
+
+in_zip : (specs : List Tree) (packages : List ℕ) (pair : Tree × ℕ) → Contains (zip specs packages) pair → Contains packages pair.1
+in_zip [] packages pair h = absurd (contains_none pair h)
+in_zip (s ∷ specs) [] pair h = absurd (contains_none pair h)
+in_zip (s ∷ specs) (q ∷ packages) pair h = by_cases (cons_cases (s, q) (zip specs packages) pair h) (in_zip specs packages pair)
+  where
+    by_cases : ((s, q) ≡ pair) ⊎ Contains (zip specs packages) pair → (Contains (zip specs packages) pair → Contains packages pair.1) → Contains (q ∷ packages) pair.1
+    by_cases (inl here) later = contains_head q packages pair.1 (ap (λ (x : Tree × ℕ). x.1) here)
+    by_cases (inr there) later = contains_tail q packages pair.1 (later there)
+
+import_among : (k file : ℕ) (specs : List Tree) (packages : List ℕ) (i : Importing) → Contains (imports_in k file specs packages) i → Contains packages i.imported
+import_among k file specs packages i h =
+    let made = map_cases (λ (pair : Tree × ℕ). record { spec = pair.0; file = file; importer = k; imported = pair.1 }) (zip specs packages) i h in
+    subst (λ (q : ℕ). Contains packages q) (ap (λ (x : Importing). x.imported) made.2) (in_zip specs packages made.0 made.1)
+
+module _ (known : ℕ → PackageNames) (k : ℕ) (is_main : Bool) (regions block : List Region) where
+  -- behind a first place its file, its imports, and what is not broken there
+  pub record AtFile (first : ℕ) (files : List FileData) (packages : List ℕ) (spec : Spec) : Type 0 where
+    pub place : ℕ
+    pub number : ℕ
+    pub numbered : number ≡ first + place
+    pub file : FileData
+    pub imports : List Importing
+    pub found : slice_get (imports_from k first files packages) place ≡ Some imports
+    pub imported : (i : Importing) → Contains imports i → Contains packages i.imported
+    pub among : Contains (specs_in_file number file.tree) spec
+    pub sound : broken_file known is_main regions block number file imports ≡ []
+    pub occurs : (o : Occurrence) → Contains (occurrences_in_file number file.tree) o → Contains (occurrences_from first files) o
+
+  pub at_file : (first : ℕ) (files : List FileData) (packages : List ℕ) (spec : Spec) → Contains (specs_from first files) spec → broken_files known is_main regions block first files (imports_from k first files packages) ≡ [] → AtFile first files packages spec
+  at_file first [] packages spec h none = absurd (contains_none spec h)
+  at_file first (f ∷ files) packages spec h none =
+      by_cases (Contains-append_cases (specs_in_file first f.tree) (specs_from (first + 1) files) spec h)
+      (λ there. at_file (first + 1) files (drop (length (import_specs f.tree)) packages) spec there (right_is_empty (broken_file known is_main regions block first f (imports_in k first (import_specs f.tree) (take (length (import_specs f.tree)) packages))) (broken_files known is_main regions block (first + 1) files (imports_from k (first + 1) files (drop (length (import_specs f.tree)) packages))) none))
+    where
+      by_cases : Contains (specs_in_file first f.tree) spec ⊎ Contains (specs_from (first + 1) files) spec → (Contains (specs_from (first + 1) files) spec → AtFile (first + 1) files (drop (length (import_specs f.tree)) packages) spec) → AtFile first (f ∷ files) packages spec
+      by_cases (inl here) rest = record {
+        place = 0;
+        number = first;
+        numbered = omega arith;
+        file = f;
+        imports = imports_in k first (import_specs f.tree) (take (length (import_specs f.tree)) packages);
+        found = refl;
+        imported = λ i among. in_take (length (import_specs f.tree)) packages i.imported (import_among k first (import_specs f.tree) (take (length (import_specs f.tree)) packages) i among);
+        among = here;
+        sound = left_is_empty (broken_file known is_main regions block first f (imports_in k first (import_specs f.tree) (take (length (import_specs f.tree)) packages))) (broken_files known is_main regions block (first + 1) files (imports_from k (first + 1) files (drop (length (import_specs f.tree)) packages))) none;
+        occurs = λ o inside. Contains-append_left (occurrences_in_file first f.tree) (occurrences_from (first + 1) files) o inside;
+      }
+      by_cases (inr there) rest = let is = rest there in record {
+        place = suc is.place;
+        number = is.number;
+        numbered = (let at = is.numbered in omega (arith, at));
+        file = is.file;
+        imports = is.imports;
+        found = is.found;
+        imported = λ i among. in_drop (length (import_specs f.tree)) packages i.imported (is.imported i among);
+        among = is.among;
+        sound = is.sound;
+        occurs = λ o inside. Contains-append_right (occurrences_in_file first f.tree) (occurrences_from (first + 1) files) o (is.occurs o inside);
+      }

@@ -1,0 +1,20 @@
+-- Expressions (Go specification).
+-- Says which expressions are built.
+use Rattle.std.specs.Prelude.{◌≡◌, ℕ, List}
+use Rattle.go_tree.specs.declared.node_kind.NodeKind.TheVariants.{AddExpr, IntLit, Name, ParenExpr, SelectorExpr}
+use Rattle.go_tree.specs.Tree.{Tree, branch, more_trees, no_trees}
+
+-- an identifier
+pub record IsNameLeaf (t : Tree) : Type 0 where
+  pub id : ℕ
+  pub from : ℕ
+  pub to : ℕ
+  pub text : List ℕ
+  pub is : t ≡ branch id from to Name text no_trees
+
+pub data IsBuilt : Tree → Type 0 where
+  literal : (id from to : ℕ) (text : List ℕ) → IsBuilt (branch id from to IntLit text no_trees)
+  name : (id from to : ℕ) (text : List ℕ) → IsBuilt (branch id from to Name text no_trees)
+  selector : (id from to : ℕ) (text : List ℕ) (x f : Tree) → IsNameLeaf x → IsNameLeaf f → IsBuilt (branch id from to SelectorExpr text (more_trees x (more_trees f no_trees)))
+  parentheses : (id from to : ℕ) (text : List ℕ) (x : Tree) → IsBuilt x → IsBuilt (branch id from to ParenExpr text (more_trees x no_trees))
+  sum : (id from to : ℕ) (text : List ℕ) (x y : Tree) → IsBuilt x → IsBuilt y → IsBuilt (branch id from to AddExpr text (more_trees x (more_trees y no_trees)))
