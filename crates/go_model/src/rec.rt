@@ -15,7 +15,7 @@ pub enum Mode {
 }
 
 /// The record of an expression: what it stands for, its type, its value where it is a constant, and the
-/// object that it denotes where it is a name.
+/// object that it denotes where it is a name or a qualified identifier, parentheses aside.
 #[derive(Debug, Drop)]
 pub struct Rec {
     pub mode: Mode,
