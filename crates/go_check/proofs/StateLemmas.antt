@@ -9,7 +9,7 @@ use Rattle.go_model.specs.Phases.{AreReports, IsVerdict, all_told, skips, checks
 use Rattle.go_model.specs.Report as report
 use Rattle.go_model.specs.Report.{VerdictData, skipped}
 use Rattle.go_model.specs.Outcomes.Walk.{Headers}
-use Rattle.go_model.specs.Values.Known.{headers_view}
+use Rattle.go_model.specs.Values.HeadersView.{headers_view}
 use Rattle.go_check.specs.declared.denoted.Denoted.{Denoted}
 use Rattle.go_check.specs.declared.module.State.{State}
 use Rattle.go_check.specs.Packages.Names.{ImportsSound, sound_at}

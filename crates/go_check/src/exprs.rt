@@ -108,7 +108,10 @@ fn expr_line(file: &OwnFile, node: &Node, found: &Rec) -> Result<Line, NoMemory>
 {
     let end = file.file.line_col(node.end());
     let Rec {
-        mode, ty, value, ..
+        mode,
+        ty,
+        value,
+        ..
     } = found.clone()?;
     Ok(Line {
         at: file.file.at(file.stub, node.start())?,

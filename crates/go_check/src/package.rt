@@ -9,7 +9,7 @@ ghost use Rattle.go_model.specs.PackageLines.{named_in};
 ghost use Rattle.go_model.specs.Phases as phases;
 ghost use Rattle.go_model.specs.Outcomes.Records.{header_view};
 ghost use Rattle.go_model.specs.Report.{line_view, named_view, verdict_view};
-ghost use Rattle.go_model.specs.Values.Known.{headers_view};
+ghost use Rattle.go_model.specs.Values.HeadersView.{headers_view};
 ghost use Rattle.go_names.specs.Views.{declarations_view};
 ghost use Rattle.go_check.specs.Lines.Found.{own_files_in, own_files_view};
 ghost use Rattle.go_check.specs.Packages.Denoted.{AreDenoted, AreUses};

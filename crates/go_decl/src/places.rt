@@ -3,7 +3,7 @@ ghost use Rattle.std.specs.Prelude.{◌≡◌, IfOk, is_some};
 ghost use Rattle.std.specs.Map.{lookup};
 ghost use Rattle.go_module.specs.Scopes.{same_object};
 ghost use Rattle.go_names.specs.Views.{declarations_view};
-ghost use Rattle.go_model.specs.Values.Known.{headers_view};
+ghost use Rattle.go_model.specs.Values.HeadersView.{headers_view};
 ghost use Rattle.go_expr.specs.View.{open_place};
 
 use go_base::NoMemory;

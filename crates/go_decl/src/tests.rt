@@ -2,7 +2,7 @@
 use crate::{cyclic_declarations, headers, is_cyclic, places_of};
 use go_base::{Bytes, NoMemory, ObjId};
 use go_expr::Around;
-use go_model::{Header, Headers};
+use go_model::{Ask, Header, Headers};
 use go_module::{Built, ObjKind};
 use go_names::Declaration;
 use go_num::Value;
@@ -69,9 +69,40 @@ fn a_header_follows_from_a_later_one(rt: HostRuntime) -> Result<(), Fail> {
     let table = found(alloc, &[constant(&x, &to_y), constant(&y, &one)])?;
     assert_eq!(rt; table.len(), 2);
     for header in &table {
-        assert_eq!(rt; told(header), Some((Term::Basic(Basic::UntypedInt), Some(1))));
+        assert_eq!(rt;
+            told(header),
+            Some((Term::Basic(Basic::UntypedInt), Some(1)))
+        );
     }
     Ok(())
+}
+
+#[test]
+fn a_map_of_headers_has_what_was_added(rt: HostRuntime) -> Result<(), Fail> {
+    let alloc = rt.alloc();
+    let text = Bytes::new(b"ab".to_vec(alloc)?);
+    let mut map = Headers::new(alloc);
+    map.add(ObjId(45), constant_of(Value::Bool(true)))?;
+    map.add(ObjId(46), constant_of(Value::Text(text)))?;
+    assert!(rt; map.get(ObjId(47)).is_none());
+    assert!(rt; map.ask(ObjId(47))?.is_none());
+    assert!(rt;
+        matches!(
+            map.get(ObjId(45)),
+            Some(Header::Const(_, Value::Bool(true)))
+        )
+    );
+    match map.ask(ObjId(46))? {
+        Some(Header::Const(_, Value::Text(bytes))) => {
+            assert_eq!(rt; bytes.as_slice(), b"ab".as_slice());
+        }
+        _ => return Err(Fail::from("the text is lost")),
+    }
+    Ok(())
+}
+
+fn constant_of(value: Value) -> Header {
+    Header::Const(Term::Basic(Basic::UntypedInt), value)
 }
 
 // Whether X waits for itself, and Y, which are the nodes 45 and 46 and stand in these declarations; 47 and 49 are their

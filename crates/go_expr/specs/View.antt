@@ -7,7 +7,7 @@ use Rattle.go_module.specs.Names.Declarations.{Declaration, numbers_of}
 use Rattle.go_module.specs.Scopes.{same_node, same_object}
 use Rattle.go_model.specs.declared.meaning.Meaning.{Meaning}
 use Rattle.go_model.specs.Outcomes.Walk.{Headers}
-use Rattle.go_model.specs.Values.Known.{headers_view}
+use Rattle.go_model.specs.Values.HeadersView.{headers_view}
 use Rattle.go_model.specs.Values.Meaning.{meaning_by}
 use Rattle.go_expr.specs.Places.{place_among}
 use Rattle.go_expr.specs.declared.around.Around.{Around}

@@ -1,4 +1,4 @@
-// Who knows headers (Go specification, "Declarations and scope").
+// Maps of headers that can be asked (Go specification, "Declarations and scope").
 ghost use Rattle.std.specs.Prelude.{◌≡◌, IfOk};
 ghost use Rattle.std.specs.Option.{option_map};
 ghost use Rattle.go_model.specs.Outcomes.Records.{header_view};
@@ -10,11 +10,11 @@ use go_module::ObjId;
 
 /// A map of headers that can be asked.
 pub trait Ask {
-    /// The header of each declaration that has one, by its number.
-    ghost known: { Self → walk.Headers };
+    /// What the map has for each declaration, by its number.
+    ghost headers: { Self → walk.Headers };
 
     /// The header of a declaration, None exactly where the map has none. An error is want of memory.
     fn ask(&mut self, d: ObjId) -> Result<Option<Header>, NoMemory>
-        ensures answer { IfOk result (λ header. option_map header_view header ≡ known self.old d.0) }
-        ensures same { known self.new ≡ known self.old };
+        ensures answer { IfOk result (λ header. option_map header_view header ≡ headers self.old d.0) }
+        ensures same { headers self.new ≡ headers self.old };
 }

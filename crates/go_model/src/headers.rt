@@ -1,9 +1,9 @@
-// The headers that are known (Go specification, "Declarations and scope").
+// Maps of headers (Go specification, "Declarations and scope").
 ghost use Rattle.std.specs.Prelude.{◌≡◌, ℕ, [], ◌∷◌, None, OnErr, OnOk};
 ghost use Rattle.std.specs.Option.{option_map};
 ghost use Rattle.go_model.specs.Outcomes.Records.{header_view};
 ghost use Rattle.go_model.specs.Values.Headers.{headers_of};
-ghost use Rattle.go_model.specs.Values.Known.{headers_view};
+ghost use Rattle.go_model.specs.Values.HeadersView.{headers_view};
 
 use crate::ask::Ask;
 use crate::header::Header;
@@ -48,7 +48,7 @@ impl Headers {
 }
 
 impl Ask for Headers {
-    ghost known = { headers_view };
+    ghost headers = { headers_view };
 
     fn ask(&mut self, d: ObjId) -> Result<Option<Header>, NoMemory> {
         match self.table.get(&d) {

@@ -5,7 +5,7 @@ use Rattle.go_module.specs.Modules.Module.{ModuleData}
 use Rattle.go_graph.specs.Graph.{is_marked}
 use Rattle.go_model.specs.Phases.{AreReports, no_headers}
 use Rattle.go_model.specs.Report.{PackageReportData, package_view}
-use Rattle.go_model.specs.Values.Known.{headers_view}
+use Rattle.go_model.specs.Values.HeadersView.{headers_view}
 use Rattle.go_check.specs.declared.denoted.Denoted.{Denoted}
 use Rattle.go_check.specs.declared.module.State.{State}
 use Rattle.go_check.specs.Packages.Names.{sound_at}

@@ -4,7 +4,7 @@ use Rattle.go_graph.specs.Graph.{is_marked}
 use Rattle.go_module.specs.Modules.Module.{module_view, package_view}
 use Rattle.go_model.specs.Phases.{imports_accepted}
 use Rattle.go_model.specs.Report.{skipped, verdict_view}
-use Rattle.go_model.specs.Values.Known.{headers_view}
+use Rattle.go_model.specs.Values.HeadersView.{headers_view}
 use Rattle.go_check.specs.Packages.Names.{ImportsSound}
 use Rattle.go_check.specs.Packages.State.{state_view}
 use Rattle.go_check.proofs.NamesLemmas.{viewed_at}

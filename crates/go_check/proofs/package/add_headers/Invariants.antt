@@ -1,5 +1,5 @@
 use Rattle.std.proofs.Common.{◌≡◌, ℕ, drop}
-use Rattle.go_model.specs.Values.Known.{headers_view}
+use Rattle.go_model.specs.Values.HeadersView.{headers_view}
 use Rattle.go_check.specs.Packages.Known.{known_with, pairs_view}
 use Rattle.go_check.proofs.package.add_headers.Given as goal
 

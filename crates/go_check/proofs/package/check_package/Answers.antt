@@ -3,7 +3,7 @@ use Rattle.go_module.specs.Modules.Module.{module_view, package_view}
 use Rattle.go_module.specs.Places.{placed_by}
 use Rattle.go_model.specs.Phases.{IsVerdict}
 use Rattle.go_model.specs.Report.{refused}
-use Rattle.go_model.specs.Values.Known.{headers_view}
+use Rattle.go_model.specs.Values.HeadersView.{headers_view}
 use Rattle.go_check.specs.Packages.Names.{IsBrokenAt}
 use Rattle.go_check.proofs.NamesLemmas.{get_at, viewed_at}
 use Rattle.go_check.proofs.VerdictLemmas.{refused_names}

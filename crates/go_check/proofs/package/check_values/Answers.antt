@@ -6,7 +6,7 @@ use Rattle.go_module.specs.Names.Declarations.{declarations_in}
 use Rattle.go_model.specs.declared.header.Header.{Header}
 use Rattle.go_model.specs.Phases.{IsVerdict}
 use Rattle.go_model.specs.Report.{verdict_view}
-use Rattle.go_model.specs.Values.Known.{headers_view}
+use Rattle.go_model.specs.Values.HeadersView.{headers_view}
 use Rattle.go_names.specs.Views.{declarations_view}
 use Rattle.go_check.specs.Lines.Found.{all_specs_in, own_files_view}
 use Rattle.go_check.specs.Packages.Known.{known_with, pairs_view}

@@ -5,7 +5,7 @@ use Rattle.go_module.specs.Names.Declarations.{number_of}
 use Rattle.go_module.specs.Scopes.{same_object}
 use Rattle.go_names.specs.Views.{declaration_view}
 use Rattle.go_decl.proofs.PlaceLemmas.{one_more_open}
-use Rattle.go_model.specs.Values.Known.{headers_view}
+use Rattle.go_model.specs.Values.HeadersView.{headers_view}
 use Rattle.go_decl.proofs.places.places_of.Goals as goal
 
 pub loop-place-preserved-in_ok-insert : goal.loop-place-preserved-in_ok-insert

@@ -5,7 +5,7 @@ use Rattle.go_module.specs.Names.Declarations.{numbers_of}
 use Rattle.go_module.specs.Scopes.{same_object}
 use Rattle.go_names.specs.Views.{declarations_view}
 use Rattle.go_decl.proofs.PlaceLemmas.{open_from}
-use Rattle.go_model.specs.Values.Known.{headers_view}
+use Rattle.go_model.specs.Values.HeadersView.{headers_view}
 use Rattle.go_decl.proofs.places.places_of.Given as goal
 
 -- the table has the places of the declarations from the place on

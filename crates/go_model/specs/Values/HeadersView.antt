@@ -1,4 +1,4 @@
--- The headers that the program knows.
+-- What a map of headers of the program has.
 use Rattle.std.specs.Prelude.{ℕ}
 use Rattle.std.specs.Map.{lookup}
 use Rattle.std.specs.Option.{option_map}
