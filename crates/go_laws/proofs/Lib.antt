@@ -1,3 +1,5 @@
+pub mod Asked
+pub mod IntegerLemmas
 pub mod AskedLemmas
 pub mod WalkLemmas
 pub mod CompleteLemmas
@@ -10,3 +12,5 @@ pub mod FileLemmas
 pub mod ResolvedLemmas
 pub mod DenotedLemmas
 pub mod DenotingLemmas
+pub mod BuiltLemmas
+pub mod ReachedLemmas

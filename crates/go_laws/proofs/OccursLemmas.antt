@@ -15,14 +15,14 @@ use Rattle.go_model.specs.Outcomes.Constructs.Selector.{selector as selector_con
 use Rattle.go_laws.specs.BuiltTrees.{IsBuilt, IsNameLeaf, literal, name, parentheses, selector, sum}
 use Rattle.go_laws.specs.Complete.{asked_in, asked_in_each}
 
-only_is : {X : Type 0} (x y : X) → Contains (x ∷ []) y → x ≡ y
+pub only_is : {X : Type 0} (x y : X) → Contains (x ∷ []) y → x ≡ y
 only_is x y h = by_cases (cons_cases x [] y h)
   where
     by_cases : (x ≡ y) ⊎ Contains [] y → x ≡ y
     by_cases (inl same) = same
     by_cases (inr none) = absurd (contains_none y none)
 
-in_front : {X : Type 0} (xs : List X) (y : X) → Contains (xs ++ []) y → Contains xs y
+pub in_front : {X : Type 0} (xs : List X) (y : X) → Contains (xs ++ []) y → Contains xs y
 in_front xs y h = by_cases (Contains-append_cases xs [] y h)
   where
     by_cases : Contains xs y ⊎ Contains [] y → Contains xs y
@@ -48,7 +48,7 @@ module _ (means : ℕ → Meaning) (file : ℕ) (told_at : Option ℕ) where
   occurs_right xs ys o (inr before) = inr (record { selected = before.selected; among = Contains-append_right xs ys (selecting file told_at before.selected o) before.among; other = before.other })
 
   -- an identifier asks for no other record
-  name_alone : (m : Meaning) (t s : Tree) (rows : List (List Tree)) → Contains (t ∷ flat_map (row_at rows) (name_construct m).operands) s → t ≡ s
+  pub name_alone : (m : Meaning) (t s : Tree) (rows : List (List Tree)) → Contains (t ∷ flat_map (row_at rows) (name_construct m).operands) s → t ≡ s
   name_alone (Declared d) t s rows h = only_is t s h
   name_alone Predeclared t s rows h = only_is t s h
   name_alone Other t s rows h = only_is t s h
@@ -57,7 +57,7 @@ module _ (means : ℕ → Meaning) (file : ℕ) (told_at : Option ℕ) where
   same_occurrence t s same = ap (λ r. occurrence file told_at (id_of r) (start_of r) (text_of r)) same
 
   -- what stands before a `.` is asked only where what stands behind it denotes nothing
-  selector_cases : (m meant : Meaning) → meant ≡ m → (t s : Tree) (xs ys : List Tree) → Contains (t ∷ flat_map (row_at (xs ∷ (ys ∷ []))) (selector_construct m).operands) s → (t ≡ s) ⊎ (Contains xs s × (meant ≡ Other))
+  pub selector_cases : (m meant : Meaning) → meant ≡ m → (t s : Tree) (xs ys : List Tree) → Contains (t ∷ flat_map (row_at (xs ∷ (ys ∷ []))) (selector_construct m).operands) s → (t ≡ s) ⊎ (Contains xs s × (meant ≡ Other))
   selector_cases (Declared d) meant e t s xs ys h = inl (only_is t s h)
   selector_cases Predeclared meant e t s xs ys h = inl (only_is t s h)
   selector_cases Other meant e t s xs ys h = by_cases (cons_cases t (xs ++ []) s h)

@@ -1,8 +1,10 @@
 -- Expressions (Go specification).
 -- Says which expressions are built.
-use Rattle.std.specs.Prelude.{◌≡◌, ℕ, List}
+use Rattle.std.specs.Prelude.{◌≡◌, ℕ, Some, List, Contains, slice_get}
 use Rattle.go_tree.specs.declared.node_kind.NodeKind.TheVariants.{AddExpr, IntLit, Name, ParenExpr, SelectorExpr}
 use Rattle.go_tree.specs.Tree.{Tree, branch, more_trees, no_trees}
+use Rattle.go_module.specs.Modules.Module.{ModuleData, PackageData}
+use Rattle.go_laws.specs.Complete.{values_in}
 
 -- an identifier
 pub record IsNameLeaf (t : Tree) : Type 0 where
@@ -18,3 +20,7 @@ pub data IsBuilt : Tree → Type 0 where
   selector : (id from to : ℕ) (text : List ℕ) (x f : Tree) → IsNameLeaf x → IsNameLeaf f → IsBuilt (branch id from to SelectorExpr text (more_trees x (more_trees f no_trees)))
   parentheses : (id from to : ℕ) (text : List ℕ) (x : Tree) → IsBuilt x → IsBuilt (branch id from to ParenExpr text (more_trees x no_trees))
   sum : (id from to : ℕ) (text : List ℕ) (x y : Tree) → IsBuilt x → IsBuilt y → IsBuilt (branch id from to AddExpr text (more_trees x (more_trees y no_trees)))
+
+-- the expressions of each package of a module are built
+abbrev pub ValuesAreBuilt : ModuleData → Type 0
+ValuesAreBuilt m = (k : ℕ) (p : PackageData) → slice_get m.packages k ≡ Some p → (t : Tree) → Contains (values_in p) t → IsBuilt t

@@ -1,18 +1,14 @@
 -- Constant declarations; Constant expressions (Go specification).
 -- Says which nodes of an expression are asked for records, and what it is that a package is complete.
-use Rattle.std.specs.Prelude.{◌≡◌, ℕ, ℤ, ◌<◌, Some, List, [], ◌∷◌, Contains, IsSome, length}
+use Rattle.std.specs.Prelude.{ℕ, List, [], ◌∷◌, Contains, IsSome}
 use Rattle.std.specs.List.{flat_map}
 use Rattle.go_graph.specs.Graph.{row_at}
-use Rattle.go_tree.specs.Tree.{Tree, Trees, branch, list_of, more_trees, no_trees, parts_of}
+use Rattle.go_tree.specs.Tree.{Tree, Trees, branch, list_of, more_trees, no_trees}
 use Rattle.go_module.specs.Modules.Module.{PackageData}
 use Rattle.go_module.specs.Names.Declarations.{Declaration, declarations_of, number_of, specs_of}
 use Rattle.go_model.specs.declared.meaning.Meaning.{Meaning}
-use Rattle.go_model.specs.Outcomes.Judged.{Asks, Construct}
 use Rattle.go_model.specs.Outcomes.Walk.{Headers, construct}
 use Rattle.go_model.specs.Values.Records.{record_of}
-
-abbrev pub construct_of : (ℕ → Meaning) → Tree → Construct ℤ ℤ
-construct_of means (branch id from to kind text parts) = construct means id kind text (list_of parts)
 
 -- the nodes of an expression that are asked for records: itself, and those of its operands
 abbrev mutual
@@ -22,15 +18,6 @@ abbrev mutual
   pub asked_in_each : (ℕ → Meaning) → Trees → List (List Tree)
   asked_in_each means no_trees = []
   asked_in_each means (more_trees t ts) = asked_in means t ∷ asked_in_each means ts
-
--- a node's operands are parts of it, and with any records of these something is asked of it
-pub record IsAsked (means : ℕ → Meaning) (t : Tree) : Type 0 where
-  pub within : (n : ℕ) → Contains (construct_of means t).operands n → n < length (list_of (parts_of t))
-  pub asks : (records : List ℤ) → length records ≡ length (construct_of means t).operands → (a : Asks ℤ ℤ) × ((construct_of means t).asks records ≡ Some a)
-
--- so it is of each node of these expressions that is asked for a record
-abbrev pub AreAsked : (ℕ → Meaning) → List Tree → Type 0
-AreAsked means trees = (t : Tree) → Contains trees t → (s : Tree) → Contains (asked_in means t) s → IsAsked means s
 
 -- the expressions of the declarations of a package
 abbrev pub values_in : PackageData → List Tree
