@@ -18,13 +18,14 @@ use Rattle.go_model.specs.Outcomes.Judged.{Broken, Found, Nothing, OutcomeData, 
 use Rattle.go_model.specs.Outcomes.Constructs.Name.{name}
 use Rattle.go_model.specs.Outcomes.Constructs.Selector.{selector}
 use Rattle.go_model.specs.Outcomes.Exactly.{HasNothing}
-use Rattle.go_model.specs.Outcomes.Records.{RecData, integer_in}
+use Rattle.go_model.specs.Outcomes.Records.{RecData}
 use Rattle.go_model.specs.Outcomes.Stays.{HasFailed}
 use Rattle.go_model.specs.Outcomes.Walk.{Headers, construct, outcome, outcomes}
 use Rattle.go_model.proofs.ExactWaitLemmas.{outcome_exactly}
 use Rattle.go_laws.specs.Complete.{asked_in, asked_in_each}
 use Rattle.go_laws.proofs.Asked.{AreIntegers, IsAsked}
 use Rattle.go_laws.proofs.IntegerLemmas.{HaveIntegers, part_integer}
+use Rattle.go_laws.proofs.OccursLemmas.{only_is}
 
 -- what stands in a list that is made of several, or of another
 pub flat_cases : {X Y : Type 0} (f : X → List Y) (xs : List X) (y : Y) → Contains (flat_map f xs) y → (x : X) × Contains xs x × Contains (f x) y
@@ -163,11 +164,7 @@ module _ (means : ℕ → Meaning) (headers : Headers) where
 
 -- the nodes that are asked for records are nodes of the expression
 head_alone : (t : Tree) (rest : List Tree) (s : Tree) → Contains (t ∷ []) s → Contains (t ∷ rest) s
-head_alone t rest s h = by_cases (cons_cases t [] s h)
-  where
-    by_cases : (t ≡ s) ⊎ Contains [] s → Contains (t ∷ rest) s
-    by_cases (inl same) = contains_head t rest s same
-    by_cases (inr none) = absurd (contains_none s none)
+head_alone t rest s h = contains_head t rest s (only_is t s h)
 
 lifted : (t : Tree) (xs ys : List Tree) (s : Tree) → (Contains xs s → Contains ys s) → Contains (t ∷ xs) s → Contains (t ∷ ys) s
 lifted t xs ys s go h = by_cases (cons_cases t xs s h)

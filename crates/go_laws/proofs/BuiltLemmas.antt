@@ -1,20 +1,16 @@
 -- Something is asked of what is built, where its identifiers that are asked for records denote something.
-use Rattle.std.proofs.Common.{◌≡◌, ℕ, ℤ, zero, suc, ◌<◌, true, false, Option, Some, None, List, [], ◌∷◌, ◌++◌, ◌⊎◌, inl, inr, length, Contains, refl, sym, ap, ◌∙◌, subst, arith}
+use Rattle.std.proofs.Common.{◌≡◌, ℕ, ℤ, ◌<◌, true, false, Option, Some, None, List, [], ◌∷◌, ◌++◌, ◌⊎◌, inl, inr, length, Contains, refl, sym, subst, arith}
 use Rattle.std.specs.Prelude.{IsSome, option_and_then}
 use Rattle.std.specs.Option.{option_map}
-use Rattle.std.specs.List.{flat_map}
 use Rattle.std.proofs.lemmas.List.Elements.{Contains-append_cases}
 use Rattle.go_tree.specs.declared.node_kind.NodeKind.TheVariants.{AddExpr, IntLit, Name, ParenExpr, SelectorExpr}
 use Rattle.go_tree.specs.Tree.{Tree, Trees, branch, id_of, more_trees, no_trees}
 use Rattle.go_module.proofs.MemberLemmas.{cons_cases, contains_head, contains_none, contains_tail}
 use Rattle.go_model.specs.declared.meaning.Meaning.{Meaning}
 use Rattle.go_model.specs.declared.meaning.Meaning.TheVariants.{Declared, Other, Predeclared}
-use Rattle.go_model.specs.Outcomes.Constructs.Literal.{literal as literal_construct}
 use Rattle.go_model.specs.Outcomes.Constructs.Name.{name as name_construct}
-use Rattle.go_model.specs.Outcomes.Constructs.Parentheses.{parentheses as parentheses_construct}
 use Rattle.go_model.specs.Outcomes.Constructs.Selector.{selector as selector_construct}
-use Rattle.go_model.specs.Outcomes.Constructs.Sum.{sum as sum_construct}
-use Rattle.go_model.specs.Outcomes.Judged.{Asks, Construct}
+use Rattle.go_model.specs.Outcomes.Judged.{Asks}
 use Rattle.go_model.specs.Outcomes.Operands.{none_asks, one_asks, two_integers_ask}
 use Rattle.go_model.specs.Outcomes.Records.{HeaderData, RecData, integer_in}
 use Rattle.go_laws.specs.BuiltTrees.{IsBuilt, IsNameLeaf, literal, name, parentheses, selector, sum}

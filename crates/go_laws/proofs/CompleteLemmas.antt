@@ -42,11 +42,12 @@ use Rattle.go_decl.proofs.WaitLemmas.{denoted_may_have}
 use Rattle.go_laws.specs.Complete.{IsComplete, asked_in, values_in}
 use Rattle.go_laws.proofs.Asked.{AreAsked}
 use Rattle.go_laws.proofs.AskedLemmas.{IsGood, IsUnbroken, asked_are_nodes, each_good, flat_cases, flat_contains, map_cases, map_contains}
+use Rattle.go_laws.proofs.DenotedLemmas.{declared_by_number}
 use Rattle.go_laws.proofs.EmptyLemmas.{left_is_empty, map_is_empty, none_of_each, right_is_empty}
 use Rattle.go_laws.proofs.IntegerLemmas.{HaveIntegers, integer_declared, known_integer, record_integer}
 use Rattle.go_laws.proofs.WalkLemmas.{no_walk}
 
--- what a number names is a declaration with that number, and each has one that its number names
+-- what a number names is a declaration with that number
 pub record Names (declarations : List Declaration) (n : ℕ) (d : Declaration) : Type 0 where
   pub among : Contains declarations d
   pub number : (number_of d).0 ≡ n
@@ -61,19 +62,6 @@ declared_names (x ∷ xs) n d e =
     (λ ne. (let there = declared_names xs n d (sym (ap (λ b. cond b (Some x) (declared_as xs n)) (ne_eqb (number_of x).0 n ne)) ∙ e) in
     record { among = contains_tail x xs d there.among; number = there.number }))
     (cases_eq (number_of x).0 n)
-
-names_declared : (declarations : List Declaration) (d : Declaration) → Contains declarations d → (first : Declaration) × (declared_as declarations (number_of d).0 ≡ Some first)
-names_declared [] d h = absurd (contains_none d h)
-names_declared (x ∷ xs) d h =
-    ⊎_elim
-    (λ here. (x, ap (λ b. cond b (Some x) (declared_as xs (number_of d).0)) (eq-eqb (number_of x).0 (number_of d).0 here)))
-    (λ ne. (let there = later ne (cons_cases x xs d h) (names_declared xs d) in
-    (there.0, ap (λ b. cond b (Some x) (declared_as xs (number_of d).0)) (ne_eqb (number_of x).0 (number_of d).0 ne) ∙ there.1)))
-    (cases_eq (number_of x).0 (number_of d).0)
-  where
-    later : ((number_of x).0 ≡ (number_of d).0 → ⊥) → (x ≡ d) ⊎ Contains xs d → (Contains xs d → (first : Declaration) × (declared_as xs (number_of d).0 ≡ Some first)) → (first : Declaration) × (declared_as xs (number_of d).0 ≡ Some first)
-    later ne (inl same) rest = absurd (ne (ap (λ y. (number_of y).0) same))
-    later ne (inr there) rest = rest there
 
 -- a declaration of a spec with as many names as expressions is that of one of these
 pub record IsPair (spec : Spec) (values : List Tree) (d : Declaration) : Type 0 where
@@ -326,7 +314,7 @@ module _ (before : Headers) (means : ℕ → Meaning) (specs : List Spec) (heade
     where
       by_header : (o : Option HeaderData) → headers (number_of d).0 ≡ o → IsSome o
       by_header (Some h) e = refl
-      by_header None e = absurd (let first = names_declared all d among in none_lacks (number_of d).0 (record { missing = e; declaration = first.0; declared = first.1 }))
+      by_header None e = absurd (let first = declared_by_number all d among in none_lacks (number_of d).0 (record { missing = e; declaration = first.0; declared = first.1 }))
 
   pub each_recorded : (t : Tree) → Contains (flat_map (λ spec. spec.values) specs) t → (s : Tree) → Contains (asked_in means t) s → IsSome (record_of means headers s)
   each_recorded t among s h =

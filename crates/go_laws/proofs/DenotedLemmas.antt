@@ -22,12 +22,12 @@ use Rattle.go_module.proofs.TableLemmas.{object_declared}
 use Rattle.go_model.specs.Outcomes.Walk.{Headers}
 use Rattle.go_model.specs.Values.Declared.{declared_as}
 use Rattle.go_model.specs.Values.Meaning.{may_have_header}
-use Rattle.go_laws.specs.Denoting.{ImportsHaveHeaders}
 use Rattle.go_laws.proofs.AskedLemmas.{flat_cases, map_cases}
+use Rattle.go_laws.proofs.Denoting.{ImportsHaveHeaders}
 use Rattle.go_laws.proofs.PickedLemmas.{picked_contains, picked_filter}
 
 -- each declaration has one that its number names
-declared_by_number : (declarations : List Declaration) (d : Declaration) → Contains declarations d → (first : Declaration) × (declared_as declarations (number_of d).0 ≡ Some first)
+pub declared_by_number : (declarations : List Declaration) (d : Declaration) → Contains declarations d → (first : Declaration) × (declared_as declarations (number_of d).0 ≡ Some first)
 declared_by_number [] d h = absurd (contains_none d h)
 declared_by_number (x ∷ xs) d h =
     ⊎_elim

@@ -18,14 +18,15 @@ use Rattle.go_module.proofs.MemberLemmas.{cons_cases, contains_head, contains_no
 use Rattle.go_laws.proofs.AskedLemmas.{flat_cases, map_cases}
 use Rattle.go_laws.proofs.EmptyLemmas.{left_is_empty, right_is_empty}
 
--- a spec has the place of its file
-declaration_file : (file : ℕ) (d : Tree) (spec : Spec) → Contains (specs_in file d) spec → spec.file ≡ file
-declaration_file file (branch id from to ConstDecl text parts) spec h = let made = map_cases (const_spec file) (list_of parts) spec h in ap (λ (s : Spec). s.file) (sym made.2)
-declaration_file file (branch id from to ConstGroup text parts) spec h = let made = map_cases (const_spec file) (list_of parts) spec h in ap (λ (s : Spec). s.file) (sym made.2)
-declaration_file file (branch id from to kind text parts) spec h = absurd (contains_none spec h)
+-- the specs of a declaration are its parts
+pub spec_is : (file : ℕ) (declaration : Tree) (spec : Spec) → Contains (specs_in file declaration) spec → (node : Tree) × Contains (list_of (parts_of declaration)) node × (const_spec file node ≡ spec)
+spec_is file (branch id from to ConstDecl text parts) spec h = map_cases (const_spec file) (list_of parts) spec h
+spec_is file (branch id from to ConstGroup text parts) spec h = map_cases (const_spec file) (list_of parts) spec h
+spec_is file (branch id from to kind text parts) spec h = absurd (contains_none spec h)
 
+-- a spec has the place of its file
 pub spec_file : (file : ℕ) (tree : Tree) (spec : Spec) → Contains (specs_in_file file tree) spec → spec.file ≡ file
-spec_file file tree spec h = let from = flat_cases (specs_in file) (list_of (parts_of tree)) spec h in declaration_file file from.0 spec from.2
+spec_file file tree spec h = let from = flat_cases (specs_in file) (list_of (parts_of tree)) spec h in ap (λ (s : Spec). s.file) (sym (spec_is file from.0 spec from.2).2)
 
 -- what is imported in a file is imported by the package
 in_take : (n : ℕ) (xs : List ℕ) (x : ℕ) → Contains (take n xs) x → Contains xs x

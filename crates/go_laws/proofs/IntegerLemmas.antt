@@ -1,6 +1,6 @@
 -- Where the headers that are known are those of integers, each record is that of an integer, and so is each header that
 -- follows.
-use Rattle.std.proofs.Common.{◌≡◌, ℕ, zero, suc, ℤ, pos, Bool, true, false, Option, Some, None, List, [], ◌∷◌, ◌⊎◌, inl, inr, refl, sym, ap, ◌∙◌, subst, ⊎_elim}
+use Rattle.std.proofs.Common.{◌≡◌, ℕ, zero, suc, ℤ, pos, Bool, true, false, Option, Some, None, List, [], ◌∷◌, ◌⊎◌, inl, inr, refl, sym, ◌∙◌, subst}
 use Rattle.std.specs.Prelude.{IsSome, is_some, option_and_then}
 use Rattle.std.specs.Option.{option_map}
 use Rattle.std.proofs.lemmas.Bool.{cases_eq}
@@ -19,7 +19,6 @@ use Rattle.go_model.specs.declared.meaning.Meaning.{Meaning}
 use Rattle.go_model.specs.declared.meaning.Meaning.TheVariants.{Declared, Other, Predeclared}
 use Rattle.go_model.specs.declared.outcome.Spot.{Spot}
 use Rattle.go_model.specs.declared.outcome.Spot.TheVariants.{Whole}
-use Rattle.go_model.specs.declared.rec.Mode.{Mode}
 use Rattle.go_model.specs.Outcomes.Constructs.Limits.{wide_integer}
 use Rattle.go_model.specs.Outcomes.Constructs.Name.{name}
 use Rattle.go_model.specs.Outcomes.Constructs.Parentheses.{parentheses}
@@ -30,10 +29,10 @@ use Rattle.go_model.specs.Outcomes.Operands.{at_whole}
 use Rattle.go_model.specs.Outcomes.Readings.{record_in}
 use Rattle.go_model.specs.Outcomes.Records.{HeaderData, RecData, constant, declared_header, integer, integer_in, named_record, whole_number}
 use Rattle.go_model.specs.Outcomes.Walk.{Headers, outcome, outcomes}
-use Rattle.go_model.specs.Values.Headers.{Follows, Justified, Known, headers_of}
+use Rattle.go_model.specs.Values.Headers.{Justified, Known, headers_of}
 use Rattle.go_model.specs.Values.Quests.{Asked, Decided, Done, Lacks}
-use Rattle.go_model.specs.Values.Records.{bound_value, header_over, record_of}
-use Rattle.go_model.proofs.HeaderLemmas.{headers_of-here, headers_of-there, stays}
+use Rattle.go_model.specs.Values.Records.{bound_value, record_of}
+use Rattle.go_model.proofs.HeaderLemmas.{headers_of-here, headers_of-there}
 use Rattle.go_expr.specs.Outcomes.{outcome_by_operands}
 use Rattle.go_expr.proofs.NodeOutcomeLemmas.{by_operands_is}
 

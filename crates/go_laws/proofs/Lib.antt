@@ -1,9 +1,11 @@
 pub mod Asked
+pub mod Denoting
 pub mod IntegerLemmas
 pub mod AskedLemmas
 pub mod WalkLemmas
 pub mod CompleteLemmas
 pub mod NodeNumberLemmas
+pub mod NodeFileLemmas
 pub mod PickedLemmas
 pub mod UseLemmas
 pub mod OccursLemmas

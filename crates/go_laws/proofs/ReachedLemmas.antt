@@ -3,10 +3,8 @@
 use Rattle.std.proofs.Common.{◌≡◌, ℕ, zero, suc, ◌+◌, Bool, true, false, Option, Some, None, List, [], ◌∷◌, ◌++◌, ◌⊎◌, inl, inr, length, Contains, refl, sym, ap, ◌∙◌, subst, arith}
 use Rattle.std.specs.Prelude.{◌&&◌, IsSome, is_some, slice_get}
 use Rattle.std.specs.List.{list_all}
-use Rattle.std.proofs.lemmas.Option.{none-some, same_Some}
-use Rattle.go_base.specs.declared.rule.Broken.{Broken}
+use Rattle.std.proofs.lemmas.Option.{same_Some}
 use Rattle.go_graph.specs.Graph.{is_marked}
-use Rattle.go_tree.specs.Tree.{Tree, Trees, branch}
 use Rattle.go_module.specs.Modules.Module.{ModuleData, PackageData}
 use Rattle.go_module.specs.Names.Declarations.{Declaration, declarations_of, number_of}
 use Rattle.go_module.specs.Names.Imports.{known_in}
@@ -16,18 +14,17 @@ use Rattle.go_mod.specs.Folders.{Folder}
 use Rattle.go_load.specs.Loading.{IsModule}
 use Rattle.go_model.specs.Outcomes.Records.{HeaderData}
 use Rattle.go_model.specs.Outcomes.Walk.{Headers}
-use Rattle.go_model.specs.Phases.{AreReports, BreaksValues, HasHeaders, IsVerdict, ReportOf, all_told, by_names, by_values, checks as checks_report, imports_accepted, is_accepted, no_headers, package_report, skips as skips_report, sound}
+use Rattle.go_model.specs.Phases.{AreReports, IsVerdict, ReportOf, all_told, by_names, by_values, checks as checks_report, imports_accepted, is_accepted, package_report, skips as skips_report, sound}
 use Rattle.go_model.specs.Report.{LineData, NamedData, PackageReportData, ReportData, VerdictData, accepted, refused, skipped}
 use Rattle.go_model.specs.Values.Meaning.{meaning_in}
 use Rattle.go_model.specs.Values.Quests.{IsPart}
 use Rattle.go_laws.specs.BuiltTrees.{ValuesAreBuilt}
-use Rattle.go_laws.specs.Complete.{IsComplete, asked_in, values_in}
-use Rattle.go_laws.specs.Denoting.{ImportsHaveHeaders}
+use Rattle.go_laws.specs.Complete.{IsAcceptedAt, IsComplete, IsReached, checks, first, skips, values_in}
 use Rattle.go_laws.specs.NodeNumbers.{NodeNumbersAscend}
-use Rattle.go_laws.specs.Reached.{IsAcceptedAt, IsReached, checks, first, skips}
 use Rattle.go_laws.proofs.Asked.{AreAsked}
 use Rattle.go_laws.proofs.BuiltLemmas.{built_asked}
 use Rattle.go_laws.proofs.CompleteLemmas.{complete_where_asked}
+use Rattle.go_laws.proofs.Denoting.{ImportsHaveHeaders}
 use Rattle.go_laws.proofs.DenotingLemmas.{names_denote}
 use Rattle.go_laws.proofs.IntegerLemmas.{HaveIntegers, known_integer}
 use Rattle.go_laws.proofs.NodeNumberLemmas.{node_numbers_ascend}

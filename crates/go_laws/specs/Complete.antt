@@ -1,13 +1,16 @@
--- Constant declarations; Constant expressions (Go specification).
--- Says which nodes of an expression are asked for records, and what it is that a package is complete.
-use Rattle.std.specs.Prelude.{ℕ, List, [], ◌∷◌, Contains, IsSome}
+-- Constant declarations; Constant expressions; Packages; Package initialization (Go specification).
+-- Says which nodes of an expression are asked for records, what it is that a package is complete, and through which states
+-- the check of a module goes.
+use Rattle.std.specs.Prelude.{◌≡◌, ℕ, ◌+◌, Bool, true, false, Some, List, [], ◌∷◌, ◌++◌, Contains, IsSome, slice_get}
 use Rattle.std.specs.List.{flat_map}
 use Rattle.go_graph.specs.Graph.{row_at}
 use Rattle.go_tree.specs.Tree.{Tree, Trees, branch, list_of, more_trees, no_trees}
-use Rattle.go_module.specs.Modules.Module.{PackageData}
+use Rattle.go_module.specs.Modules.Module.{ModuleData, PackageData}
 use Rattle.go_module.specs.Names.Declarations.{Declaration, declarations_of, number_of, specs_of}
 use Rattle.go_model.specs.declared.meaning.Meaning.{Meaning}
 use Rattle.go_model.specs.Outcomes.Walk.{Headers, construct}
+use Rattle.go_model.specs.Phases.{IsVerdict, imports_accepted, is_accepted, no_headers}
+use Rattle.go_model.specs.Report.{LineData, NamedData, VerdictData, accepted}
 use Rattle.go_model.specs.Values.Records.{record_of}
 
 -- the nodes of an expression that are asked for records: itself, and those of its operands
@@ -27,3 +30,27 @@ values_in p = flat_map (λ spec. spec.values) (specs_of p)
 pub record IsComplete (means : ℕ → Meaning) (headers : Headers) (p : PackageData) : Type 0 where
   pub declared : (d : Declaration) → Contains (declarations_of p) d → IsSome (headers (number_of d).0)
   pub recorded : (t : Tree) → Contains (values_in p) t → (s : Tree) → Contains (asked_in means t) s → IsSome (record_of means headers s)
+
+-- STATES OF THE CHECK
+
+-- the packages before a place are checked: the marks say which of them are accepted, and these headers are known
+pub data IsReached (m : ModuleData) : ℕ → List Bool → Headers → Type 0 where
+  first : IsReached m 0 [] no_headers
+  skips : (k : ℕ) (marks : List Bool) (before : Headers) (p : PackageData)
+      → IsReached m k marks before → slice_get m.packages k ≡ Some p → imports_accepted marks p ≡ false
+      → IsReached m (k + 1) (marks ++ false ∷ []) before
+  checks : (k : ℕ) (marks : List Bool) (before after : Headers) (verdict : VerdictData) (p : PackageData)
+      → IsReached m k marks before → slice_get m.packages k ≡ Some p → imports_accepted marks p ≡ true → IsVerdict m k p before verdict after
+      → IsReached m (k + 1) (marks ++ is_accepted verdict ∷ []) after
+
+-- the check of a module comes to the package at a place, whose imports are accepted, and accepts it
+pub record IsAcceptedAt (m : ModuleData) (k : ℕ) (p : PackageData) (verdict : VerdictData) : Type 0 where
+  pub marks : List Bool
+  pub before : Headers
+  pub after : Headers
+  pub lines : List LineData
+  pub named : List NamedData
+  pub is : verdict ≡ accepted lines named
+  pub reached : IsReached m k marks before
+  pub imports : imports_accepted marks p ≡ true
+  pub verdict_is : IsVerdict m k p before (accepted lines named) after

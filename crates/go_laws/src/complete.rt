@@ -9,8 +9,7 @@ ghost use Rattle.go_model.specs.Phases.{IsVerdict, ReportOf, imports_accepted, i
 ghost use Rattle.go_model.specs.Report.{LineData, NamedData, PackageReportData, ReportData, accepted};
 ghost use Rattle.go_model.specs.Values.Meaning.{meaning_in};
 ghost use Rattle.go_laws.specs.BuiltTrees.{ValuesAreBuilt};
-ghost use Rattle.go_laws.specs.Complete.{IsComplete};
-ghost use Rattle.go_laws.specs.Reached.{IsAcceptedAt, IsReached};
+ghost use Rattle.go_laws.specs.Complete.{IsAcceptedAt, IsComplete, IsReached};
 
 /// Where the check of a module that is loaded comes to a package whose imports are accepted, and accepts it, each
 /// declaration of the package has a header, and each node of its expressions that is asked for a record has one.
