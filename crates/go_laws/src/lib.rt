@@ -8,6 +8,5 @@
 mod complete;
 mod numbers;
 
-pub use complete::accepted_is_complete;
-pub use complete::reports_are_reached;
+pub use complete::{accepted_is_complete, reports_are_reached};
 pub use numbers::node_numbers_ascend;
