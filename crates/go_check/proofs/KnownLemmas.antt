@@ -12,7 +12,8 @@ use Rattle.go_expr.specs.declared.around.Around.{Around}
 use Rattle.go_expr.specs.Table.{headers_by, value_at, values_by}
 use Rattle.go_expr.specs.View.{IsAround, before_by, headers_listed, integer_header, places_by, values_before}
 use Rattle.go_expr.proofs.TableLemmas.{values_are}
-use Rattle.go_decl.proofs.PlaceLemmas.{found_behind, is_same, open_is, same_is}
+use Rattle.go_model.proofs.EntryLemmas.{found_behind, is_same, same_is}
+use Rattle.go_decl.proofs.PlaceLemmas.{open_is}
 use Rattle.go_check.specs.Packages.Known.{values_in}
 
 module _ (values : ℕ → Option ℤ) (q : ObjId) where

@@ -48,7 +48,8 @@ fn are_unequal(around: &Around, table: &[Option<i128>], names: &[Node], values: 
 
 // Whether all of these expressions have records.
 fn have_records(around: &Around, table: &[Option<i128>], values: &[Node]) -> bool
-    ensures { result ≡ list_all (λ value. is_some (record_of (means_by around.now) (headers_by around.now table.now) value))
+    ensures { result ≡ list_all
+        (λ value. is_some (record_of (means_by around.now) (headers_by around.now table.now) value))
         (map tree_of values.now) }
 {
     each_has_record(around, table, values)

@@ -123,7 +123,8 @@ fn push_declarations(
     lines: &mut Vec<Line>,
 ) -> Result<(), NoMemory>
     ensures { OnOk result (map line_view lines.new.items ≡ map line_view lines.old.items ++ flat_map
-        (spec.declaration_defs file.now.stub (file_view file.now.file.now) (means_by around.now) (headers_by around.now table.now))
+        (spec.declaration_defs file.now.stub (file_view file.now.file.now) (means_by around.now)
+        (headers_by around.now table.now))
         (declarations_view declarations.now)) }
 {
     for declaration in declarations {
@@ -142,8 +143,8 @@ fn push_declaration(
     lines: &mut Vec<Line>,
 ) -> Result<(), NoMemory>
     ensures { OnOk result (map line_view lines.new.items ≡ map line_view lines.old.items
-        ++ spec.declaration_defs file.now.stub (file_view file.now.file.now) (means_by around.now) (headers_by around.now table.now)
-        (declaration_view declaration.now)) }
+        ++ spec.declaration_defs file.now.stub (file_view file.now.file.now) (means_by around.now)
+        (headers_by around.now table.now) (declaration_view declaration.now)) }
 {
     if let Some(v) = value_over(around, table, declaration) {
         let kind = DefKind::Const(Term::Basic(Basic::UntypedInt), Value::Int(v));

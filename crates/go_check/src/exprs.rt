@@ -53,7 +53,8 @@ fn push_spec(
     lines: &mut Vec<Line>,
 ) -> Result<(), NoMemory>
     ensures { OnOk result (map line_view lines.new.items ≡ map line_view lines.old.items ++ flat_map
-        (rule.expr_at file.now.stub (file_view file.now.file.now) (means_by around.now) (headers_by around.now table.now))
+        (rule.expr_at file.now.stub (file_view file.now.file.now) (means_by around.now)
+        (headers_by around.now table.now))
         (nodes_in_parts (spec_view spec.now))) }
 {
     push_nodes(alloc, file, around, table, spec.types, lines)?;
@@ -70,7 +71,8 @@ fn push_nodes(
     lines: &mut Vec<Line>,
 ) -> Result<(), NoMemory>
     ensures { OnOk result (map line_view lines.new.items ≡ map line_view lines.old.items ++ flat_map
-        (rule.expr_at file.now.stub (file_view file.now.file.now) (means_by around.now) (headers_by around.now table.now))
+        (rule.expr_at file.now.stub (file_view file.now.file.now) (means_by around.now)
+        (headers_by around.now table.now))
         (flat_map nodes_in (map tree_of nodes.now))) }
 {
     for node in nodes {
@@ -103,7 +105,8 @@ fn push_one(file: &OwnFile, node: &Evaluated, lines: &mut Vec<Line>) -> Result<(
 // The line of an expression with that record.
 fn expr_line(file: &OwnFile, node: &Node, found: Integer) -> Result<Line, NoMemory>
     ensures { IfOk result (λ line. line_view line ∷ [] ≡ rule.record_line file.now.stub
-        (file_view file.now.file.now) (start_of (tree_of node.now)) (end_of (tree_of node.now)) (Some (integer_record found))) }
+        (file_view file.now.file.now) (start_of (tree_of node.now)) (end_of (tree_of node.now))
+        (Some (integer_record found))) }
 {
     let end = file.file.line_col(node.end());
     let term = Term::Basic(Basic::UntypedInt);

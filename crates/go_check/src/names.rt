@@ -29,7 +29,8 @@ pub struct Names {
 /// The scopes of the packages of a module, and what their names break, before any value is asked. An error is want of
 /// memory.
 pub fn names_of(alloc: Global, module: &Module) -> Result<Names, NoMemory>
-    ensures { IfOk result (λ names. spec.AreNames (module_view «module».now) (length «module».now.packages.items) names) }
+    ensures { IfOk result (λ names.
+        spec.AreNames (module_view «module».now) (length «module».now.packages.items) names) }
 {
     let mut names = Names {
         scopes: Vec::new(alloc),

@@ -77,7 +77,8 @@ fn check_values(
 ) -> Result<Verdict, NoMemory>
     ensures { IfOk result (λ verdict. (m : ModuleData) (k : ℕ) → slice_get m.packages k ≡ Some (package_view own.now)
         → outline_view outline.now ≡ outline_of m → AreUses m k uses.now.entries → phases.IsVerdict m k
-        (package_view own.now) (headers_listed before.old.entries) (verdict_view verdict) (headers_listed before.new.entries)) }
+        (package_view own.now) (headers_listed before.old.entries) (verdict_view verdict)
+        (headers_listed before.new.entries)) }
 {
     let files = own_files(alloc, own)?;
     let declarations = declarations_of(alloc, &files)?;
@@ -188,10 +189,7 @@ fn push_value(
 }
 
 // Adds values to those that are known.
-fn add_values(
-    before: &mut IndexMap<ObjId, i128>,
-    values: &[(ObjId, i128)],
-) -> Result<(), NoMemory>
+fn add_values(before: &mut IndexMap<ObjId, i128>, values: &[(ObjId, i128)]) -> Result<(), NoMemory>
     ensures { OnOk result (before.new.entries ≡ insert_all same_object before.old.entries values.now) }
 {
     for (number, value) in values {

@@ -106,7 +106,8 @@ fn push_specs(
     found: &mut Vec<Broken>,
 ) -> Result<(), NoMemory>
     ensures { OnOk result (found.new.items ≡ found.old.items
-        ++ flat_map (rules.broken_spec (means_by around.now) (headers_by around.now table.now)) (specs_view specs.now)) }
+        ++ flat_map (rules.broken_spec (means_by around.now) (headers_by around.now table.now))
+        (specs_view specs.now)) }
 {
     for spec in specs {
         push_spec(alloc, around, table, spec, found)?;

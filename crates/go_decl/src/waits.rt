@@ -122,7 +122,8 @@ fn push_awaited(
     numbers: &mut Numbers,
 ) -> Result<(), NoMemory>
     ensures { OnOk result (numbers.new ≡ numbers.old
-        ++ flat_map (awaited_by_nodes (means_by around.now) (headers_by around.now table.now)) (map tree_of nodes.now)) }
+        ++ flat_map (awaited_by_nodes (means_by around.now) (headers_by around.now table.now))
+        (map tree_of nodes.now)) }
 {
     for node in nodes {
         push_awaited_in(alloc, around, table, node, numbers)?;

@@ -57,7 +57,8 @@ impl<'a> Around<'a> {
         self.places.get(&d).is_some() || self.before.get(&d).is_some()
     }
 
-    /// The value of a declaration that is an integer constant, which the table has at its place, or which is known before.
+    /// The value of a declaration that is an integer constant: what the table has at its place, or what is known
+    /// before.
     pub fn value(&self, table: &[Option<i128>], d: ObjId) -> Option<i128>
         ensures { result ≡ values_by self.now table.now d.0 }
     {

@@ -80,7 +80,8 @@ fn with_outcome<'a>(
 ) -> Evaluated<'a>
     requires { map outcome_view outcomes.now
         ≡ map (outcome (means_by around.now) (headers_by around.now table.now)) (inner_parts (tree_of node.now)) }
-    ensures { spec.evaluated_view result ≡ spec.evaluated (means_by around.now) (headers_by around.now table.now) (tree_of node.now) }
+    ensures { spec.evaluated_view result
+        ≡ spec.evaluated (means_by around.now) (headers_by around.now table.now) (tree_of node.now) }
 {
     Evaluated {
         node,
@@ -118,7 +119,8 @@ fn selector_by_parts(
     meaning: Meaning,
     outcomes: &[NodeOutcome],
 ) -> NodeOutcome
-    ensures { outcome_view result ≡ selector_by_parts (headers_by around.now table.now) meaning (map outcome_view outcomes.now) }
+    ensures { outcome_view result
+        ≡ selector_by_parts (headers_by around.now table.now) meaning (map outcome_view outcomes.now) }
 {
     match only(outcomes) {
         Some(operand) => selector(around, table, meaning, operand),

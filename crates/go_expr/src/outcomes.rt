@@ -24,14 +24,16 @@ use go_tree::{Node, NodeKind};
 
 /// The outcome of a node of an expression over the headers that the table has.
 pub fn outcome(around: &Around, table: &[Option<i128>], node: &Node) -> NodeOutcome
-    ensures { outcome_view result ≡ walk.outcome (means_by around.now) (headers_by around.now table.now) (tree_of node.now) }
+    ensures { outcome_view result
+        ≡ walk.outcome (means_by around.now) (headers_by around.now table.now) (tree_of node.now) }
 {
     found(around, table, node)
 }
 
 // The outcome as it is found, by the kind of the node, from those of its operands.
 fn found(around: &Around, table: &[Option<i128>], node: &Node) -> NodeOutcome
-    ensures { outcome_view result ≡ outcome_by_operands (means_by around.now) (headers_by around.now table.now) (tree_of node.now) }
+    ensures { outcome_view result
+        ≡ outcome_by_operands (means_by around.now) (headers_by around.now table.now) (tree_of node.now) }
 {
     match node.kind() {
         NodeKind::IntLit => literal(node.text()),
@@ -59,7 +61,8 @@ fn found(around: &Around, table: &[Option<i128>], node: &Node) -> NodeOutcome
 
 /// The record of an expression over the headers that the table has; None where its outcome is another.
 pub fn record(around: &Around, table: &[Option<i128>], node: &Node) -> Option<Integer>
-    ensures { option_map integer_record result ≡ records.record_of (means_by around.now) (headers_by around.now table.now) (tree_of node.now) }
+    ensures { option_map integer_record result
+        ≡ records.record_of (means_by around.now) (headers_by around.now table.now) (tree_of node.now) }
 {
     outcome(around, table, node).record()
 }
@@ -84,8 +87,8 @@ pub fn value_over(
     table: &[Option<i128>],
     declaration: &Declaration,
 ) -> Option<i128>
-    ensures { option_map integer_header result ≡ records.header_over (means_by around.now) (headers_by around.now table.now)
-        (declaration_view declaration.now) }
+    ensures { option_map integer_header result ≡ records.header_over (means_by around.now)
+        (headers_by around.now table.now) (declaration_view declaration.now) }
 {
     Some(record(around, table, bound_value(declaration)?)?.value)
 }

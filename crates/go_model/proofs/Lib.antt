@@ -1,4 +1,5 @@
 pub mod EachLemmas
+pub mod EntryLemmas
 pub mod EndLemmas
 pub mod ExactLemmas
 pub mod ExactWaitLemmas

@@ -3,6 +3,7 @@ pub mod Declared
 pub mod Meaning
 pub mod Records
 pub mod Headers
+pub mod Known
 pub mod Quests
 pub mod Waiting
 pub mod Rules

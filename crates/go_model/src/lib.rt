@@ -12,7 +12,9 @@
 mod laws;
 
 // What is known of declarations and expressions.
+mod ask;
 mod header;
+mod headers;
 mod meaning;
 mod outcome;
 mod rec;
@@ -26,12 +28,14 @@ mod report;
 #[cfg(test)]
 mod law_tests;
 
+pub use ask::Ask;
 pub use declared_object::DeclaredObject;
 pub use go_module::{
     At, Block, Import, Method, Module, ObjId, ObjKind, Object, Occurrence, Package, Placed, Region,
     Scopes, Selected, SourceFile,
 };
 pub use header::Header;
+pub use headers::Headers;
 pub use laws::{
     decided_stays, declared_everywhere, one_header, one_report, outcomes_exactly, outcomes_stay,
 };

@@ -1,0 +1,50 @@
+-- What a map by the numbers of objects has behind one more entry.
+use Rattle.std.proofs.Common.{◌≡◌, ℕ, Bool, true, false, cond, Option, Some, None, List, [], ◌∷◌, refl, sym, ap, ◌∙◌, arith}
+use Rattle.std.specs.Prelude.{◌==◌, if◌then◌else◌}
+use Rattle.std.specs.Map.{lookup}
+use Rattle.std.specs.Option.{option_map}
+use Rattle.std.proofs.lemmas.Bool.Decides.{nat_tests}
+use Rattle.indexmap.specs.IndexMap.{insert_entry}
+use Rattle.go_base.specs.declared.ids.ObjId.{ObjId}
+use Rattle.go_module.specs.Scopes.{same_object}
+
+pub same_is : (a b : ObjId) → same_object a b ≡ true → a ≡ b
+same_is a b e = let at : a.0 ≡ b.0 = grind (arith, nat_tests) in λ i. record { 0 = at i }
+
+pub is_same : (a b : ObjId) → a ≡ b → same_object a b ≡ true
+is_same a b e = let at : a.0 ≡ b.0 = ap (λ (d : ObjId). d.0) e in grind (arith, nat_tests)
+
+module _ {V : Type 0} (q : ObjId) where
+  replaced : (b c : Bool) (v w : V) (rest : Option V) → b ≡ c → cond b (Some v) rest ≡ cond c (Some v) (cond b (Some w) rest)
+  replaced true c v w rest e = ap (λ x. cond x (Some v) (Some w)) e
+  replaced false c v w rest e = ap (λ x. cond x (Some v) rest) e
+
+  apart : (b c : Bool) (v w : V) (rest : Option V) → (b ≡ true → c ≡ true → ⊥) → cond b (Some w) (cond c (Some v) rest) ≡ cond c (Some v) (cond b (Some w) rest)
+  apart true true v w rest no_both = absurd (no_both refl refl)
+  apart true false v w rest no_both = refl
+  apart false c v w rest no_both = refl
+
+  -- what is found behind one more entry
+  pub found_behind : (es : List (ObjId × V)) (k : ObjId) (v : V) → lookup (same_object q) (insert_entry same_object es k v) ≡ cond (same_object q k) (Some v) (lookup (same_object q) es)
+  found_behind [] k v = refl
+  found_behind (e ∷ es) k v = by_key (same_object k e.0) refl (found_behind es k v)
+    where
+      by_key : (b : Bool) → same_object k e.0 ≡ b → lookup (same_object q) (insert_entry same_object es k v) ≡ cond (same_object q k) (Some v) (lookup (same_object q) es)
+          → lookup (same_object q) (if b then (e.0, v) ∷ es else e ∷ insert_entry same_object es k v) ≡ cond (same_object q k) (Some v) (cond (same_object q e.0) (Some e.1) (lookup (same_object q) es))
+      by_key true at rest = replaced (same_object q e.0) (same_object q k) v e.1 (lookup (same_object q) es) (ap (same_object q) (sym (same_is k e.0 at)))
+      by_key false at rest =
+          ap (λ o. cond (same_object q e.0) (Some e.1) o) rest
+          ∙ apart (same_object q e.0) (same_object q k) v e.1 (lookup (same_object q) es)
+          (λ one other. let same = is_same k e.0 (sym (same_is q k other) ∙ same_is q e.0 one) in cc (same, at))
+
+-- and what is made of it, by the number
+chosen : {V W : Type 0} (f : V → W) (b c : Bool) (v : V) (rest : Option V) → b ≡ c → option_map f (cond b (Some v) rest) ≡ (if c then Some (f v) else option_map f rest)
+chosen f b true v rest e = ap (λ x. option_map f (cond x (Some v) rest)) e
+chosen f b false v rest e = ap (λ x. option_map f (cond x (Some v) rest)) e
+
+pub mapped_behind : {V W : Type 0} (f : V → W) (es : List (ObjId × V)) (k : ObjId) (v : V) (e : ℕ)
+    → option_map f (lookup (same_object (record { 0 = e })) (insert_entry same_object es k v)) ≡ (if k.0 == e then Some (f v) else option_map f (lookup (same_object (record { 0 = e })) es))
+mapped_behind f es k v e =
+    let q : ObjId = record { 0 = e } in
+    let same : same_object q k ≡ (k.0 == e) = grind (arith, nat_tests) in
+    ap (option_map f) (found_behind q es k v) ∙ chosen f (same_object q k) (k.0 == e) v (lookup (same_object q) es) same

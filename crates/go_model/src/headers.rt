@@ -1,0 +1,59 @@
+// The headers that are known (Go specification, "Declarations and scope").
+ghost use Rattle.std.specs.Prelude.{◌≡◌, ℕ, [], ◌∷◌, None, OnErr, OnOk};
+ghost use Rattle.std.specs.Option.{option_map};
+ghost use Rattle.go_model.specs.Outcomes.Records.{header_view};
+ghost use Rattle.go_model.specs.Values.Headers.{headers_of};
+ghost use Rattle.go_model.specs.Values.Known.{headers_view};
+
+use crate::ask::Ask;
+use crate::header::Header;
+use go_base::NoMemory;
+use go_module::ObjId;
+use indexmap::IndexMap;
+use std::alloc::Global;
+
+/// Headers by the numbers of their declarations, each once.
+#[derive(Drop)]
+pub struct Headers {
+    table: IndexMap<ObjId, Header>,
+}
+
+impl Headers {
+    /// No header.
+    pub fn new(alloc: Global) -> Headers
+        ensures { (d : ℕ) → headers_view result d ≡ None }
+    {
+        Headers {
+            table: IndexMap::new(alloc),
+        }
+    }
+
+    /// The header of a declaration, None exactly where it has none.
+    pub fn get(&self, d: ObjId) -> Option<&Header>
+        ensures { option_map (λ header. header_view header.now) result ≡ headers_view self.now d.0 }
+    {
+        self.table.get(&d)
+    }
+
+    /// Adds the header of a declaration that has none. An error is want of memory, and leaves the headers as they were.
+    pub fn add(&mut self, d: ObjId, header: Header) -> Result<(), NoMemory>
+        requires { headers_view self.old d.0 ≡ None }
+        ensures added { OnOk result ((e : ℕ) → headers_view self.new e
+            ≡ headers_of (headers_view self.old) ((d.0, header_view header) ∷ []) e) }
+        ensures err { OnErr result ((e : ℕ) → headers_view self.new e ≡ headers_view self.old e) }
+    {
+        self.table.insert(d, header)?;
+        Ok(())
+    }
+}
+
+impl Ask for Headers {
+    ghost known = { headers_view };
+
+    fn ask(&mut self, d: ObjId) -> Result<Option<Header>, NoMemory> {
+        match self.table.get(&d) {
+            Some(header) => Ok(Some(header.clone()?)),
+            None => Ok(None),
+        }
+    }
+}
