@@ -6,3 +6,6 @@ pub mod PartShapes
 pub mod PartShapeLemmas
 pub mod PartReadingLemmas
 pub mod GrammarShapes
+pub mod WholeShapeLemmas
+pub mod BuiltTreeLemmas
+pub mod BuiltModuleLemmas
