@@ -1,8 +1,6 @@
 -- What is read has the parts that the effects of the productions tell, where the table of these is right.
-use Rattle.std.proofs.Common.{◌≡◌, ℕ, zero, suc, Bool, true, false, cond, ◌&&◌, List, [], ◌∷◌, ◌++◌, Option, None, Some, refl, sym, ap, subst, ◌∙◌, append_assoc, reverse}
+use Rattle.std.proofs.Common.{◌≡◌, ℕ, zero, suc, Bool, true, false, cond, List, [], ◌∷◌, ◌++◌, Option, None, Some, refl, sym, ap, subst, ◌∙◌, append_assoc}
 use Rattle.std.proofs.lemmas.Bool.{and_parts}
-use Rattle.go_tree.specs.declared.token.Token.{Token}
-use Rattle.go_tree.specs.declared.token.TokenKind.{TokenKind}
 use Rattle.go_tree.specs.declared.node_kind.NodeKind.{NodeKind}
 use Rattle.go_tree.specs.Tree.{Tree, start_of}
 use Rattle.go_tree.specs.Grammar.RightSide.{RightSide, Do, Call, Nothing, Seq, Or, Many, When, Act, Pass, Open, Reopen, Adopt, CheckType, Close}
@@ -10,13 +8,14 @@ use Rattle.go_tree.specs.Grammar.Trees.Reading.{OpenNode, Reads, State, acted, a
 use Rattle.go_tree.proofs.BalanceLemmas.{ReadsIn, at_end_in, does_in, calls_in, nothing_in, in_turn_in, left_in, right_in, done_in, again_in, chosen_in, passed_by_in, counted, Both_parts, parts_of_reading, takes_steps}
 use Rattle.go_tree.proofs.ReadingEffectLemmas.{checked_same, passed_any}
 use Rattle.go_laws.proofs.TreeShapes.{Sort, Never, Named, Operand, Spec, Anything, Fine, sort_of, within}
-use Rattle.go_laws.proofs.PartShapes.{Adds, Content, Effect, Fills, Shape, Turns, all_cover, adopted_by, behind, content, covers, ends_with, entry, flow, flow_act, flow_call, has_effect, if_settled, innermost_of, is_empty, is_one, join, join_both, join_contents, join_shapes, joined, may_close, no_parts, one_filled, one_new, onto, opened, pushed, reopened_by, repeated_flow, settled_at, settled_by, settled_next, settles, stack, take_needed, then_flow, turned, with_innermost}
-use Rattle.go_laws.proofs.PartShapeLemmas.{Are, Holds, closed_shape, covers_holds, fine_within, holds_behind, holds_pushed, joined_left, joined_right, none_new, one_part, parts_shaped, sort_itself}
+use Rattle.go_laws.proofs.PartShapes.{Adds, Content, Effect, Fills, Shape, Turns, all_cover, adopted_by, behind, content, covers, ends_with, entry, flow, flow_act, flow_call, has_effect, if_settled, innermost_of, is_empty, join, join_both, join_contents, join_shapes, joined, may_close, no_parts, one_filled, one_new, onto, opened, pushed, reopened_by, repeated_flow, settled_at, settled_by, settled_next, settles, stack, take_needed, then_flow, turned, with_innermost}
+use Rattle.go_laws.proofs.PartShapeLemmas.{Are, Holds, closed_shape, covers_holds, fine_within, holds_behind, holds_pushed, joined_left, joined_right, no_part, one_part, parts_shaped, sort_itself}
 
 -- an open node with further parts
 abbrev pub with_parts : List Tree → OpenNode → OpenNode
 with_parts xs f = record { start = f.start; parts = xs ++ f.parts }
 
+-- these on top of f, which has new parts, and of those below it
 abbrev pub standing : OpenNode → List OpenNode → List OpenNode → List Tree → List OpenNode
 standing f below tops new = tops ++ (with_parts new f ∷ below)
 
@@ -36,14 +35,18 @@ pub record OnTop (σ : Shape) (f : OpenNode) (below fs : List OpenNode) : Type 0
   pub fit : Fits σ tops new
   pub are : fs ≡ standing f below tops new
 
-moved : (σ τ : Shape) (f : OpenNode) (below fs gs : List OpenNode) → fs ≡ gs → σ ≡ τ → OnTop σ f below fs → OnTop τ f below gs
-moved σ τ f below fs gs p q o = subst (λ x. OnTop x f below gs) q (subst (λ x. OnTop σ f below x) p o)
+opened_on : (u : Content) (σ : Shape) (f : OpenNode) (below : List OpenNode) (g : OpenNode) (fs gs : List OpenNode) → gs ≡ g ∷ fs → Holds u g.parts → OnTop σ f below fs → OnTop (opened u σ) f below gs
+opened_on u (stack us b) f below g fs gs e h o = record { tops = g ∷ o.tops; new = o.new; fit = ((h, o.fit.0), o.fit.1); are = e ∙ ap (λ x. g ∷ x) o.are }
 
-opened_on : (u : Content) (σ : Shape) (f : OpenNode) (below : List OpenNode) (g : OpenNode) (fs : List OpenNode) → Holds u g.parts → OnTop σ f below fs → OnTop (opened u σ) f below (g ∷ fs)
-opened_on u (stack us b) f below g fs h o = record { tops = g ∷ o.tops; new = o.new; fit = ((h, o.fit.0), o.fit.1); are = ap (λ x. g ∷ x) o.are }
+same_nodes : (σ : Shape) (f : OpenNode) (below fs gs : List OpenNode) → gs ≡ fs → OnTop σ f below fs → OnTop σ f below gs
+same_nodes σ f below fs gs e o = record { tops = o.tops; new = o.new; fit = o.fit; are = e ∙ o.are }
+
+same_shape : (σ τ : Shape) (f : OpenNode) (below fs : List OpenNode) → Some σ ≡ Some τ → OnTop σ f below fs → OnTop τ f below fs
+same_shape σ τ f below fs q o = let y : σ ≡ τ = cc in subst (λ x. OnTop x f below fs) y o
 
 -- ---- the innermost node, be it one of these or the one round them
 
+-- the node as its parts make it, what the acts make of it, and that others may stand in place of these parts
 pub record Innermost (σ : Shape) (f : OpenNode) (below fs : List OpenNode) : Type 0 where
   pub parts : List Tree
   pub made : List Tree → OpenNode
@@ -54,48 +57,55 @@ pub record Innermost (σ : Shape) (f : OpenNode) (below fs : List OpenNode) : Ty
   pub reopens : (x : Tree) (ys : List Tree) (gs : List OpenNode) → reopen (made (x ∷ ys) ∷ gs) ≡ record { start = start_of x; parts = x ∷ [] } ∷ made ys ∷ gs
   pub adopts : (g : OpenNode) (x : Tree) (ys : List Tree) (gs : List OpenNode) → adopt (g ∷ made (x ∷ ys) ∷ gs) ≡ record { start = start_of x; parts = g.parts ++ x ∷ [] } ∷ made ys ∷ gs
   pub closes : (bytes : List ℕ) (kind : NodeKind) (to : ℕ) (g : OpenNode) (ys : List Tree) (gs : List OpenNode) → close_last bytes kind to (g ∷ made ys ∷ gs) ≡ made (node_read bytes kind to g ∷ ys) ∷ gs
-  pub back : (v : Content) (ys : List Tree) → Holds v ys → OnTop (with_innermost v σ) f below (made ys ∷ rest)
+  pub back : (v : Content) (ys : List Tree) (gs : List OpenNode) → gs ≡ made ys ∷ rest → Holds v ys → OnTop (with_innermost v σ) f below gs
 
-innermost_here : (us : List Content) (b : Content) (f : OpenNode) (below tops : List OpenNode) (new : List Tree) → HaveContents us tops → Holds b new → Innermost (stack us b) f below (standing f below tops new)
-innermost_here [] b f below [] new h n = record {
+innermost_of_tops : (us : List Content) (b : Content) (f : OpenNode) (below fs tops : List OpenNode) (new : List Tree) → fs ≡ standing f below tops new → HaveContents us tops → Holds b new → Innermost (stack us b) f below fs
+innermost_of_tops [] b f below fs [] new e h n = record {
   parts = new;
   made = λ ys. with_parts ys f;
   rest = below;
   holds = n;
-  are = refl;
+  are = e;
   grows = λ t ys. refl;
   reopens = λ x ys gs. refl;
   adopts = λ g x ys gs. refl;
   closes = λ bytes kind to g ys gs. refl;
-  back = λ v ys h. record { tops = []; new = ys; fit = (tt, h); are = refl };
+  back = λ v ys gs e h. record { tops = []; new = ys; fit = (tt, h); are = e };
 }
-innermost_here [] b f below (g ∷ tops) new h n = absurd h
-innermost_here (u ∷ us) b f below [] new h n = absurd h
-innermost_here (u ∷ us) b f below (g ∷ tops) new h n = record {
+innermost_of_tops [] b f below fs (g ∷ tops) new e h n = absurd h
+innermost_of_tops (u ∷ us) b f below fs [] new e h n = absurd h
+innermost_of_tops (u ∷ us) b f below fs (g ∷ tops) new e h n = record {
   parts = g.parts;
   made = λ ys. record { start = g.start; parts = ys };
   rest = standing f below tops new;
   holds = h.0;
-  are = refl;
+  are = e;
   grows = λ t ys. refl;
   reopens = λ x ys gs. refl;
   adopts = λ g x ys gs. refl;
   closes = λ bytes kind to g ys gs. refl;
-  back = λ v ys i. record { tops = record { start = g.start; parts = ys } ∷ tops; new = new; fit = ((i, h.1), n); are = refl };
+  back = λ v ys gs e i. record { tops = record { start = g.start; parts = ys } ∷ tops; new = new; fit = ((i, h.1), n); are = e };
 }
 
 pub innermost : (σ : Shape) (f : OpenNode) (below fs : List OpenNode) → OnTop σ f below fs → Innermost σ f below fs
-innermost (stack us b) f below fs o = subst (λ x. Innermost (stack us b) f below x) (sym o.are) (innermost_here us b f below o.tops o.new o.fit.0 o.fit.1)
+innermost (stack us b) f below fs o = innermost_of_tops us b f below fs o.tops o.new o.are o.fit.0 o.fit.1
 
--- the newest part, and the others
-first_part : (c : Sort) (cs : List Sort) (d : Sort) (xs : List Tree) → Are (c ∷ cs) d xs → (x : Tree) × (ys : List Tree) × (xs ≡ x ∷ ys) × Fine c x × Are cs d ys
-first_part c cs d [] a = absurd a
-first_part c cs d (x ∷ xs) a = (x, xs, refl, a.0, a.1)
+-- its newest part, and the others
+record Newest (c : Sort) (cs : List Sort) (d : Sort) (made : List Tree → OpenNode) (rest fs : List OpenNode) : Type 0 where
+  part : Tree
+  older : List Tree
+  fine : Fine c part
+  hold : Are cs d older
+  are : fs ≡ made (part ∷ older) ∷ rest
+
+newest_of_parts : (c : Sort) (cs : List Sort) (d : Sort) (made : List Tree → OpenNode) (rest fs : List OpenNode) (xs : List Tree) → fs ≡ made xs ∷ rest → Are (c ∷ cs) d xs → Newest c cs d made rest fs
+newest_of_parts c cs d made rest fs [] e a = absurd a
+newest_of_parts c cs d made rest fs (x ∷ xs) e a = record { part = x; older = xs; fine = a.0; hold = a.1; are = e }
+
+newest : (σ : Shape) (f : OpenNode) (below fs : List OpenNode) (c : Sort) (cs : List Sort) (d : Sort) → innermost_of σ ≡ content (c ∷ cs) d → (i : Innermost σ f below fs) → Newest c cs d i.made i.rest fs
+newest σ f below fs c cs d at i = newest_of_parts c cs d i.made i.rest fs i.parts i.are (subst (λ v. Holds v i.parts) at i.holds)
 
 -- ---- acts
-
-shape_same : (σ τ : Shape) (f : OpenNode) (below fs : List OpenNode) → Some σ ≡ Some τ → OnTop σ f below fs → OnTop τ f below fs
-shape_same σ τ f below fs q o = let y : σ ≡ τ = cc in moved σ τ f below fs fs refl y o
 
 -- the open nodes without the innermost one
 record Inner (u : Content) (us : List Content) (b : Content) (f : OpenNode) (below fs : List OpenNode) : Type 0 where
@@ -114,24 +124,25 @@ module _ (f : OpenNode) (below : List OpenNode) where
   reopen_on σ τ fs (content [] d) e q o = cc
   reopen_on σ τ fs (content (c ∷ cs) d) e q o =
       let i = innermost σ f below fs o in
-      let z = first_part c cs d i.parts (subst (λ v. Holds v i.parts) e i.holds) in
-      let new : OpenNode = record { start = start_of z.0; parts = z.0 ∷ [] } in
-      let is : reopen fs ≡ new ∷ i.made z.1 ∷ i.rest = ap reopen (i.are ∙ ap (λ xs. i.made xs ∷ i.rest) z.2) ∙ i.reopens z.0 z.1 i.rest in
-      let rest : OnTop (with_innermost (content cs d) σ) f below (i.made z.1 ∷ i.rest) = i.back (content cs d) z.1 z.4 in
-      let on : OnTop (opened (content (c ∷ []) Never) (with_innermost (content cs d) σ)) f below (new ∷ i.made z.1 ∷ i.rest) = opened_on (content (c ∷ []) Never) (with_innermost (content cs d) σ) f below new (i.made z.1 ∷ i.rest) (z.3, tt) rest in
-      shape_same (opened (content (c ∷ []) Never) (with_innermost (content cs d) σ)) τ f below (reopen fs) q (subst (λ x. OnTop (opened (content (c ∷ []) Never) (with_innermost (content cs d) σ)) f below x) (sym is) on)
+      let z = newest σ f below fs c cs d e i in
+      let new : OpenNode = record { start = start_of z.part; parts = z.part ∷ [] } in
+      let left : Shape = with_innermost (content cs d) σ in
+      let is : reopen fs ≡ new ∷ i.made z.older ∷ i.rest = ap reopen z.are ∙ i.reopens z.part z.older i.rest in
+      let others : OnTop left f below (i.made z.older ∷ i.rest) = i.back (content cs d) z.older (i.made z.older ∷ i.rest) refl z.hold in
+      same_shape (opened (content (c ∷ []) Never) left) τ f below (reopen fs) q (opened_on (content (c ∷ []) Never) left f below new (i.made z.older ∷ i.rest) (reopen fs) is (z.fine, tt) others)
 
   adopt_by : (u : Content) (us : List Content) (b : Content) (τ : Shape) (fs : List OpenNode) (v : Content) → innermost_of (stack us b) ≡ v → adopted_by u v (stack us b) ≡ Some τ → Inner u us b f below fs → OnTop τ f below (adopt fs)
   adopt_by (content cs c) us b τ fs (content [] e) at q o = cc
   adopt_by (content cs c) us b τ fs (content (d ∷ ds) e) at q o =
       let σ : Shape = stack us b in
       let i = innermost σ f below o.others o.on in
-      let z = first_part d ds e i.parts (subst (λ v. Holds v i.parts) at i.holds) in
-      let new : OpenNode = record { start = start_of z.0; parts = o.node.parts ++ z.0 ∷ [] } in
-      let is : adopt fs ≡ new ∷ i.made z.1 ∷ i.rest = ap adopt (o.are ∙ ap (λ xs. o.node ∷ xs) (i.are ∙ ap (λ xs. i.made xs ∷ i.rest) z.2)) ∙ i.adopts o.node z.0 z.1 i.rest in
-      let rest : OnTop (with_innermost (content ds e) σ) f below (i.made z.1 ∷ i.rest) = i.back (content ds e) z.1 z.4 in
-      let on : OnTop (opened (content cs (join c d)) (with_innermost (content ds e) σ)) f below (new ∷ i.made z.1 ∷ i.rest) = opened_on (content cs (join c d)) (with_innermost (content ds e) σ) f below new (i.made z.1 ∷ i.rest) (holds_behind cs c d o.node.parts z.0 z.3 o.holds) rest in
-      shape_same (opened (content cs (join c d)) (with_innermost (content ds e) σ)) τ f below (adopt fs) q (subst (λ x. OnTop (opened (content cs (join c d)) (with_innermost (content ds e) σ)) f below x) (sym is) on)
+      let z = newest σ f below o.others d ds e at i in
+      let new : OpenNode = record { start = start_of z.part; parts = o.node.parts ++ z.part ∷ [] } in
+      let left : Shape = with_innermost (content ds e) σ in
+      let is : adopt fs ≡ new ∷ i.made z.older ∷ i.rest = ap adopt (o.are ∙ ap (λ xs. o.node ∷ xs) z.are) ∙ i.adopts o.node z.part z.older i.rest in
+      let others : OnTop left f below (i.made z.older ∷ i.rest) = i.back (content ds e) z.older (i.made z.older ∷ i.rest) refl z.hold in
+      same_shape (opened (content cs (join c d)) left) τ f below (adopt fs) q
+      (opened_on (content cs (join c d)) left f below new (i.made z.older ∷ i.rest) (adopt fs) is (holds_behind cs c d o.node.parts z.part z.fine o.holds) others)
 
   adopt_on : (σ τ : Shape) (fs : List OpenNode) → flow_act Adopt σ ≡ Some τ → OnTop σ f below fs → OnTop τ f below (adopt fs)
   adopt_on (stack [] b) τ fs q o = cc
@@ -150,31 +161,32 @@ module _ (f : OpenNode) (below : List OpenNode) where
       let i = innermost σ f below o.others o.on in
       let t : Tree = node_read bytes kind to o.node in
       let is : close_last bytes kind to fs ≡ i.made (t ∷ i.parts) ∷ i.rest = ap (close_last bytes kind to) (o.are ∙ ap (λ xs. o.node ∷ xs) i.are) ∙ i.closes bytes kind to o.node i.parts i.rest in
-      let on : OnTop (with_innermost v σ) f below (i.made (t ∷ i.parts) ∷ i.rest) = i.back v (t ∷ i.parts) (holds_pushed (sort_of kind) (innermost_of σ) t i.parts (fine_node bytes kind to u o.node may o.holds) i.holds) in
-      shape_same (with_innermost v σ) τ f below (close_last bytes kind to fs) q (subst (λ x. OnTop (with_innermost v σ) f below x) (sym is) on)
+      same_shape (with_innermost v σ) τ f below (close_last bytes kind to fs) q
+      (i.back v (t ∷ i.parts) (close_last bytes kind to fs) is (holds_pushed (sort_of kind) (innermost_of σ) t i.parts (fine_node bytes kind to u o.node may o.holds) i.holds))
 
   close_on : (bytes : List ℕ) (kind : NodeKind) (to : ℕ) (σ τ : Shape) (fs : List OpenNode) → flow_act (Close kind) σ ≡ Some τ → OnTop σ f below fs → OnTop τ f below (close_last bytes kind to fs)
   close_on bytes kind to (stack [] b) τ fs q o = cc
   close_on bytes kind to (stack (u ∷ us) b) τ fs q o = close_by bytes kind to u us b τ fs (may_close kind u) refl q (inner u us b f below fs o.tops o.new o.fit.0 o.fit.1 o.are)
 
   act_on : (bytes : List ℕ) (a : Act) (s m : State) (σ τ : Shape) → acted bytes a s ≡ Some m → flow_act a σ ≡ Some τ → OnTop σ f below s.open_nodes → OnTop τ f below m.open_nodes
-  act_on bytes (Pass kind) s m σ τ h q o = shape_same σ τ f below m.open_nodes q (subst (λ x. OnTop σ f below x) (sym (passed_any kind s.rest s.open_nodes s.open_nodes m h).1) o)
+  act_on bytes (Pass kind) s m σ τ h q o = same_shape σ τ f below m.open_nodes q (same_nodes σ f below s.open_nodes m.open_nodes (passed_any kind s.rest s.open_nodes s.open_nodes m h).1 o)
   act_on bytes Open s m σ τ h q o =
       let new : OpenNode = record { start = next_start s.last s.rest; parts = [] } in
       let y : record { last = s.last; rest = s.rest; open_nodes = new ∷ s.open_nodes } ≡ m = cc in
-      shape_same (opened no_parts σ) τ f below m.open_nodes q
-      (subst (λ x. OnTop (opened no_parts σ) f below x) (ap (λ (x : State). x.open_nodes) y) (opened_on no_parts σ f below new s.open_nodes tt o))
+      same_shape (opened no_parts σ) τ f below m.open_nodes q
+      (opened_on no_parts σ f below new s.open_nodes m.open_nodes (sym (ap (λ (x : State). x.open_nodes) y)) tt o)
   act_on bytes Reopen s m σ τ h q o =
       let y : record { last = s.last; rest = s.rest; open_nodes = reopen s.open_nodes } ≡ m = cc in
-      subst (λ x. OnTop τ f below x) (ap (λ (x : State). x.open_nodes) y) (reopen_on σ τ s.open_nodes (innermost_of σ) refl q o)
+      same_nodes τ f below (reopen s.open_nodes) m.open_nodes (sym (ap (λ (x : State). x.open_nodes) y)) (reopen_on σ τ s.open_nodes (innermost_of σ) refl q o)
   act_on bytes Adopt s m σ τ h q o =
       let y : record { last = s.last; rest = s.rest; open_nodes = adopt s.open_nodes } ≡ m = cc in
-      subst (λ x. OnTop τ f below x) (ap (λ (x : State). x.open_nodes) y) (adopt_on σ τ s.open_nodes q o)
+      same_nodes τ f below (adopt s.open_nodes) m.open_nodes (sym (ap (λ (x : State). x.open_nodes) y)) (adopt_on σ τ s.open_nodes q o)
   act_on bytes CheckType s m σ τ h q o =
-      shape_same σ τ f below m.open_nodes q (subst (λ x. OnTop σ f below x) (ap (λ (x : State). x.open_nodes) (checked_same (ends_in_type s.open_nodes) s m h).1) o)
+      let y = (checked_same (ends_in_type s.open_nodes) s m h).1 in
+      same_shape σ τ f below m.open_nodes q (same_nodes σ f below s.open_nodes m.open_nodes (sym (ap (λ (x : State). x.open_nodes) y)) o)
   act_on bytes (Close kind) s m σ τ h q o =
       let y : record { last = s.last; rest = s.rest; open_nodes = close_last bytes kind s.last s.open_nodes } ≡ m = cc in
-      subst (λ x. OnTop τ f below x) (ap (λ (x : State). x.open_nodes) y) (close_on bytes kind s.last σ τ s.open_nodes q o)
+      same_nodes τ f below (close_last bytes kind s.last s.open_nodes) m.open_nodes (sym (ap (λ (x : State). x.open_nodes) y)) (close_on bytes kind s.last σ τ s.open_nodes q o)
 
 -- ---- two shapes that are joined, and one that says less
 
@@ -327,7 +339,7 @@ filled_one v (stack (u ∷ []) b) f below fs h o = by_tops o.tops o.fit.0 o.are
     by_tops [] i e = absurd i
     by_tops (g ∷ []) i e =
         let parts = and_parts (covers v u) (is_empty b) h in
-        (g, covers_holds v u g.parts parts.0 i.0, e ∙ ap (λ xs. g ∷ with_parts xs f ∷ below) (none_new b o.new parts.1 o.fit.1))
+        (g, covers_holds v u g.parts parts.0 i.0, e ∙ ap (λ xs. g ∷ with_parts xs f ∷ below) (no_part b o.new parts.1 o.fit.1))
     by_tops (g ∷ (i ∷ tops)) j e = absurd j.1
 filled_one v (stack (u ∷ (w ∷ us)) b) f below fs h o = cc
 
@@ -342,86 +354,88 @@ module _ (N : Type 0) (P : N → RightSide N) (bytes : List ℕ) where
     Kept k = (g : RightSide N) (σ τ : Shape) (f : OpenNode) (below : List OpenNode) (s e : State) → flow E g σ ≡ Some τ → ReadsIn N P bytes k (g ∷ []) s e → OnTop σ f below s.open_nodes → OnTop τ f below e.open_nodes
 
     module _ (k : ℕ) (kept : Kept k) (n : N) (s e : State) (d : ReadsIn N P bytes k (P n ∷ []) s e) (f : OpenNode) (below : List OpenNode) where
-      -- the open nodes with those on top that the production ends
-      split_nodes : (ended more : List OpenNode) (new : List Tree) (tops : List OpenNode) → tops ≡ ended ++ more → s.open_nodes ≡ standing f below tops new → s.open_nodes ≡ ended ++ standing f below more new
-      split_nodes ended more new tops all are = are ∙ (ap (λ x. x ++ (with_parts new f ∷ below)) all ∙ append_assoc ended more (with_parts new f ∷ below))
+      -- where the call is read: the open nodes that it ends, and the innermost one behind them
+      record Entered (ns vs : List Content) (b : Content) : Type 0 where
+        ended : List OpenNode
+        fit_ended : HaveContents ns ended
+        others : List OpenNode
+        on : OnTop (stack vs b) f below others
+        at : s.open_nodes ≡ ended ++ others
 
-      rest_on : (us : List Content) (b : Content) (more : List OpenNode) (new : List Tree) → HaveContents us more → Holds b new → OnTop (stack us b) f below (standing f below more new)
-      rest_on us b more new h i = record { tops = more; new = new; fit = (h, i); are = refl }
-
-      add_on : (ns us vs : List Content) (b : Content) (c : Sort) (ρ τ : Shape) → E n ≡ Adds ns c → flow E (P n) (stack ns no_parts) ≡ Some ρ → one_new c ρ ≡ true → take_needed ns us ≡ Some vs
-          → Some (with_innermost (pushed c (innermost_of (stack vs b))) (stack vs b)) ≡ Some τ → OnTop (stack us b) f below s.open_nodes → OnTop τ f below e.open_nodes
-      unfolding Kept
-      add_on ns us vs b c ρ τ is flows ends takes q o =
+      entered : (ns us vs : List Content) (b : Content) → take_needed ns us ≡ Some vs → OnTop (stack us b) f below s.open_nodes → Entered ns vs b
+      entered ns us vs b takes o =
           let t = taken ns us vs o.tops takes o.fit.0 in
-          let σ : Shape = stack vs b in
-          let i = innermost σ f below (standing f below t.more o.new) (rest_on vs b t.more o.new t.fit_more o.fit.1) in
-          let at : s.open_nodes ≡ standing (i.made i.parts) i.rest t.ended [] = split_nodes t.ended t.more o.new o.tops t.all o.are ∙ ap (λ x. t.ended ++ x) i.are in
-          let behind_it : OnTop ρ (i.made i.parts) i.rest e.open_nodes = kept (P n) (stack ns no_parts) ρ (i.made i.parts) i.rest s e flows d (record { tops = t.ended; new = []; fit = (t.fit_ended, tt); are = at }) in
-          let z = new_one c ρ (i.made i.parts) i.rest e.open_nodes ends behind_it in
-          let v : Content = pushed c (innermost_of σ) in
-          let on : OnTop (with_innermost v σ) f below (i.made (z.0 ∷ i.parts) ∷ i.rest) = i.back v (z.0 ∷ i.parts) (holds_pushed c (innermost_of σ) z.0 i.parts z.1 i.holds) in
-          let same : e.open_nodes ≡ i.made (z.0 ∷ i.parts) ∷ i.rest = z.2 ∙ ap (λ x. x ∷ i.rest) (i.grows z.0 i.parts) in
-          shape_same (with_innermost v σ) τ f below e.open_nodes q (subst (λ x. OnTop (with_innermost v σ) f below x) (sym same) on)
+          record {
+            ended = t.ended;
+            fit_ended = t.fit_ended;
+            others = standing f below t.more o.new;
+            on = record { tops = t.more; new = o.new; fit = (t.fit_more, o.fit.1); are = refl };
+            at = o.are ∙ (ap (λ x. x ++ (with_parts o.new f ∷ below)) t.all ∙ append_assoc t.ended t.more (with_parts o.new f ∷ below));
+          }
 
-      turn_by : (ns us vs : List Content) (b : Content) (a c : Sort) (ρ τ : Shape) → flow E (P n) (stack ns (content (a ∷ []) Never)) ≡ Some ρ → one_new c ρ ≡ true → take_needed ns us ≡ Some vs
-          → (u : Content) → innermost_of (stack vs b) ≡ u → turned a c u (stack vs b) ≡ Some τ → OnTop (stack us b) f below s.open_nodes → OnTop τ f below e.open_nodes
+      add_on : (ns vs : List Content) (b : Content) (c : Sort) (ρ τ : Shape) → flow E (P n) (stack ns no_parts) ≡ Some ρ → one_new c ρ ≡ true
+          → Some (with_innermost (pushed c (innermost_of (stack vs b))) (stack vs b)) ≡ Some τ → Entered ns vs b → OnTop τ f below e.open_nodes
       unfolding Kept
-      turn_by ns us vs b a c ρ τ flows ends takes (content [] x) at q o = cc
-      turn_by ns us vs b a c ρ τ flows ends takes (content (y ∷ ys) x) at q o = by_test (within y a) refl q
+      add_on ns vs b c ρ τ flows ends q t =
+          let i = innermost (stack vs b) f below t.others t.on in
+          let behind_it = kept (P n) (stack ns no_parts) ρ (i.made i.parts) i.rest s e flows d (record { tops = t.ended; new = []; fit = (t.fit_ended, tt); are = t.at ∙ ap (λ x. t.ended ++ x) i.are }) in
+          let z = new_one c ρ (i.made i.parts) i.rest e.open_nodes ends behind_it in
+          same_shape (with_innermost (pushed c (innermost_of (stack vs b))) (stack vs b)) τ f below e.open_nodes q
+          (i.back (pushed c (innermost_of (stack vs b))) (z.0 ∷ i.parts) e.open_nodes (z.2 ∙ ap (λ x. x ∷ i.rest) (i.grows z.0 i.parts)) (holds_pushed c (innermost_of (stack vs b)) z.0 i.parts z.1 i.holds))
+
+      turn_so : (ns vs : List Content) (b : Content) (a c y : Sort) (ys : List Sort) (x : Sort) (ρ τ : Shape) → flow E (P n) (stack ns (content (a ∷ []) Never)) ≡ Some ρ → one_new c ρ ≡ true → within y a ≡ true
+          → innermost_of (stack vs b) ≡ content (y ∷ ys) x → Some (with_innermost (content (c ∷ ys) x) (stack vs b)) ≡ Some τ → Entered ns vs b → OnTop τ f below e.open_nodes
+      unfolding Kept
+      turn_so ns vs b a c y ys x ρ τ flows ends p at q t =
+          let i = innermost (stack vs b) f below t.others t.on in
+          let first = newest (stack vs b) f below t.others y ys x at i in
+          let nodes = first.are ∙ ap (λ z. z ∷ i.rest) (sym (i.grows first.part first.older)) in
+          let behind_it = kept (P n) (stack ns (content (a ∷ []) Never)) ρ (i.made first.older) i.rest s e flows d
+          (record { tops = t.ended; new = first.part ∷ []; fit = (t.fit_ended, (fine_within y a first.part p first.fine, tt)); are = t.at ∙ ap (λ z. t.ended ++ z) nodes }) in
+          let z = new_one c ρ (i.made first.older) i.rest e.open_nodes ends behind_it in
+          same_shape (with_innermost (content (c ∷ ys) x) (stack vs b)) τ f below e.open_nodes q
+          (i.back (content (c ∷ ys) x) (z.0 ∷ first.older) e.open_nodes (z.2 ∙ ap (λ x. x ∷ i.rest) (i.grows z.0 first.older)) (z.1, first.hold))
+
+      turn_on : (ns vs : List Content) (b : Content) (a c : Sort) (ρ τ : Shape) → flow E (P n) (stack ns (content (a ∷ []) Never)) ≡ Some ρ → one_new c ρ ≡ true
+          → (u : Content) → innermost_of (stack vs b) ≡ u → turned a c u (stack vs b) ≡ Some τ → Entered ns vs b → OnTop τ f below e.open_nodes
+      turn_on ns vs b a c ρ τ flows ends (content [] x) at q t = cc
+      turn_on ns vs b a c ρ τ flows ends (content (y ∷ ys) x) at q t = by_test (within y a) refl q
         where
           by_test : (w : Bool) → within y a ≡ w → cond w (Some (with_innermost (content (c ∷ ys) x) (stack vs b))) None ≡ Some τ → OnTop τ f below e.open_nodes
           by_test false p q = cc
-          by_test true p q =
-              let t = taken ns us vs o.tops takes o.fit.0 in
-              let σ : Shape = stack vs b in
-              let i = innermost σ f below (standing f below t.more o.new) (rest_on vs b t.more o.new t.fit_more o.fit.1) in
-              let first = first_part y ys x i.parts (subst (λ v. Holds v i.parts) at i.holds) in
-              let h : OpenNode = i.made first.1 in
-              let same_nodes : s.open_nodes ≡ standing h i.rest t.ended (first.0 ∷ []) = split_nodes t.ended t.more o.new o.tops t.all o.are ∙ ap (λ z. t.ended ++ z) (i.are ∙ (ap (λ z. i.made z ∷ i.rest) first.2 ∙ ap (λ z. z ∷ i.rest) (sym (i.grows first.0 first.1)))) in
-              let behind_it : OnTop ρ h i.rest e.open_nodes = kept (P n) (stack ns (content (a ∷ []) Never)) ρ h i.rest s e flows d (record { tops = t.ended; new = first.0 ∷ []; fit = (t.fit_ended, (fine_within y a first.0 p first.3, tt)); are = same_nodes }) in
-              let z = new_one c ρ h i.rest e.open_nodes ends behind_it in
-              let v : Content = content (c ∷ ys) x in
-              let on : OnTop (with_innermost v σ) f below (i.made (z.0 ∷ first.1) ∷ i.rest) = i.back v (z.0 ∷ first.1) (z.1, first.4) in
-              let same : e.open_nodes ≡ i.made (z.0 ∷ first.1) ∷ i.rest = z.2 ∙ ap (λ x. x ∷ i.rest) (i.grows z.0 first.1) in
-              shape_same (with_innermost v σ) τ f below e.open_nodes q (subst (λ x. OnTop (with_innermost v σ) f below x) (sym same) on)
+          by_test true p q = turn_so ns vs b a c y ys x ρ τ flows ends p at q t
 
-      fill_on : (ns us vs : List Content) (b v : Content) (ρ τ : Shape) → flow E (P n) (stack ns no_parts) ≡ Some ρ → one_filled v ρ ≡ true → take_needed ns us ≡ Some vs
-          → Some (opened v (stack vs b)) ≡ Some τ → OnTop (stack us b) f below s.open_nodes → OnTop τ f below e.open_nodes
+      fill_on : (ns vs : List Content) (b v : Content) (ρ τ : Shape) → flow E (P n) (stack ns no_parts) ≡ Some ρ → one_filled v ρ ≡ true
+          → Some (opened v (stack vs b)) ≡ Some τ → Entered ns vs b → OnTop τ f below e.open_nodes
       unfolding Kept
-      fill_on ns us vs b v ρ τ flows ends takes q o =
-          let t = taken ns us vs o.tops takes o.fit.0 in
-          let σ : Shape = stack vs b in
-          let all : OnTop σ f below (standing f below t.more o.new) = rest_on vs b t.more o.new t.fit_more o.fit.1 in
-          let i = innermost σ f below (standing f below t.more o.new) all in
-          let at : s.open_nodes ≡ standing (i.made i.parts) i.rest t.ended [] = split_nodes t.ended t.more o.new o.tops t.all o.are ∙ ap (λ x. t.ended ++ x) i.are in
-          let behind_it : OnTop ρ (i.made i.parts) i.rest e.open_nodes = kept (P n) (stack ns no_parts) ρ (i.made i.parts) i.rest s e flows d (record { tops = t.ended; new = []; fit = (t.fit_ended, tt); are = at }) in
+      fill_on ns vs b v ρ τ flows ends q t =
+          let i = innermost (stack vs b) f below t.others t.on in
+          let behind_it = kept (P n) (stack ns no_parts) ρ (i.made i.parts) i.rest s e flows d (record { tops = t.ended; new = []; fit = (t.fit_ended, tt); are = t.at ∙ ap (λ x. t.ended ++ x) i.are }) in
           let z = filled_one v ρ (i.made i.parts) i.rest e.open_nodes ends behind_it in
-          let on : OnTop (opened v σ) f below (z.0 ∷ standing f below t.more o.new) = opened_on v σ f below z.0 (standing f below t.more o.new) z.1 all in
-          let same : e.open_nodes ≡ z.0 ∷ standing f below t.more o.new = z.2 ∙ ap (λ x. z.0 ∷ x) (sym i.are) in
-          shape_same (opened v σ) τ f below e.open_nodes q (subst (λ x. OnTop (opened v σ) f below x) (sym same) on)
+          same_shape (opened v (stack vs b)) τ f below e.open_nodes q
+          (opened_on v (stack vs b) f below z.0 t.others e.open_nodes (z.2 ∙ ap (λ x. z.0 ∷ x) (sym i.are)) z.1 t.on)
 
-      call_by : (x : Effect) → E n ≡ x → (σ τ ρ : Shape) → flow E (P n) (entry x) ≡ Some ρ → ends_with x ρ ≡ true → flow_call x σ ≡ Some τ → OnTop σ f below s.open_nodes → OnTop τ f below e.open_nodes
-      call_by (Adds ns c) is (stack us b) τ ρ flows ends q o =
+      call_by : (x : Effect) (σ τ ρ : Shape) → flow E (P n) (entry x) ≡ Some ρ → ends_with x ρ ≡ true → flow_call x σ ≡ Some τ → OnTop σ f below s.open_nodes → OnTop τ f below e.open_nodes
+      call_by (Adds ns c) (stack us b) τ ρ flows ends q o =
           let z = some_behind (λ σ. Some (with_innermost (pushed c (innermost_of σ)) σ)) b (take_needed ns us) τ q in
-          add_on ns us z.0 b c ρ τ is flows ends z.1 z.2 o
-      call_by (Turns ns a c) is (stack us b) τ ρ flows ends q o =
+          add_on ns z.0 b c ρ τ flows ends z.2 (entered ns us z.0 b z.1 o)
+      call_by (Turns ns a c) (stack us b) τ ρ flows ends q o =
           let z = some_behind (λ σ. turned a c (innermost_of σ) σ) b (take_needed ns us) τ q in
-          turn_by ns us z.0 b a c ρ τ flows ends z.1 (innermost_of (stack z.0 b)) refl z.2 o
-      call_by (Fills ns v) is (stack us b) τ ρ flows ends q o =
+          turn_on ns z.0 b a c ρ τ flows ends (innermost_of (stack z.0 b)) refl z.2 (entered ns us z.0 b z.1 o)
+      call_by (Fills ns v) (stack us b) τ ρ flows ends q o =
           let z = some_behind (λ σ. Some (opened v σ)) b (take_needed ns us) τ q in
-          fill_on ns us z.0 b v ρ τ flows ends z.1 z.2 o
+          fill_on ns z.0 b v ρ τ flows ends z.2 (entered ns us z.0 b z.1 o)
 
       call_kept : (σ τ : Shape) → flow_call (E n) σ ≡ Some τ → OnTop σ f below s.open_nodes → OnTop τ f below e.open_nodes
       call_kept σ τ q o =
           let z = effect_shape (E n) (flow E (P n) (entry (E n))) (table_right n) in
-          call_by (E n) refl σ τ z.0 z.1 z.2 q o
+          call_by (E n) σ τ z.0 z.1 z.2 q o
 
     steps_kept : (k : ℕ) → Kept k → Kept (suc k)
     unfolding Kept Both_parts
     steps_kept k kept (Do a) σ τ f below s e q (does_in {m = m} h d) o = subst (λ (x : State). OnTop τ f below x.open_nodes) (ended_in k m e d) (act_on f below bytes a s m σ τ h q o)
     steps_kept k kept (Call n) σ τ f below s e q (calls_in d) o = call_kept k kept n s e d f below σ τ q o
-    steps_kept k kept Nothing σ τ f below s e q (nothing_in d) o = shape_same σ τ f below e.open_nodes q (subst (λ (x : State). OnTop σ f below x.open_nodes) (ended_in k s e d) o)
+    steps_kept k kept Nothing σ τ f below s e q (nothing_in d) o = same_shape σ τ f below e.open_nodes q (subst (λ (x : State). OnTop σ f below x.open_nodes) (ended_in k s e d) o)
     steps_kept k kept (Seq g h) σ τ f below s e q (in_turn_in d) o =
         let c = chained (flow E h) (flow E g σ) τ q in
         let r = parts_of_reading N P bytes d (g ∷ []) (h ∷ []) refl in

@@ -1,13 +1,13 @@
 -- What sorts and contents say of trees.
-use Rattle.std.proofs.Common.{◌≡◌, ℕ, Bool, true, false, cond, ◌&&◌, List, [], ◌∷◌, ◌++◌, ◌⊎◌, inl, inr, Option, None, Some, refl, sym, ap, subst, ◌∙◌, reverse}
+use Rattle.std.proofs.Common.{◌≡◌, Bool, true, false, cond, ◌&&◌, List, [], ◌∷◌, ◌++◌, refl, sym, ap, subst, reverse}
 use Rattle.std.specs.List.{list_all}
 use Rattle.std.proofs.lemmas.Bool.{and_parts}
 use Rattle.std.proofs.lemmas.Grind.{reverse_onto}
 use Rattle.go_tree.specs.declared.node_kind.NodeKind.{NodeKind}
 use Rattle.go_tree.specs.declared.node_kind.NodeKind.TheVariants as k
-use Rattle.go_tree.specs.Tree.{Tree, Trees, branch, kind_of, more_trees, no_trees, trees_of}
-use Rattle.go_laws.proofs.TreeShapes.{Sort, Never, Named, Operand, Spec, Anything, AllShaped, Fine, Is, Shaped, has_shape, is_of, kinds_in, sort_of, within}
-use Rattle.go_laws.proofs.PartShapes.{Content, all_are, are_two, content, covers, is_empty, is_one, join, join_contents, may_close, no_parts, pushed, sort_of_all}
+use Rattle.go_tree.specs.Tree.{Tree, kind_of, trees_of}
+use Rattle.go_laws.proofs.TreeShapes.{Sort, Never, Named, Operand, Spec, Anything, AllShaped, Fine, Shaped, has_shape, is_of, kinds_in, sort_of, within}
+use Rattle.go_laws.proofs.PartShapes.{Content, all_are, are_two, content, covers, is_empty, is_one, join, join_contents, may_close, pushed, sort_of_all}
 
 -- ---- sorts
 
@@ -164,7 +164,7 @@ holds_behind (b ∷ cs) c d (x ∷ xs) t f a = (a.0, holds_behind cs c d xs t f 
 
 -- ---- a node that ends
 
-no_part : (u : Content) (xs : List Tree) → is_empty u ≡ true → Holds u xs → xs ≡ []
+pub no_part : (u : Content) (xs : List Tree) → is_empty u ≡ true → Holds u xs → xs ≡ []
 no_part (content [] d) [] h a = refl
 no_part (content [] d) (x ∷ xs) h a = absurd (never_fine x (fine_within d Never x h a.0))
 no_part (content (c ∷ cs) d) xs h a = cc
@@ -242,6 +242,3 @@ parts_shaped (content cs d) xs a = shaped_reversed xs (sort_of_all cs d) (are_al
 
 pub sort_itself : (kind : NodeKind) → is_of (sort_of kind) kind ≡ true
 sort_itself kind = within_itself (sort_of kind)
-
-pub none_new : (u : Content) (xs : List Tree) → is_empty u ≡ true → Holds u xs → xs ≡ []
-none_new u xs h a = no_part u xs h a
