@@ -13,7 +13,7 @@ use Rattle.go_model.specs.Outcomes.Constructs.Selector.{selector as selector_con
 use Rattle.go_model.specs.Outcomes.Judged.{Asks}
 use Rattle.go_model.specs.Outcomes.Operands.{none_asks, one_asks, two_integers_ask}
 use Rattle.go_model.specs.Outcomes.Records.{HeaderData, RecData, integer_in}
-use Rattle.go_laws.specs.BuiltTrees.{IsBuilt, IsNameLeaf, literal, name, parentheses, selector, sum}
+use Rattle.go_laws.specs.BuiltTrees.{IsBuilt, IsIdentifier, identifier, integer, name, parentheses, selector, sum}
 use Rattle.go_laws.specs.Complete.{asked_in, asked_in_each}
 use Rattle.go_laws.proofs.Asked.{AreIntegers, IsAsked}
 use Rattle.go_laws.proofs.OccursLemmas.{in_front, name_alone, only_is, selector_cases}
@@ -83,8 +83,8 @@ module _ (means : ℕ → Meaning) where
   abbrev pub Denotes : Tree → Type 0
   Denotes s = (id from to : ℕ) (text : List ℕ) (parts : Trees) → s ≡ branch id from to Name text parts → means id ≡ Other → ⊥
 
-  literal_is : (id from to : ℕ) (text : List ℕ) → IsAsked means (branch id from to IntLit text no_trees)
-  literal_is id from to text = record {
+  integer_is : (id from to : ℕ) (text : List ℕ) → IsAsked means (branch id from to IntLit text no_trees)
+  integer_is id from to text = record {
     within = λ n h. absurd (contains_none n h);
     asks = λ records integers many. none_asked _ records many;
   }
@@ -119,17 +119,17 @@ module _ (means : ℕ → Meaning) where
       let same : t ≡ s = name_alone means 0 None (means id) t s (asked_in_each means no_trees) h in
       subst (IsAsked means) same (name_is id from to text (denotes id from to text no_trees (sym same)))
 
-  before_asked : (x s : Tree) → IsNameLeaf x → Denotes s → Contains (asked_in means x) s → IsAsked means s
-  before_asked x s leaf denotes h = leaf_asked leaf.id leaf.from leaf.to leaf.text s denotes (subst (λ (t : Tree). Contains (asked_in means t) s) leaf.is h)
+  before_asked : {x : Tree} → IsIdentifier x → (s : Tree) → Denotes s → Contains (asked_in means x) s → IsAsked means s
+  before_asked (identifier id from to text) s denotes h = leaf_asked id from to text s denotes h
 
   pub built_asked : {t : Tree} → IsBuilt t → (s : Tree) → Denotes s → Contains (asked_in means t) s → IsAsked means s
-  built_asked (literal id from to text) s denotes h = subst (IsAsked means) (only_is (branch id from to IntLit text no_trees) s h) (literal_is id from to text)
+  built_asked (integer id from to text) s denotes h = subst (IsAsked means) (only_is (branch id from to IntLit text no_trees) s h) (integer_is id from to text)
   built_asked (name id from to text) s denotes h = leaf_asked id from to text s denotes h
   built_asked (selector id from to text x f leaf other) s denotes h = by_cases (selector_cases means 0 None (means (id_of f)) (means (id_of f)) refl (branch id from to SelectorExpr text (more_trees x (more_trees f no_trees))) s (asked_in means x) (asked_in means f) h)
     where
       by_cases : (branch id from to SelectorExpr text (more_trees x (more_trees f no_trees)) ≡ s) ⊎ (Contains (asked_in means x) s × (means (id_of f) ≡ Other)) → IsAsked means s
       by_cases (inl same) = subst (IsAsked means) same (selector_is id from to text x f)
-      by_cases (inr inside) = before_asked x s leaf denotes inside.0
+      by_cases (inr inside) = before_asked leaf s denotes inside.0
   built_asked (parentheses id from to text x built) s denotes h = by_cases (cons_cases (branch id from to ParenExpr text (more_trees x no_trees)) (asked_in means x ++ []) s h) (built_asked built s denotes)
     where
       by_cases : (branch id from to ParenExpr text (more_trees x no_trees) ≡ s) ⊎ Contains (asked_in means x ++ []) s → (Contains (asked_in means x) s → IsAsked means s) → IsAsked means s

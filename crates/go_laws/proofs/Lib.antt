@@ -16,3 +16,11 @@ pub mod DenotedLemmas
 pub mod DenotingLemmas
 pub mod BuiltLemmas
 pub mod ReachedLemmas
+pub mod TreeShapes
+pub mod PartShapes
+pub mod PartShapeLemmas
+pub mod PartReadingLemmas
+pub mod GrammarShapes
+pub mod WholeShapeLemmas
+pub mod BuiltTreeLemmas
+pub mod BuiltModuleLemmas

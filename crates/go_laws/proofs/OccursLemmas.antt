@@ -12,7 +12,7 @@ use Rattle.go_model.specs.declared.meaning.Meaning.{Meaning}
 use Rattle.go_model.specs.declared.meaning.Meaning.TheVariants.{Declared, Other, Predeclared}
 use Rattle.go_model.specs.Outcomes.Constructs.Name.{name as name_construct}
 use Rattle.go_model.specs.Outcomes.Constructs.Selector.{selector as selector_construct}
-use Rattle.go_laws.specs.BuiltTrees.{IsBuilt, IsNameLeaf, literal, name, parentheses, selector, sum}
+use Rattle.go_laws.specs.BuiltTrees.{IsBuilt, IsIdentifier, identifier, integer, name, parentheses, selector, sum}
 use Rattle.go_laws.specs.Complete.{asked_in, asked_in_each}
 
 pub only_is : {X : Type 0} (x y : X) → Contains (x ∷ []) y → x ≡ y
@@ -66,22 +66,17 @@ module _ (means : ℕ → Meaning) (file : ℕ) (told_at : Option ℕ) where
       by_cases (inl same) = inl same
       by_cases (inr there) = inr (in_front xs s there, e)
 
-  leaf_before : (own start end : ℕ) (letters : List ℕ) (f s : Tree) → Contains (asked_in means (branch own start end Name letters no_trees)) s
-      → Contains (with_selected file told_at (branch own start end Name letters no_trees) f (names_in file told_at (branch own start end Name letters no_trees))) (selecting file told_at f (occurrence file told_at (id_of s) (start_of s) (text_of s)))
-  leaf_before own start end letters f s h =
-      let same = name_alone (means own) (branch own start end Name letters no_trees) s (asked_in_each means no_trees) h in
-      contains_head (selecting file told_at f (occurrence file told_at own start letters)) [] (selecting file told_at f (occurrence file told_at (id_of s) (start_of s) (text_of s))) (ap (selecting file told_at f) (same_occurrence (branch own start end Name letters no_trees) s same))
-
-  before_it : (x f s : Tree) → IsNameLeaf x → Contains (asked_in means x) s → Contains (with_selected file told_at x f (names_in file told_at x)) (selecting file told_at f (occurrence file told_at (id_of s) (start_of s) (text_of s)))
-  before_it x f s leaf =
-      subst (λ (y : Tree). Contains (asked_in means y) s → Contains (with_selected file told_at y f (names_in file told_at y)) (selecting file told_at f (occurrence file told_at (id_of s) (start_of s) (text_of s)))) (sym leaf.is)
-      (leaf_before leaf.id leaf.from leaf.to leaf.text f s)
+  before_it : {x : Tree} → IsIdentifier x → (f s : Tree) → Contains (asked_in means x) s
+      → Contains (with_selected file told_at x f (names_in file told_at x)) (selecting file told_at f (occurrence file told_at (id_of s) (start_of s) (text_of s)))
+  before_it (identifier id from to text) f s h =
+      let same = name_alone (means id) (branch id from to Name text no_trees) s (asked_in_each means no_trees) h in
+      contains_head (selecting file told_at f (occurrence file told_at id from text)) [] (selecting file told_at f (occurrence file told_at (id_of s) (start_of s) (text_of s))) (ap (selecting file told_at f) (same_occurrence (branch id from to Name text no_trees) s same))
 
   abbrev occurring : Tree → Tree → Type 0
   occurring t s = Occurs (names_in file told_at t) (occurrence file told_at (id_of s) (start_of s) (text_of s))
 
   pub asked_occurs : {t : Tree} → IsBuilt t → (s : Tree) → kind_of s ≡ Name → Contains (asked_in means t) s → occurring t s
-  asked_occurs (literal id from to text) s is h =
+  asked_occurs (integer id from to text) s is h =
       let same = only_is (branch id from to IntLit text no_trees) s h in
       absurd (let never : IntLit ≡ Name = ap kind_of same ∙ is in cc)
   asked_occurs (name id from to text) s is h =
@@ -91,7 +86,7 @@ module _ (means : ℕ → Meaning) (file : ℕ) (told_at : Option ℕ) where
     where
       by_cases : (branch id from to SelectorExpr text (more_trees x (more_trees f no_trees)) ≡ s) ⊎ (Contains (asked_in means x) s × (means (id_of f) ≡ Other)) → occurring (branch id from to SelectorExpr text (more_trees x (more_trees f no_trees))) s
       by_cases (inl same) = absurd (let never : SelectorExpr ≡ Name = ap kind_of same ∙ is in cc)
-      by_cases (inr inside) = inr (record { selected = f; among = before_it x f s leaf inside.0; other = inside.1 })
+      by_cases (inr inside) = inr (record { selected = f; among = before_it leaf f s inside.0; other = inside.1 })
   asked_occurs (parentheses id from to text x built) s is h = by_cases (cons_cases (branch id from to ParenExpr text (more_trees x no_trees)) (asked_in means x ++ []) s h) (asked_occurs built s is)
     where
       by_cases : (branch id from to ParenExpr text (more_trees x no_trees) ≡ s) ⊎ Contains (asked_in means x ++ []) s → (Contains (asked_in means x) s → occurring x s) → occurring (branch id from to ParenExpr text (more_trees x no_trees)) s

@@ -23,6 +23,7 @@ use Rattle.go_laws.specs.Complete.{IsAcceptedAt, IsComplete, IsReached, checks, 
 use Rattle.go_laws.specs.NodeNumbers.{NodeNumbersAscend}
 use Rattle.go_laws.proofs.Asked.{AreAsked}
 use Rattle.go_laws.proofs.BuiltLemmas.{built_asked}
+use Rattle.go_laws.proofs.BuiltModuleLemmas.{values_are_built}
 use Rattle.go_laws.proofs.CompleteLemmas.{complete_where_asked}
 use Rattle.go_laws.proofs.Denoting.{ImportsHaveHeaders}
 use Rattle.go_laws.proofs.DenotingLemmas.{names_denote}
@@ -141,13 +142,14 @@ module _ (m : ModuleData) where
 sound_names : (m : ModuleData) (k : ℕ) (p : PackageData) (before after : Headers) (lines : List LineData) (named : List NamedData) → IsVerdict m k p before (accepted lines named) after → broken_names (known_in m) k p ≡ []
 sound_names m k p before after lines named (sound _ _ breaks _) = breaks.sound_names
 
-pub accepted_complete : (own stubs : Folder) (m : ModuleData) → IsModule own stubs m → ValuesAreBuilt m
+pub accepted_complete : (own stubs : Folder) (m : ModuleData) → IsModule own stubs m
     → (k : ℕ) (marks : List Bool) (p : PackageData) (before after : Headers) (lines : List LineData) (named : List NamedData)
     → IsReached m k marks before → slice_get m.packages k ≡ Some p → imports_accepted marks p ≡ true
     → IsVerdict m k p before (accepted lines named) after
     → IsComplete (meaning_in m k p before) after p
-accepted_complete own stubs m is built k marks p before after lines named reached at imports verdict =
+accepted_complete own stubs m is k marks p before after lines named reached at imports verdict =
     let ascend = node_numbers_ascend own stubs m is in
+    let built = values_are_built own stubs m is in
     complete_at m ascend built k marks p before after lines named (known_reached m ascend built reached) at imports verdict (sound_names m k p before after lines named verdict)
 
 -- REPORTS

@@ -8,14 +8,12 @@ ghost use Rattle.go_model.specs.Outcomes.Walk.{Headers};
 ghost use Rattle.go_model.specs.Phases.{IsVerdict, ReportOf, imports_accepted, is_accepted};
 ghost use Rattle.go_model.specs.Report.{LineData, NamedData, PackageReportData, ReportData, accepted};
 ghost use Rattle.go_model.specs.Values.Meaning.{meaning_in};
-ghost use Rattle.go_laws.specs.BuiltTrees.{ValuesAreBuilt};
 ghost use Rattle.go_laws.specs.Complete.{IsAcceptedAt, IsComplete, IsReached};
 
-/// Where the check of a module that is loaded, and whose expressions are built, comes to a package whose imports are
-/// accepted, and accepts it, each declaration of the package has a header, and each node of its expressions that is asked
-/// for a record has one.
+/// Where the check of a module that is loaded comes to a package whose imports are accepted, and accepts it, each
+/// declaration of the package has a header, and each node of its expressions that is asked for a record has one.
 pub fn accepted_is_complete()
-    ensures { (own stubs : Folder) (m : ModuleData) → IsModule own stubs m → ValuesAreBuilt m
+    ensures { (own stubs : Folder) (m : ModuleData) → IsModule own stubs m
         → (k : ℕ) (marks : List Bool) (p : PackageData) (before after : Headers) (lines : List LineData) (named : List NamedData)
         → IsReached m k marks before → slice_get m.packages k ≡ Some p → imports_accepted marks p ≡ true
         → IsVerdict m k p before (accepted lines named) after
