@@ -25,40 +25,7 @@ use Rattle.go_model.proofs.ExactWaitLemmas.{outcome_exactly}
 use Rattle.go_laws.specs.Complete.{asked_in, asked_in_each}
 use Rattle.go_laws.proofs.Asked.{AreIntegers, IsAsked}
 use Rattle.go_laws.proofs.IntegerLemmas.{HaveIntegers, part_integer}
-use Rattle.go_laws.proofs.OccursLemmas.{only_is}
-
--- what stands in a list that is made of several, or of another
-pub flat_cases : {X Y : Type 0} (f : X → List Y) (xs : List X) (y : Y) → Contains (flat_map f xs) y → (x : X) × Contains xs x × Contains (f x) y
-flat_cases {X = X} f [] y h = absurd (contains_none y h)
-flat_cases {X = X} f (x ∷ xs) y h = by_either (Contains-append_cases (f x) (flat_map f xs) y h) (flat_cases f xs y)
-  where
-    by_either : Contains (f x) y ⊎ Contains (flat_map f xs) y → (Contains (flat_map f xs) y → (z : X) × Contains xs z × Contains (f z) y) → (z : X) × Contains (x ∷ xs) z × Contains (f z) y
-    by_either (inl here) later = (x, contains_head x xs x refl, here)
-    by_either (inr there) later = let found = later there in (found.0, contains_tail x xs found.0 found.1, found.2)
-
-pub flat_contains : {X Y : Type 0} (f : X → List Y) (xs : List X) (x : X) (y : Y) → Contains xs x → Contains (f x) y → Contains (flat_map f xs) y
-flat_contains f [] x y h i = absurd (contains_none x h)
-flat_contains f (z ∷ xs) x y h i = by_cases (cons_cases z xs x h) (flat_contains f xs x y)
-  where
-    by_cases : (z ≡ x) ⊎ Contains xs x → (Contains xs x → Contains (f x) y → Contains (flat_map f xs) y) → Contains (flat_map f (z ∷ xs)) y
-    by_cases (inl same) later = Contains-append_left (f z) (flat_map f xs) y (subst (λ w. Contains (f w) y) (sym same) i)
-    by_cases (inr there) later = Contains-append_right (f z) (flat_map f xs) y (later there i)
-
-pub map_cases : {X Y : Type 0} (f : X → Y) (xs : List X) (y : Y) → Contains (map f xs) y → (x : X) × Contains xs x × (f x ≡ y)
-map_cases {X = X} f [] y h = absurd (contains_none y h)
-map_cases {X = X} f (x ∷ xs) y h = by_cases (cons_cases (f x) (map f xs) y h) (map_cases f xs y)
-  where
-    by_cases : (f x ≡ y) ⊎ Contains (map f xs) y → (Contains (map f xs) y → (z : X) × Contains xs z × (f z ≡ y)) → (z : X) × Contains (x ∷ xs) z × (f z ≡ y)
-    by_cases (inl here) later = (x, contains_head x xs x refl, here)
-    by_cases (inr there) later = let found = later there in (found.0, contains_tail x xs found.0 found.1, found.2)
-
-pub map_contains : {X Y : Type 0} (f : X → Y) (xs : List X) (x : X) → Contains xs x → Contains (map f xs) (f x)
-map_contains f [] x h = absurd (contains_none x h)
-map_contains f (z ∷ xs) x h = by_cases (cons_cases z xs x h) (map_contains f xs x)
-  where
-    by_cases : (z ≡ x) ⊎ Contains xs x → (Contains xs x → Contains (map f xs) (f x)) → Contains (map f (z ∷ xs)) (f x)
-    by_cases (inl same) later = contains_head (f z) (map f xs) (f x) (ap f same)
-    by_cases (inr there) later = contains_tail (f z) (map f xs) (f x) (later there)
+use Rattle.go_laws.proofs.ListLemmas.{flat_cases, flat_contains, map_cases, map_contains, only_is}
 
 -- a part of a node, and what is found of it
 part_at : (ts : Trees) (n : ℕ) → n < length (list_of ts) → (t : Tree) × (slice_get (list_of ts) n ≡ Some t)

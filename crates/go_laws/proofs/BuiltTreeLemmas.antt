@@ -19,32 +19,9 @@ use Rattle.go_form.specs.Rules as rule
 use Rattle.go_form.specs.Unbuilt.{unbuilt_among, unbuilt_in}
 use Rattle.go_form.specs.Whole.{broken_forms, written, written_among}
 use Rattle.go_laws.specs.BuiltTrees.{IsBuilt, IsIdentifier, identifier, integer, name, parentheses, selector, sum}
-use Rattle.go_laws.proofs.AskedLemmas.{flat_cases, flat_contains, map_cases}
+use Rattle.go_laws.proofs.ListLemmas.{flat_cases, left_is_empty, map_cases, map_is_empty, none_of_each, right_is_empty}
 use Rattle.go_laws.proofs.TreeShapes.{AllShaped, Is, Named, Operand, Shaped, Spec, is_of, kinds_in}
 use Rattle.go_laws.proofs.WholeShapeLemmas.{spec_kind}
-
--- ---- empty lists
-
-pub left_empty : {X : Type 0} (xs ys : List X) → xs ++ ys ≡ [] → xs ≡ []
-left_empty [] ys e = refl
-left_empty (x ∷ xs) ys e = cc
-
-pub right_empty : {X : Type 0} (xs ys : List X) → xs ++ ys ≡ [] → ys ≡ []
-right_empty [] ys e = e
-right_empty (x ∷ xs) ys e = cc
-
-pub map_empty : {X Y : Type 0} (f : X → Y) (xs : List X) → map f xs ≡ [] → xs ≡ []
-map_empty f [] e = refl
-map_empty f (x ∷ xs) e = cc
-
-none_by : {X Y : Type 0} (f : X → List Y) (xs : List X) → flat_map f xs ≡ [] → (x : X) → Contains xs x → (l : List Y) → f x ≡ l → l ≡ []
-none_by f xs e x h [] is = refl
-none_by f xs e x h (y ∷ ys) is =
-    let here : Contains (f x) y = subst (λ l. Contains l y) (sym is) (contains_head y ys y refl) in
-    absurd (contains_none y (subst (λ l. Contains l y) e (flat_contains f xs x y h here)))
-
-none_each : {X Y : Type 0} (f : X → List Y) (xs : List X) → flat_map f xs ≡ [] → (x : X) → Contains xs x → f x ≡ []
-none_each f xs e x h = none_by f xs e x h (f x) refl
 
 -- ---- trees that break no rule by their form
 
@@ -67,16 +44,20 @@ record AllSound (ts : Trees) : Type 0 where
 first_sound : (t : Tree) (ts : Trees) → AllSound (more_trees t ts) → Sound t
 first_sound t ts a = record {
   shaped = a.shaped.0;
-  no_unbuilt = left_empty (unbuilt_in t) (unbuilt_among ts) a.no_unbuilt;
+  no_unbuilt = left_is_empty (unbuilt_in t) (unbuilt_among ts) a.no_unbuilt;
   no_floats = λ s h. a.no_floats s (Contains-append_left (written t) (written_among ts) s h);
 }
 
 others_sound : (t : Tree) (ts : Trees) → AllSound (more_trees t ts) → AllSound ts
 others_sound t ts a = record {
   shaped = a.shaped.1;
-  no_unbuilt = right_empty (unbuilt_in t) (unbuilt_among ts) a.no_unbuilt;
+  no_unbuilt = right_is_empty (unbuilt_in t) (unbuilt_among ts) a.no_unbuilt;
   no_floats = λ s h. a.no_floats s (Contains-append_right (written t) (written_among ts) s h);
 }
+
+-- the parts of a node of which no part is a copy
+parts_sound : (t : Tree) (ts : Trees) → AllShaped ts → unbuilt_among ts ≡ [] → ((s : Tree) → Contains (t ∷ written_among ts) s → float_literal_at s ≡ []) → AllSound ts
+parts_sound t ts shaped none floats = record { shaped = shaped; no_unbuilt = none; no_floats = λ s h. floats s (contains_tail t (written_among ts) s h) }
 
 each_sound : (ts : Trees) → AllSound ts → (t : Tree) → Contains (list_of ts) t → Sound t
 each_sound no_trees a t h = absurd (contains_none t h)
@@ -135,15 +116,12 @@ built (branch id from to k.SelectorExpr text (more_trees x (more_trees f no_tree
 built (branch id from to k.SelectorExpr text (more_trees x (more_trees f (more_trees t ts)))) i s = absurd (let never : false ≡ true = s.shaped.0 in cc)
 built (branch id from to k.ParenExpr text no_trees) i s = absurd (let never : false ≡ true = s.shaped.0 in cc)
 built (branch id from to k.ParenExpr text (more_trees x no_trees)) i s =
-    let parts = more_trees x no_trees in
-    let inner : AllSound parts = record { shaped = s.shaped.1; no_unbuilt = s.no_unbuilt; no_floats = λ r h. s.no_floats r (contains_tail (branch id from to k.ParenExpr text parts) (written_among parts) r h) } in
-    parentheses id from to text x (built x s.shaped.0 (first_sound x no_trees inner))
+    parentheses id from to text x (built x s.shaped.0 (first_sound x no_trees (parts_sound (branch id from to k.ParenExpr text (more_trees x no_trees)) (more_trees x no_trees) s.shaped.1 s.no_unbuilt s.no_floats)))
 built (branch id from to k.ParenExpr text (more_trees x (more_trees t ts))) i s = absurd (let never : false ≡ true = s.shaped.0 in cc)
 built (branch id from to k.AddExpr text no_trees) i s = absurd (let never : false ≡ true = s.shaped.0 in cc)
 built (branch id from to k.AddExpr text (more_trees x no_trees)) i s = absurd (let never : false ≡ true = s.shaped.0 in cc)
 built (branch id from to k.AddExpr text (more_trees x (more_trees y no_trees))) i s =
-    let parts = more_trees x (more_trees y no_trees) in
-    let inner : AllSound parts = record { shaped = s.shaped.1; no_unbuilt = s.no_unbuilt; no_floats = λ r h. s.no_floats r (contains_tail (branch id from to k.AddExpr text parts) (written_among parts) r h) } in
+    let inner = parts_sound (branch id from to k.AddExpr text (more_trees x (more_trees y no_trees))) (more_trees x (more_trees y no_trees)) s.shaped.1 s.no_unbuilt s.no_floats in
     let both = and_parts (is_of Operand (kind_of x)) (is_of Operand (kind_of y)) s.shaped.0 in
     sum id from to text x y (built x both.0 (first_sound x (more_trees y no_trees) inner)) (built y both.1 (first_sound y no_trees (others_sound x (more_trees y no_trees) inner)))
 built (branch id from to k.AddExpr text (more_trees x (more_trees y (more_trees t ts)))) i s = absurd (let never : false ≡ true = s.shaped.0 in cc)
@@ -168,8 +146,7 @@ built (branch id from to _ text ts) i s = absurd (let never : from ∷ [] ≡ []
 -- a list of expressions
 list_built : (list : Tree) → kind_of list ≡ k.ExprList → Sound list → (t : Tree) → Contains (list_of (parts_of list)) t → IsBuilt t
 list_built (branch id from to k.ExprList text ts) e s t h =
-    let inner : AllSound ts = record { shaped = s.shaped.1; no_unbuilt = s.no_unbuilt; no_floats = λ r i. s.no_floats r (contains_tail (branch id from to k.ExprList text ts) (written_among ts) r i) } in
-    built t (each_is ts (is_of Operand) s.shaped.0 t h) (each_sound ts inner t h)
+    built t (each_is ts (is_of Operand) s.shaped.0 t h) (each_sound ts (parts_sound (branch id from to k.ExprList text ts) ts s.shaped.1 s.no_unbuilt s.no_floats) t h)
 list_built (branch id from to _ text ts) e s t h = absurd (cc e)
 
 -- the values of a spec are a list of expressions
@@ -183,12 +160,12 @@ value_list (branch id from to _ text ts) h = cc
 
 -- where a spec with these parts has no unbuilt form, its list is written
 written_list : (b : Bool) (xs ys : List ℕ) (from : ℕ) → (if b then xs ++ ys else from ∷ []) ≡ [] → (b ≡ true) × (ys ≡ [])
-written_list true xs ys from e = (refl, right_empty xs ys e)
+written_list true xs ys from e = (refl, right_is_empty xs ys e)
 written_list false xs ys from e = cc
 
 -- and no type stands before it
 typed_list : (b : Bool) (xs ys : List ℕ) (at from : ℕ) → (if b then xs ++ (at ∷ ys) else from ∷ []) ≡ [] → ⊥
-typed_list true xs ys at from e = let never : at ∷ ys ≡ [] = right_empty xs (at ∷ ys) e in cc
+typed_list true xs ys at from e = let never : at ∷ ys ≡ [] = right_is_empty xs (at ∷ ys) e in cc
 typed_list false xs ys at from e = cc
 
 spec_built : (file : ℕ) (spec : Tree) → kind_of spec ≡ k.ConstSpec → Sound spec → (t : Tree) → Contains (const_spec file spec).values t → IsBuilt t
@@ -217,15 +194,15 @@ specs_built file parts q a d h t i =
 
 declaration_built : (file : ℕ) (t : Tree) → Sound t → (d : SpecData) → Contains (specs_in file t) d → (v : Tree) → Contains d.values v → IsBuilt v
 declaration_built file (branch id from to k.ConstDecl text parts) s d h v i =
-    specs_built file parts s.shaped.0 (record { shaped = s.shaped.1; no_unbuilt = s.no_unbuilt; no_floats = λ r j. s.no_floats r (contains_tail (branch id from to k.ConstDecl text parts) (written_among parts) r j) }) d h v i
+    specs_built file parts s.shaped.0 (parts_sound (branch id from to k.ConstDecl text parts) parts s.shaped.1 s.no_unbuilt s.no_floats) d h v i
 declaration_built file (branch id from to k.ConstGroup text parts) s d h v i =
-    specs_built file parts s.shaped.0 (record { shaped = s.shaped.1; no_unbuilt = s.no_unbuilt; no_floats = λ r j. s.no_floats r (contains_tail (branch id from to k.ConstGroup text parts) (written_among parts) r j) }) d h v i
+    specs_built file parts s.shaped.0 (parts_sound (branch id from to k.ConstGroup text parts) parts s.shaped.1 s.no_unbuilt s.no_floats) d h v i
 declaration_built file (branch id from to _ text parts) s d h v i = absurd (contains_none d h)
 
 -- the values of the declarations of a file
 pub file_built : (file : ℕ) (tree : Tree) → kind_of tree ≡ k.File → Sound tree → (d : SpecData) → Contains (specs_in_file file tree) d → (v : Tree) → Contains d.values v → IsBuilt v
 file_built file (branch id from to k.File text parts) e s d h v i =
-    let inner : AllSound parts = record { shaped = s.shaped.1; no_unbuilt = s.no_unbuilt; no_floats = λ r j. s.no_floats r (contains_tail (branch id from to k.File text parts) (written_among parts) r j) } in
+    let inner = parts_sound (branch id from to k.File text parts) parts s.shaped.1 s.no_unbuilt s.no_floats in
     let z = flat_cases (specs_in file) (list_of parts) d h in
     declaration_built file z.0 (each_sound parts inner z.0 z.1) d z.2 v i
 file_built file (branch id from to _ text parts) e s d h v i = absurd (cc e)
@@ -234,18 +211,18 @@ file_built file (branch id from to _ text parts) e s d h v i = absurd (cc e)
 
 no_float_at : (file : ℕ) (t : Tree) → broken_at_node file t ≡ [] → float_literal_at t ≡ []
 no_float_at file t e =
-    let behind_parameters = right_empty (broken_parameters file t) _ e in
-    let behind_declarations = right_empty (broken_declarations file t) _ behind_parameters in
-    let forms = left_empty (unsupported_forms file t) _ behind_declarations in
-    map_empty (λ offset. broken_at file offset rule.float_literal) (float_literal_at t) (left_empty (told file rule.float_literal (float_literal_at t)) _ forms)
+    let behind_parameters = right_is_empty (broken_parameters file t) _ e in
+    let behind_declarations = right_is_empty (broken_declarations file t) _ behind_parameters in
+    let forms = left_is_empty (unsupported_forms file t) _ behind_declarations in
+    map_is_empty (λ offset. broken_at file offset rule.float_literal) (float_literal_at t) (left_is_empty (told file rule.float_literal (float_literal_at t)) _ forms)
 
 pub form_sound : (file : ℕ) (constraints : List ℕ) (t : Tree) → Shaped t → broken_forms file constraints t ≡ [] → Sound t
 form_sound file constraints t s e =
-    let in_tree = right_empty (told file rule.build_constraint constraints) _ e in
-    let unbuilt = left_empty (told file unbuilt_form (unbuilt_in t)) (flat_map (broken_at_node file) (written t)) in_tree in
-    let at_nodes = right_empty (told file unbuilt_form (unbuilt_in t)) (flat_map (broken_at_node file) (written t)) in_tree in
+    let in_tree = right_is_empty (told file rule.build_constraint constraints) _ e in
+    let unbuilt = left_is_empty (told file unbuilt_form (unbuilt_in t)) (flat_map (broken_at_node file) (written t)) in_tree in
+    let at_nodes = right_is_empty (told file unbuilt_form (unbuilt_in t)) (flat_map (broken_at_node file) (written t)) in_tree in
     record {
       shaped = s;
-      no_unbuilt = map_empty (λ offset. broken_at file offset unbuilt_form) (unbuilt_in t) unbuilt;
-      no_floats = λ r h. no_float_at file r (none_each (broken_at_node file) (written t) at_nodes r h);
+      no_unbuilt = map_is_empty (λ offset. broken_at file offset unbuilt_form) (unbuilt_in t) unbuilt;
+      no_floats = λ r h. no_float_at file r (none_of_each (broken_at_node file) (written t) at_nodes r h);
     }

@@ -41,10 +41,10 @@ use Rattle.go_expr.proofs.AwaitedLemmas.{awaited_means}
 use Rattle.go_decl.proofs.WaitLemmas.{denoted_may_have}
 use Rattle.go_laws.specs.Complete.{IsComplete, asked_in, values_in}
 use Rattle.go_laws.proofs.Asked.{AreAsked}
-use Rattle.go_laws.proofs.AskedLemmas.{IsGood, IsUnbroken, asked_are_nodes, each_good, flat_cases, flat_contains, map_cases, map_contains}
+use Rattle.go_laws.proofs.AskedLemmas.{IsGood, IsUnbroken, asked_are_nodes, each_good}
 use Rattle.go_laws.proofs.DenotedLemmas.{declared_by_number}
-use Rattle.go_laws.proofs.EmptyLemmas.{left_is_empty, map_is_empty, none_of_each, right_is_empty}
 use Rattle.go_laws.proofs.IntegerLemmas.{HaveIntegers, integer_declared, known_integer, record_integer}
+use Rattle.go_laws.proofs.ListLemmas.{flat_cases, flat_contains, left_is_empty, map_cases, map_contains, map_is_empty, none_of_each, right_is_empty}
 use Rattle.go_laws.proofs.WalkLemmas.{no_walk}
 
 -- what a number names is a declaration with that number

@@ -1,5 +1,6 @@
 pub mod Asked
 pub mod Denoting
+pub mod ListLemmas
 pub mod IntegerLemmas
 pub mod AskedLemmas
 pub mod WalkLemmas
@@ -9,7 +10,6 @@ pub mod NodeFileLemmas
 pub mod PickedLemmas
 pub mod UseLemmas
 pub mod OccursLemmas
-pub mod EmptyLemmas
 pub mod FileLemmas
 pub mod ResolvedLemmas
 pub mod DenotedLemmas
@@ -19,6 +19,8 @@ pub mod ReachedLemmas
 pub mod TreeShapes
 pub mod PartShapes
 pub mod PartShapeLemmas
+pub mod PartActLemmas
+pub mod PartJoinLemmas
 pub mod PartReadingLemmas
 pub mod GrammarShapes
 pub mod WholeShapeLemmas

@@ -1,18 +1,18 @@
 -- Each node of an expression of a package is a node of the file in which the expression stands.
 use Rattle.std.proofs.Common.{◌≡◌, ℕ, ◌+◌, List, [], ◌∷◌, ◌++◌, ◌⊎◌, inl, inr, Contains, refl, sym, subst, ⊎_elim}
-use Rattle.std.proofs.lemmas.List.Elements.{Contains-append_cases, Contains-append_left, Contains-append_right, Contains-push}
+use Rattle.std.proofs.lemmas.List.Elements.{Contains-append_left, Contains-append_right, Contains-push}
 use Rattle.go_tree.specs.declared.node_kind.NodeKind.TheVariants.{ConstCopy}
 use Rattle.go_tree.specs.Tree.{Tree, Trees, branch, list_of, more_trees, no_trees, parts_of}
 use Rattle.go_module.specs.Modules.Module.{FileData, PackageData}
-use Rattle.go_module.specs.Names.Declarations.{Spec, behind_names, const_spec, specs_from, specs_in, specs_in_file, specs_of, values_behind}
+use Rattle.go_module.specs.Names.Declarations.{Spec, behind_names, const_spec, specs_in, specs_in_file, specs_of, values_behind}
 use Rattle.go_module.specs.Names.Inner.{inner_by, inner_of}
 use Rattle.go_module.specs.Names.Occurrences.{found_in, nodes_in, nodes_of_each}
 use Rattle.go_module.specs.NodeParts.{all_but_first}
 use Rattle.go_module.proofs.MemberLemmas.{cons_cases, contains_head, contains_none, contains_tail}
 use Rattle.go_laws.specs.Complete.{values_in}
 use Rattle.go_laws.specs.NodeNumbers.{nodes_by_end, nodes_by_end_among}
-use Rattle.go_laws.proofs.AskedLemmas.{flat_cases}
-use Rattle.go_laws.proofs.FileLemmas.{spec_is}
+use Rattle.go_laws.proofs.FileLemmas.{file_of_spec, spec_is}
+use Rattle.go_laws.proofs.ListLemmas.{flat_cases}
 use Rattle.go_laws.proofs.PickedLemmas.{picked_contains, picked_inner}
 
 pub self_by_end : (t : Tree) → Contains (nodes_by_end t) t
@@ -96,19 +96,11 @@ pub record IsInFile (files : List FileData) (t : Tree) : Type 0 where
   pub among : Contains files file
   pub under : IsUnder file.tree t
 
-in_some_file : (place : ℕ) (files : List FileData) (spec : Spec) → Contains (specs_from place files) spec → (t : Tree) → Contains spec.values t → IsInFile files t
-in_some_file place [] spec h t value = absurd (contains_none spec h)
-in_some_file place (f ∷ files) spec h t value =
-    ⊎_elim
-    (λ (here : Contains (specs_in_file place f.tree) spec). record { file = f; among = contains_head f files f refl; under = in_file place f.tree spec here t value })
-    (λ (there : Contains (specs_from (place + 1) files) spec). let later = in_some_file (place + 1) files spec there t value in
-    record { file = later.file; among = contains_tail f files later.file later.among; under = later.under })
-    (Contains-append_cases (specs_in_file place f.tree) (specs_from (place + 1) files) spec h)
-
 pub file_of_value : (p : PackageData) (t : Tree) → Contains (values_in p) t → IsInFile p.files t
 file_of_value p t h =
     let spec = flat_cases (λ (spec : Spec). spec.values) (specs_of p) t h in
-    in_some_file 0 p.files spec.0 spec.1 t spec.2
+    let from = file_of_spec 0 p.files spec.0 spec.1 in
+    record { file = from.1; among = from.2; under = in_file from.0 from.1.tree spec.0 from.3 t spec.2 }
 
 -- each node of an expression of a package is a node of one of its files
 pub nodes_are_there : (p : PackageData) (t : Tree) → Contains (values_in p) t → (s : Tree) → Contains (nodes_in t) s → (f : FileData) × Contains p.files f × Contains (nodes_by_end f.tree) s

@@ -28,7 +28,7 @@ use Rattle.go_load.proofs.FrontLemmas.{one_place_of, result_at}
 use Rattle.go_load.proofs.PathSetLemmas.{same}
 use Rattle.go_load.proofs.SlotLemmas.{passes}
 use Rattle.go_laws.specs.NodeNumbers.{NodeNumbersAscend, nodes_by_end, nodes_by_end_among, nodes_in_files, numbers_in_files}
-use Rattle.go_laws.proofs.AskedLemmas.{flat_contains, map_contains}
+use Rattle.go_laws.proofs.ListLemmas.{flat_cases, flat_contains, found_from, map_cases, map_contains}
 use Rattle.go_laws.proofs.PickedLemmas.{one_numbered, pairs_ascend}
 
 -- LISTS OF NUMBERS THAT ASCEND: the first is below the others, and two such lists, one below the other, make one
@@ -205,17 +205,13 @@ module _ (files : List FileData) where
   abbrev From : List ℕ → ℕ → Type 0
   From places n = (i : ℕ) × Contains places i × HasNumber files n i
 
-  from_by : (i : ℕ) (places : List ℕ) (n : ℕ) (found : Option FileData) → slice_get files i ≡ found → (Contains (numbers_in_files (picked places)) n → From places n) → Contains (numbers_in_files (cons_option found (picked places))) n → From (i ∷ places) n
-  from_by i places n None e later h = let there = later h in (there.0, contains_tail i places there.0 there.1, there.2)
-  from_by i places n (Some f) e later h =
-      ⊎_elim
-      (λ (here : Contains (numbers_in f.tree) n). (i, contains_head i places i refl, record { file = f; at = e; number = here }))
-      (λ (behind : Contains (numbers_in_files (picked places)) n). let there = later behind in (there.0, contains_tail i places there.0 there.1, there.2))
-      (Contains-append_cases (numbers_in f.tree) (numbers_in_files (picked places)) n (subst (λ (ns : List ℕ). Contains ns n) (files_joined f (picked places)) h))
-
   number_from : (places : List ℕ) (n : ℕ) → Contains (numbers_in_files (picked places)) n → From places n
-  number_from [] n h = absurd (contains_none n h)
-  number_from (i ∷ places) n h = from_by i places n (slice_get files i) refl (number_from places n) h
+  number_from places n h =
+      let node = map_cases id_of (nodes_in_files (picked places)) n h in
+      let from = flat_cases (λ (f : FileData). nodes_by_end f.tree) (picked places) node.0 node.1 in
+      let place = found_from (slice_get files) places from.0 from.1 in
+      let own : Contains (numbers_in from.0.tree) n = subst (λ (x : ℕ). Contains (numbers_in from.0.tree) x) node.2 (map_contains id_of (nodes_by_end from.0.tree) node.0 from.2) in
+      (place.0, place.1, record { file = from.0; at = place.2; number = own })
 
   module _ (own : (i : ℕ) (f : FileData) → slice_get files i ≡ Some f → Ascends (numbers_in f.tree))
       (before : (i j : ℕ) (f g : FileData) → i < j → slice_get files i ≡ Some f → slice_get files j ≡ Some g → (a b : ℕ) → Contains (numbers_in f.tree) a → Contains (numbers_in g.tree) b → a < b) where

@@ -1,5 +1,5 @@
 -- An identifier that is asked for a record occurs: by itself, or before a `.` behind which no name of a package stands.
-use Rattle.std.proofs.Common.{◌≡◌, ℕ, Option, List, [], ◌∷◌, ◌++◌, ◌⊎◌, inl, inr, Contains, refl, sym, ap, ◌∙◌, subst}
+use Rattle.std.proofs.Common.{◌≡◌, ℕ, Option, List, [], ◌∷◌, ◌++◌, ◌⊎◌, inl, inr, Contains, refl, ap, ◌∙◌}
 use Rattle.std.specs.List.{flat_map}
 use Rattle.std.proofs.lemmas.List.Elements.{Contains-append_cases, Contains-append_left, Contains-append_right}
 use Rattle.go_graph.specs.Graph.{row_at}
@@ -7,27 +7,14 @@ use Rattle.go_tree.specs.declared.node_kind.NodeKind.TheVariants.{AddExpr, IntLi
 use Rattle.go_tree.specs.Tree.{Tree, branch, id_of, kind_of, more_trees, no_trees, start_of, text_of}
 use Rattle.go_module.specs.declared.block.Occurrence.{Occurrence}
 use Rattle.go_module.specs.Names.Occurrences.{names_in, occurrence, selecting, with_selected}
-use Rattle.go_module.proofs.MemberLemmas.{cons_cases, contains_head, contains_none}
+use Rattle.go_module.proofs.MemberLemmas.{cons_cases, contains_head}
 use Rattle.go_model.specs.declared.meaning.Meaning.{Meaning}
 use Rattle.go_model.specs.declared.meaning.Meaning.TheVariants.{Declared, Other, Predeclared}
 use Rattle.go_model.specs.Outcomes.Constructs.Name.{name as name_construct}
 use Rattle.go_model.specs.Outcomes.Constructs.Selector.{selector as selector_construct}
 use Rattle.go_laws.specs.BuiltTrees.{IsBuilt, IsIdentifier, identifier, integer, name, parentheses, selector, sum}
 use Rattle.go_laws.specs.Complete.{asked_in, asked_in_each}
-
-pub only_is : {X : Type 0} (x y : X) → Contains (x ∷ []) y → x ≡ y
-only_is x y h = by_cases (cons_cases x [] y h)
-  where
-    by_cases : (x ≡ y) ⊎ Contains [] y → x ≡ y
-    by_cases (inl same) = same
-    by_cases (inr none) = absurd (contains_none y none)
-
-pub in_front : {X : Type 0} (xs : List X) (y : X) → Contains (xs ++ []) y → Contains xs y
-in_front xs y h = by_cases (Contains-append_cases xs [] y h)
-  where
-    by_cases : Contains xs y ⊎ Contains [] y → Contains xs y
-    by_cases (inl here) = here
-    by_cases (inr none) = absurd (contains_none y none)
+use Rattle.go_laws.proofs.ListLemmas.{in_front, only_is}
 
 module _ (means : ℕ → Meaning) (file : ℕ) (told_at : Option ℕ) where
   -- before a `.`, and what stands behind it denotes nothing

@@ -1,7 +1,7 @@
 -- What sorts and contents say of trees.
-use Rattle.std.proofs.Common.{◌≡◌, Bool, true, false, cond, ◌&&◌, List, [], ◌∷◌, ◌++◌, refl, sym, ap, subst, reverse}
+use Rattle.std.proofs.Common.{◌≡◌, Bool, true, false, cond, List, [], ◌∷◌, ◌++◌, refl, sym, ap, subst, reverse}
 use Rattle.std.specs.List.{list_all}
-use Rattle.std.proofs.lemmas.Bool.{and_parts}
+use Rattle.std.proofs.lemmas.Bool.{and_from, and_parts}
 use Rattle.std.proofs.lemmas.Grind.{reverse_onto}
 use Rattle.go_tree.specs.declared.node_kind.NodeKind.{NodeKind}
 use Rattle.go_tree.specs.declared.node_kind.NodeKind.TheVariants as k
@@ -188,18 +188,10 @@ all_parts : (c : Sort) (u : Content) (xs : List Tree) → all_are c u ≡ true �
 all_parts c (content cs d) xs h a = are_within (sort_of_all cs d) c xs h (are_all cs d xs a)
 
 kinds_behind : (p : NodeKind → Bool) (xs : List Tree) (t : Tree) → list_all p (kinds_in (trees_of xs)) ≡ true → p (kind_of t) ≡ true → list_all p (kinds_in (trees_of (xs ++ t ∷ []))) ≡ true
-kinds_behind p [] t h q = by_test (p (kind_of t)) q
-  where
-    by_test : (b : Bool) → b ≡ true → (b && true) ≡ true
-    by_test true e = refl
-    by_test false e = cc
+kinds_behind p [] t h q = and_from (p (kind_of t)) true q refl
 kinds_behind p (x ∷ xs) t h q =
     let parts = and_parts (p (kind_of x)) (list_all p (kinds_in (trees_of xs))) h in
-    by_test (p (kind_of x)) (list_all p (kinds_in (trees_of (xs ++ t ∷ [])))) parts.0 (kinds_behind p xs t parts.1 q)
-  where
-    by_test : (b c : Bool) → b ≡ true → c ≡ true → (b && c) ≡ true
-    by_test true c e q = q
-    by_test false c e q = cc
+    and_from (p (kind_of x)) (list_all p (kinds_in (trees_of (xs ++ t ∷ [])))) parts.0 (kinds_behind p xs t parts.1 q)
 
 kinds_reversed : (c : Sort) (xs : List Tree) → Are [] c xs → list_all (is_of c) (kinds_in (trees_of (reverse xs))) ≡ true
 kinds_reversed c [] a = refl
@@ -218,11 +210,7 @@ closed_shape k.SelectorExpr u xs h a = let z = two_parts Anything Named u xs h a
 closed_shape k.ParenExpr u xs h a = let z = one_part Operand u xs h a in subst (λ (ys : List Tree). has_shape k.ParenExpr (KindsOf ys) ≡ true) (sym z.1) z.2.is
 closed_shape k.AddExpr u xs h a =
     let z = two_parts Operand Operand u xs h a in
-    subst (λ (ys : List Tree). has_shape k.AddExpr (KindsOf ys) ≡ true) (sym z.2) (by_test (is_of Operand (kind_of z.0)) (is_of Operand (kind_of z.1)) z.3.is z.4.is)
-  where
-    by_test : (b c : Bool) → b ≡ true → c ≡ true → (b && c) ≡ true
-    by_test true c e q = q
-    by_test false c e q = cc
+    subst (λ (ys : List Tree). has_shape k.AddExpr (KindsOf ys) ≡ true) (sym z.2) (and_from (is_of Operand (kind_of z.0)) (is_of Operand (kind_of z.1)) z.3.is z.4.is)
 closed_shape k.ExprList u xs h a = kinds_reversed Operand xs (all_parts Operand u xs h a)
 closed_shape k.ConstDecl u xs h a = kinds_reversed Spec xs (all_parts Spec u xs h a)
 closed_shape k.ConstGroup u xs h a = kinds_reversed Spec xs (all_parts Spec u xs h a)

@@ -1,15 +1,15 @@
 -- What is known in the states that the check of a module goes through; so each package that it accepts is complete, and it
 -- comes so to each that its report calls accepted.
 use Rattle.std.proofs.Common.{◌≡◌, ℕ, zero, suc, ◌+◌, Bool, true, false, Option, Some, None, List, [], ◌∷◌, ◌++◌, ◌⊎◌, inl, inr, length, Contains, refl, sym, ap, ◌∙◌, subst, arith}
-use Rattle.std.specs.Prelude.{◌&&◌, IsSome, is_some, slice_get}
-use Rattle.std.specs.List.{list_all}
+use Rattle.std.specs.Prelude.{IsSome, is_some, slice_get}
+use Rattle.std.proofs.lemmas.List.Elements.{All-contains}
+use Rattle.std.proofs.lemmas.List.Sums.{AllPass-from_list_all}
 use Rattle.std.proofs.lemmas.Option.{same_Some}
 use Rattle.go_graph.specs.Graph.{is_marked}
 use Rattle.go_module.specs.Modules.Module.{ModuleData, PackageData}
 use Rattle.go_module.specs.Names.Declarations.{Declaration, declarations_of, number_of}
 use Rattle.go_module.specs.Names.Imports.{known_in}
 use Rattle.go_module.specs.Names.Rules.BrokenNames.{broken_names}
-use Rattle.go_module.proofs.MemberLemmas.{cons_cases, contains_none}
 use Rattle.go_mod.specs.Folders.{Folder}
 use Rattle.go_load.specs.Loading.{IsModule}
 use Rattle.go_model.specs.Outcomes.Records.{HeaderData}
@@ -31,15 +31,6 @@ use Rattle.go_laws.proofs.IntegerLemmas.{HaveIntegers, known_integer}
 use Rattle.go_laws.proofs.NodeNumberLemmas.{node_numbers_ascend}
 
 -- MARKS
-
-all_pass : (test : ℕ → Bool) (xs : List ℕ) (x : ℕ) → list_all test xs ≡ true → Contains xs x → test x ≡ true
-all_pass test [] x all h = absurd (contains_none x h)
-all_pass test (y ∷ xs) x all h = by_test (test y) refl all (cons_cases y xs x h) (all_pass test xs x)
-  where
-    by_test : (b : Bool) → test y ≡ b → (b && list_all test xs) ≡ true → (y ≡ x) ⊎ Contains xs x → (list_all test xs ≡ true → Contains xs x → test x ≡ true) → test x ≡ true
-    by_test false is passes there later = absurd (let never : false ≡ true = passes in cc)
-    by_test true is passes (inl same) later = ap test (sym same) ∙ is
-    by_test true is passes (inr there) later = later passes there
 
 -- one more mark
 marked_more : (marks : List Bool) (mark : Bool) (i : ℕ) → is_marked (marks ++ mark ∷ []) i ≡ true → (is_marked marks i ≡ true) ⊎ ((i ≡ length marks) × (mark ≡ true))
@@ -102,7 +93,7 @@ module _ (m : ModuleData) where
           subst (λ (x : PackageData). AreDeclared x after) same declared
 
   imports_known : (k : ℕ) (marks : List Bool) (p : PackageData) (before : Headers) → IsKnown k marks before → imports_accepted marks p ≡ true → ImportsHaveHeaders m p before
-  imports_known k marks p before is imports i q among at = is.declared i q (all_pass (is_marked marks) p.imports i imports among) at
+  imports_known k marks p before is imports i q among at = is.declared i q (All-contains (λ j. is_marked marks j ≡ true) p.imports i (AllPass-from_list_all (is_marked marks) p.imports imports) among) at
 
   module _ (ascend : NodeNumbersAscend m) (built : ValuesAreBuilt m) where
     all_asked : (k : ℕ) (p : PackageData) (before : Headers) → slice_get m.packages k ≡ Some p → broken_names (known_in m) k p ≡ [] → ImportsHaveHeaders m p before → AreAsked (meaning_in m k p before) (values_in p)

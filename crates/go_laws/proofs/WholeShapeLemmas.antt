@@ -1,8 +1,9 @@
 -- A tree of a file has the shapes of its kinds: as it is read, with the copies of omitted lists, and with its numbers.
-use Rattle.std.proofs.Common.{◌≡◌, ℕ, ◌+◌, true, false, Bool, List, [], ◌∷◌, Some, refl, sym, ap, subst, ◌∙◌}
+use Rattle.std.proofs.Common.{◌≡◌, ℕ, ◌+◌, true, false, Bool, List, [], ◌∷◌, refl, sym, ap, subst, ◌∙◌}
 use Rattle.std.specs.Prelude.{if◌then◌else◌}
 use Rattle.std.specs.List.{list_all}
 use Rattle.std.proofs.lemmas.Bool.{and_parts}
+use Rattle.std.proofs.lemmas.Option.{same_Some}
 use Rattle.go_tree.specs.declared.node_kind.NodeKind.{NodeKind}
 use Rattle.go_tree.specs.declared.node_kind.NodeKind.TheVariants as k
 use Rattle.go_tree.specs.declared.production.Production.{Production}
@@ -21,20 +22,17 @@ use Rattle.go_laws.proofs.GrammarShapes.{effects, effects_checked}
 
 -- ---- as it is read
 
-same_tree : (t u : Tree) → Some t ≡ Some u → t ≡ u
-same_tree t u h = cc
-
 read_shaped : (bytes : List ℕ) (tokens : List Token) (t : Tree) → Derives bytes p.File tokens t → Shaped t
 read_shaped bytes tokens t d =
     let z = tree_fine Production production bytes effects effects_checked p.File Anything refl (before tokens) d.whole.end (record { start = 0; parts = [] }) d.whole.reads refl in
-    let same : z.0 ≡ t = same_tree z.0 t (sym (ap tree_read z.2) ∙ d.tree) in
+    let same : z.0 ≡ t = same_Some z.0 t (sym (ap tree_read z.2) ∙ d.tree) in
     subst Shaped same z.1.shaped
 
 read_file : (bytes : List ℕ) (tokens : List Token) (t : Tree) → Derives bytes p.File tokens t → kind_of t ≡ k.File
 read_file bytes tokens t d =
     let z = file_node bytes tokens d.whole.end d.whole.reads in
     let same = sym (ap tree_read z.1) ∙ d.tree in
-    sym (ap kind_of (same_tree _ t same))
+    sym (ap kind_of (same_Some _ t same))
 
 -- ---- with copies
 
