@@ -27,8 +27,9 @@ use Rattle.go_laws.proofs.FileLemmas.{file_of_spec}
 use Rattle.go_laws.proofs.ListLemmas.{flat_cases, found_from, left_is_empty, map_is_empty, right_is_empty}
 use Rattle.go_laws.proofs.WholeShapeLemmas.{file_kind, file_shaped}
 
--- ---- a text that breaks no rule
+-- A TEXT THAT BREAKS NO RULE
 
+-- a file whose nodes have the parts of their kinds, and break no rule by their form
 pub record IsSoundFile (tree : Tree) : Type 0 where
   pub kind : kind_of tree ≡ k.File
   pub sound : Sound tree
@@ -44,6 +45,7 @@ module _ (file first : ℕ) (path bytes : List ℕ) where
   source_sound list e (no_tree fault b le at told) tree is = absurd (cc e)
   source_sound list e (by_form other found le it with) tree is = subst IsSoundFile (one_file_lem bytes first other tree it is) (with_sound other list e it with)
 
+-- the numbers of the next text go on behind the last node
 numbers_on : (first : ℕ) (bytes : List ℕ) (list : List Broken) (mid : ℕ) (tree : Tree) → list ≡ [] → NumbersOn first bytes list mid → IsFileOf bytes first tree → mid ≡ id_of tree + 1
 numbers_on first bytes list mid tree e (whole other it) is = ap (λ (t : Tree). id_of t + 1) (one_file_lem bytes first other tree it is)
 numbers_on first bytes list mid tree e (broken b bs) is = absurd (cc e)
@@ -64,8 +66,9 @@ files_sound number first (text ∷ texts) (tree ∷ trees) next breaks are (suc 
     let rest : TextsBreakFrom (number + 1) (id_of tree + 1) texts next [] = subst (λ x. TextsBreakFrom (number + 1) x texts next []) mid (subst (λ x. TextsBreakFrom (number + 1) breaks.2 texts next x) others breaks.5) in
     files_sound (number + 1) (id_of tree + 1) texts trees next rest are.1 i f at
 
--- ---- packages
+-- PACKAGES
 
+-- the values of a package stand in its files, which are among those of the module
 package_built : (files : List FileData) → ((i : ℕ) (f : FileData) → slice_get files i ≡ Some f → IsSoundFile f.tree) → (row : List ℕ) (t : Tree)
     → Contains (flat_map (λ (d : Spec). d.values) (specs_from 0 (filter_map (slice_get files) row))) t → IsBuilt t
 package_built files sound row t h =

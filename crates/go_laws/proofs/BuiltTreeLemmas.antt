@@ -23,14 +23,16 @@ use Rattle.go_laws.proofs.ListLemmas.{flat_cases, left_is_empty, map_cases, map_
 use Rattle.go_laws.proofs.TreeShapes.{AllShaped, Is, Named, Operand, Shaped, Spec, is_of, kinds_in}
 use Rattle.go_laws.proofs.WholeShapeLemmas.{spec_kind}
 
--- ---- trees that break no rule by their form
+-- TREES THAT BREAK NO RULE BY THEIR FORM
 
+-- no node that is written is a float literal
 abbrev pub NoFloats : Tree → Type 0
 NoFloats t = (s : Tree) → Contains (written t) s → float_literal_at s ≡ []
 
 abbrev NoFloatsAmong : Trees → Type 0
 NoFloatsAmong ts = (s : Tree) → Contains (written_among ts) s → float_literal_at s ≡ []
 
+-- each node has parts as its kind may have, and none is an unbuilt form or a float literal
 pub record Sound (t : Tree) : Type 0 where
   pub shaped : Shaped t
   pub no_unbuilt : unbuilt_in t ≡ []
@@ -59,6 +61,7 @@ others_sound t ts a = record {
 parts_sound : (t : Tree) (ts : Trees) → AllShaped ts → unbuilt_among ts ≡ [] → ((s : Tree) → Contains (t ∷ written_among ts) s → float_literal_at s ≡ []) → AllSound ts
 parts_sound t ts shaped none floats = record { shaped = shaped; no_unbuilt = none; no_floats = λ s h. floats s (contains_tail t (written_among ts) s h) }
 
+-- so of each part
 each_sound : (ts : Trees) → AllSound ts → (t : Tree) → Contains (list_of ts) t → Sound t
 each_sound no_trees a t h = absurd (contains_none t h)
 each_sound (more_trees x ts) a t h = by_cases (cons_cases x (list_of ts) t h) (λ there. each_sound ts (others_sound x ts a) t there)
@@ -77,8 +80,9 @@ each_is (more_trees x ts) p q t h =
     by_cases (inl same) first later = subst (λ (y : Tree). p (kind_of y) ≡ true) same first
     by_cases (inr there) first later = later there
 
--- ---- expressions
+-- EXPRESSIONS
 
+-- a name without parts is an identifier
 identifier_is : (t : Tree) → is_of Named (kind_of t) ≡ true → Shaped t → IsIdentifier t
 identifier_is (branch id from to k.Name text no_trees) h s = identifier id from to text
 identifier_is (branch id from to k.Name text (more_trees t ts)) h s = absurd (let never : false ≡ true = s.0 in cc)
@@ -104,6 +108,7 @@ begins : (b : Bool) (from : ℕ) → (if b then [] else from ∷ []) ≡ [] → 
 begins true from e = refl
 begins false from e = cc
 
+-- an operand that breaks no rule is built
 built : (t : Tree) → Is Operand t → Sound t → IsBuilt t
 built (branch id from to k.IntLit text no_trees) i s = integer id from to text
 built (branch id from to k.IntLit text (more_trees t ts)) i s = absurd (let never : false ≡ true = s.shaped.0 in cc)
@@ -141,7 +146,7 @@ built (branch id from to k.IdentList text ts) i s = absurd (let never : false �
 built (branch id from to k.ExprList text ts) i s = absurd (let never : false ≡ true = i in cc)
 built (branch id from to _ text ts) i s = absurd (let never : from ∷ [] ≡ [] = s.no_unbuilt in cc)
 
--- ---- declarations
+-- DECLARATIONS
 
 -- a list of expressions
 list_built : (list : Tree) → kind_of list ≡ k.ExprList → Sound list → (t : Tree) → Contains (list_of (parts_of list)) t → IsBuilt t
@@ -168,6 +173,7 @@ typed_list : (b : Bool) (xs ys : List ℕ) (at from : ℕ) → (if b then xs ++ 
 typed_list true xs ys at from e = let never : at ∷ ys ≡ [] = right_is_empty xs (at ∷ ys) e in cc
 typed_list false xs ys at from e = cc
 
+-- the values of a spec, and those of all specs of a declaration, are built
 spec_built : (file : ℕ) (spec : Tree) → kind_of spec ≡ k.ConstSpec → Sound spec → (t : Tree) → Contains (const_spec file spec).values t → IsBuilt t
 spec_built file (branch id from to k.ConstSpec text no_trees) e s t h = absurd (let never : from ∷ [] ≡ [] = s.no_unbuilt in cc)
 spec_built file (branch id from to k.ConstSpec text (more_trees names no_trees)) e s t h = absurd (let never : from ∷ [] ≡ [] = s.no_unbuilt in cc)
@@ -178,7 +184,7 @@ spec_built file (branch id from to k.ConstSpec text (more_trees names (more_tree
       shaped = s.shaped.1.1.0;
       no_unbuilt = z.1;
       no_floats = λ r i. s.no_floats r (contains_tail (branch id from to k.ConstSpec text (more_trees names (more_trees list no_trees))) (written_among (more_trees names (more_trees list no_trees))) r
-      (Contains-append_right (written names) (written_among (more_trees list no_trees)) r (Contains-append_left (written list) [] r i)));
+          (Contains-append_right (written names) (written_among (more_trees list no_trees)) r (Contains-append_left (written list) [] r i)));
     } in
     list_built list kind sound t (subst (λ (xs : List Tree). Contains xs t) (values_of_list list kind) h)
 spec_built file (branch id from to k.ConstSpec text (more_trees names (more_trees type (more_trees list no_trees)))) e s t h =
@@ -207,7 +213,7 @@ file_built file (branch id from to k.File text parts) e s d h v i =
     declaration_built file z.0 (each_sound parts inner z.0 z.1) d z.2 v i
 file_built file (branch id from to _ text parts) e s d h v i = absurd (cc e)
 
--- ---- what breaks no rule by its form
+-- WHAT BREAKS NO RULE BY ITS FORM
 
 no_float_at : (file : ℕ) (t : Tree) → broken_at_node file t ≡ [] → float_literal_at t ≡ []
 no_float_at file t e =

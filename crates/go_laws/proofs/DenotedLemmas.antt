@@ -99,7 +99,7 @@ module _ (P : Object → Type 0) where
     tables_known : (clause : List ℕ) → AreKnown (known_by_tables clause (names_of regions) (objects_of regions))
     tables_known clause = record {
       exports = λ o h. (let from = found_from (λ (entry : List ℕ × ObjId). lookup (same_object entry.1) (objects_of regions)) (filter (λ (entry : List ℕ × ObjId). is_exported entry.0) (names_of regions)) o h in
-      entry_found from.0.1 o from.2);
+          entry_found from.0.1 o from.2);
       exported = λ name o found. name_found (is_exported name) (lookup (same_text name) (names_of regions)) o found;
     }
 

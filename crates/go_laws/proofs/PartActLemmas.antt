@@ -42,7 +42,7 @@ same_nodes σ f below fs gs e o = record { tops = o.tops; new = o.new; fit = o.f
 pub same_shape : (σ τ : Shape) (f : OpenNode) (below fs : List OpenNode) → Some σ ≡ Some τ → OnTop σ f below fs → OnTop τ f below fs
 same_shape σ τ f below fs q o = let y : σ ≡ τ = cc in subst (λ x. OnTop x f below fs) y o
 
--- ---- the innermost node, be it one of these or the one round them
+-- THE INNERMOST NODE: one of these, or the one round them
 
 -- the node as its parts make it, what the acts make of it, and that others may stand in place of these parts
 pub record Innermost (σ : Shape) (f : OpenNode) (below fs : List OpenNode) : Type 0 where
@@ -103,7 +103,7 @@ newest_of_parts c cs d made rest fs (x ∷ xs) e a = record { part = x; older = 
 pub newest : (σ : Shape) (f : OpenNode) (below fs : List OpenNode) (c : Sort) (cs : List Sort) (d : Sort) → innermost_of σ ≡ content (c ∷ cs) d → (i : Innermost σ f below fs) → Newest c cs d i.made i.rest fs
 newest σ f below fs c cs d at i = newest_of_parts c cs d i.made i.rest fs i.parts i.are (subst (λ v. Holds v i.parts) at i.holds)
 
--- ---- acts
+-- ACTS
 
 -- the open nodes without the innermost one
 record Inner (u : Content) (us : List Content) (b : Content) (f : OpenNode) (below fs : List OpenNode) : Type 0 where

@@ -7,7 +7,7 @@ use Rattle.go_laws.proofs.PartShapes.{Content, Shape, all_cover, covers, if_sett
 use Rattle.go_laws.proofs.PartShapeLemmas.{Holds, covers_holds, joined_left, joined_right}
 use Rattle.go_laws.proofs.PartActLemmas.{Fits, HaveContents, OnTop}
 
--- ---- two shapes that are joined, and one that says less
+-- JOINED SHAPES: what is known behind the one or the other; and shapes that say less than another
 
 contents_onto : (u : Content) (o : Option Shape) (τ : Shape) → onto u o ≡ Some τ → (ρ : Shape) × (o ≡ Some ρ) × (opened u ρ ≡ τ)
 contents_onto u None τ h = cc

@@ -11,7 +11,7 @@ use Rattle.go_laws.proofs.PartShapeLemmas.{Holds, covers_holds, fine_within, hol
 use Rattle.go_laws.proofs.PartActLemmas.{HaveContents, OnTop, act_on, innermost, newest, opened_on, same_shape, standing, with_parts}
 use Rattle.go_laws.proofs.PartJoinLemmas.{chained, halves, left_on, repeats, repeats_itself, right_on, settled_on}
 
--- ---- what a production is entered with and left with
+-- CALLS: what a production is entered with and left with
 
 record Taken (ns us : List Content) (tops : List OpenNode) : Type 0 where
   ended : List OpenNode
@@ -60,7 +60,7 @@ filled_one v (stack (u ∷ []) b) f below fs h o = by_tops o.tops o.fit.0 o.are
     by_tops (g ∷ (i ∷ tops)) j e = absurd j.1
 filled_one v (stack (u ∷ (w ∷ us)) b) f below fs h o = cc
 
--- ---- right sides
+-- RIGHT SIDES
 
 module _ (N : Type 0) (P : N → RightSide N) (bytes : List ℕ) where
   ended_in : (k : ℕ) (s e : State) → ReadsIn N P bytes k [] s e → s ≡ e

@@ -9,7 +9,7 @@ use Rattle.go_tree.specs.Tree.{Tree, kind_of, trees_of}
 use Rattle.go_laws.proofs.TreeShapes.{Sort, Never, Named, Operand, Spec, Anything, AllShaped, Fine, Shaped, has_shape, is_of, kinds_in, sort_of, within}
 use Rattle.go_laws.proofs.PartShapes.{Content, all_are, are_two, content, covers, is_empty, is_one, join, join_contents, may_close, pushed, sort_of_all}
 
--- ---- sorts
+-- SORTS
 
 within_itself : (c : Sort) → within c c ≡ true
 within_itself Never = refl
@@ -109,7 +109,7 @@ never_fine t f = by_sort (sort_of (kind_of t)) refl f.is
     by_sort Spec e h = cc
     by_sort Anything e h = cc
 
--- ---- contents
+-- CONTENTS
 
 abbrev pub Are : List Sort → Sort → List Tree → Type 0
 Are [] d [] = Unit {0}
@@ -162,7 +162,7 @@ holds_behind [] c d (x ∷ xs) t f a = (fine_within c (join c d) x (within_left 
 holds_behind (b ∷ cs) c d [] t f a = absurd a
 holds_behind (b ∷ cs) c d (x ∷ xs) t f a = (a.0, holds_behind cs c d xs t f a.1)
 
--- ---- a node that ends
+-- A NODE THAT ENDS
 
 pub no_part : (u : Content) (xs : List Tree) → is_empty u ≡ true → Holds u xs → xs ≡ []
 no_part (content [] d) [] h a = refl

@@ -20,7 +20,7 @@ use Rattle.go_laws.proofs.TreeShapes.{AllShaped, Anything, Shaped, Spec, has_sha
 use Rattle.go_laws.proofs.PartReadingLemmas.{tree_fine}
 use Rattle.go_laws.proofs.GrammarShapes.{effects, effects_checked}
 
--- ---- as it is read
+-- AS IT IS READ
 
 read_shaped : (bytes : List ℕ) (tokens : List Token) (t : Tree) → Derives bytes p.File tokens t → Shaped t
 read_shaped bytes tokens t d =
@@ -34,7 +34,7 @@ read_file bytes tokens t d =
     let same = sym (ap tree_read z.1) ∙ d.tree in
     sym (ap kind_of (same_Some _ t same))
 
--- ---- with copies
+-- WITH COPIES
 
 copied_kind : (t : Tree) → kind_of (with_copies t) ≡ kind_of t
 copied_kind (branch id from to kind text parts) = refl
@@ -114,7 +114,7 @@ mutual
       let made = copies_shaped t s.0 in
       (completed_shaped list (with_copies t) (copied_kind t ∙ spec_kind (kind_of t) both.0) a made, specs_shaped (list_behind list (with_copies t)) ts (behind_shaped list (with_copies t) a made) both.1 s.1)
 
--- ---- with numbers
+-- WITH NUMBERS
 
 numbered_kind : (first : ℕ) (t : Tree) → kind_of (numbered first t) ≡ kind_of t
 numbered_kind first (branch id from to kind text parts) = refl
@@ -131,7 +131,7 @@ mutual
   all_numbered_shaped first no_trees s = tt
   all_numbered_shaped first (more_trees t ts) s = (numbered_shaped first t s.0, all_numbered_shaped (first + node_count t) ts s.1)
 
--- ---- a file
+-- A FILE
 
 pub file_shaped : (bytes : List ℕ) (first : ℕ) (tree : Tree) → IsFileOf bytes first tree → Shaped tree
 file_shaped bytes first tree is =

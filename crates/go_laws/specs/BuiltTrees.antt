@@ -19,6 +19,6 @@ pub data IsBuilt : Tree → Type 0 where
   parentheses : (id from to : ℕ) (text : List ℕ) (x : Tree) → IsBuilt x → IsBuilt (branch id from to ParenExpr text (more_trees x no_trees))
   sum : (id from to : ℕ) (text : List ℕ) (x y : Tree) → IsBuilt x → IsBuilt y → IsBuilt (branch id from to AddExpr text (more_trees x (more_trees y no_trees)))
 
--- each value of a declaration of each package
+-- each expression of the declarations of each package is one
 abbrev pub ValuesAreBuilt : ModuleData → Type 0
 ValuesAreBuilt m = (k : ℕ) (p : PackageData) → slice_get m.packages k ≡ Some p → (t : Tree) → Contains (values_in p) t → IsBuilt t

@@ -14,7 +14,8 @@ ghost use Rattle.go_laws.specs.Complete.{IsAcceptedAt, IsComplete, IsReached};
 /// declaration of the package has a header, and each node of its expressions that is asked for a record has one.
 pub fn accepted_is_complete()
     ensures { (own stubs : Folder) (m : ModuleData) → IsModule own stubs m
-        → (k : ℕ) (marks : List Bool) (p : PackageData) (before after : Headers) (lines : List LineData) (named : List NamedData)
+        → (k : ℕ) (marks : List Bool) (p : PackageData) (before after : Headers)
+        → (lines : List LineData) (named : List NamedData)
         → IsReached m k marks before → slice_get m.packages k ≡ Some p → imports_accepted marks p ≡ true
         → IsVerdict m k p before (accepted lines named) after
         → IsComplete (meaning_in m k p before) after p }
@@ -23,6 +24,7 @@ pub fn accepted_is_complete()
 /// The check of a module comes so to each package that the report of the module calls accepted.
 pub fn reports_are_reached()
     ensures { (m : ModuleData) (report : ReportData) → ReportOf m report
-        → (k : ℕ) (p : PackageData) (r : PackageReportData) → slice_get m.packages k ≡ Some p → slice_get report.packages k ≡ Some r
+        → (k : ℕ) (p : PackageData) (r : PackageReportData)
+        → slice_get m.packages k ≡ Some p → slice_get report.packages k ≡ Some r
         → is_accepted r.verdict ≡ true → IsAcceptedAt m k p r.verdict }
 {}
