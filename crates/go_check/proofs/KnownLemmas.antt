@@ -1,91 +1,99 @@
--- The values, and so the headers, that are known behind a package are those before and its own.
-use Rattle.std.proofs.Common.{◌≡◌, ℕ, ℤ, zero, suc, Bool, true, false, cond, Option, Some, None, List, [], ◌∷◌, ◌++◌, refl, sym, ap, ◌∙◌}
-use Rattle.std.specs.Prelude.{slice_get}
+-- The headers that are known behind a package are those before and its own.
+use Rattle.std.proofs.Common.{◌≡◌, ℕ, zero, suc, Bool, true, false, cond, Option, Some, None, List, [], ◌∷◌, ◌++◌, refl, sym, ap, ◌∙◌}
+use Rattle.std.specs.Prelude.{◌||◌, slice_get}
+use Rattle.std.specs.List.{list_any}
 use Rattle.std.specs.Map.{lookup}
-use Rattle.std.specs.Option.{option_map, option_map_or}
+use Rattle.std.specs.Option.{option_map_or, option_or}
 use Rattle.std.proofs.Math.Path.{fun_ext}
-use Rattle.indexmap.specs.IndexMap.{insert_all, insert_entry}
 use Rattle.go_base.specs.declared.ids.ObjId.{ObjId}
 use Rattle.go_module.specs.Names.Declarations.{Declaration, number_of}
 use Rattle.go_module.specs.Scopes.{same_object}
+use Rattle.go_model.specs.declared.header.Header.{Header}
+use Rattle.go_model.specs.Outcomes.Records.{HeaderData}
+use Rattle.go_model.specs.Outcomes.Walk.{Headers}
+use Rattle.go_model.proofs.EntryLemmas.{is_same, same_is}
 use Rattle.go_expr.specs.declared.around.Around.{Around}
-use Rattle.go_expr.specs.Table.{headers_by, value_at, values_by}
-use Rattle.go_expr.specs.View.{IsAround, before_by, headers_listed, integer_header, places_by, values_before}
-use Rattle.go_expr.proofs.TableLemmas.{values_are}
-use Rattle.go_model.proofs.EntryLemmas.{found_behind, is_same, same_is}
+use Rattle.go_expr.specs.Table.{header_at, headers_by}
+use Rattle.go_expr.specs.View.{IsAround, before_by, places_by}
 use Rattle.go_decl.proofs.PlaceLemmas.{open_is}
-use Rattle.go_check.specs.Packages.Known.{values_in}
+use Rattle.go_check.specs.Packages.Known.{headers_in, known_with}
 
-module _ (values : ℕ → Option ℤ) (q : ObjId) where
-  abbrev at : List (ObjId × ℤ) → Option ℤ
-  at es = lookup (same_object q) es
+-- with no more headers the same are known
+first_alone : {H : Type 0} (o : Option H) → o ≡ option_or o None
+first_alone None = refl
+first_alone (Some h) = refl
 
-  abbrev pair : Declaration → Option ℤ → List (ObjId × ℤ)
-  pair d o = option_map_or (λ v. (number_of d, v) ∷ []) o []
+pub known_alone : (before : Headers) → before ≡ known_with before []
+known_alone before = fun_ext (λ d. first_alone (before d))
 
-  -- a table that has the value has it with one more pair
-  with_entry : (es : List (ObjId × ℤ)) (k : ObjId) (v : ℤ) → at es ≡ values q.0 → values k.0 ≡ Some v → at (insert_entry same_object es k v) ≡ values q.0
-  with_entry es k v so has = found_behind q es k v ∙ by_test (same_object q k) refl
+-- of the headers of these declarations, the one that an object has is found where it is one of them
+module _ (headers : Headers) (q : ObjId) where
+  abbrev at : List (ObjId × HeaderData) → Option HeaderData
+  at pairs = lookup (same_object q) pairs
+
+  abbrev pair : Declaration → Option HeaderData → List (ObjId × HeaderData)
+  pair d o = option_map_or (λ h. (number_of d, h) ∷ []) o []
+
+  abbrev is_among : List Declaration → Bool
+  is_among ds = list_any (λ d. same_object q (number_of d)) ds
+
+  found_in : (ds : List Declaration) → at (headers_in headers ds) ≡ cond (is_among ds) (headers q.0) None
+  found_in [] = refl
+  found_in (d ∷ ds) = by_header (headers (number_of d).0) refl (found_in ds)
     where
-      by_test : (b : Bool) → same_object q k ≡ b → cond (same_object q k) (Some v) (at es) ≡ values q.0
-      by_test true e = ap (λ b. cond b (Some v) (at es)) e ∙ sym has ∙ ap (λ (x : ObjId). values x.0) (sym (same_is q k e))
-      by_test false e = ap (λ b. cond b (Some v) (at es)) e ∙ so
+      chosen : (b c : Bool) (h : HeaderData) (rest : Option HeaderData) → rest ≡ cond c (headers q.0) None → (b ≡ true → Some h ≡ headers q.0) → cond b (Some h) rest ≡ cond (b || c) (headers q.0) None
+      chosen true c h rest later own = own refl
+      chosen false c h rest later own = later
 
-  -- and with those of all declarations
-  stays_known : (ds : List Declaration) (es : List (ObjId × ℤ)) → at es ≡ values q.0 → at (insert_all same_object es (values_in values ds)) ≡ values q.0
-  stays_known [] es so = so
-  stays_known (d ∷ ds) es so = by_value (stays_known ds) (values (number_of d).0) refl
-    where
-      by_value : ((more : List (ObjId × ℤ)) → at more ≡ values q.0 → at (insert_all same_object more (values_in values ds)) ≡ values q.0) → (o : Option ℤ) → values (number_of d).0 ≡ o → at (insert_all same_object es (pair d (values (number_of d).0) ++ values_in values ds)) ≡ values q.0
-      by_value later None e = ap (λ (o : Option ℤ). at (insert_all same_object es (pair d o ++ values_in values ds))) e ∙ later es so
-      by_value later (Some v) e = ap (λ (o : Option ℤ). at (insert_all same_object es (pair d o ++ values_in values ds))) e ∙ later (insert_entry same_object es (number_of d) v) (with_entry es (number_of d) v so e)
+      none : (b c : Bool) → (b ≡ true → headers q.0 ≡ None) → cond c (headers q.0) None ≡ cond (b || c) (headers q.0) None
+      none true true own = refl
+      none true false own = sym (own refl)
+      none false c own = refl
 
-  -- the value of a declaration is found, where the table has nothing for it before
-  known_here : (d : Declaration) (ds : List Declaration) (es : List (ObjId × ℤ)) → at es ≡ None → q ≡ number_of d → at (insert_all same_object es (pair d (values (number_of d).0) ++ values_in values ds)) ≡ values q.0
-  known_here d ds es vacant same = by_value (values (number_of d).0) refl
-    where
-      own : values (number_of d).0 ≡ values q.0
-      own = ap (λ (x : ObjId). values x.0) (sym same)
+      by_header : (o : Option HeaderData) → headers (number_of d).0 ≡ o → at (headers_in headers ds) ≡ cond (is_among ds) (headers q.0) None
+          → at (pair d (headers (number_of d).0) ++ headers_in headers ds) ≡ cond (same_object q (number_of d) || is_among ds) (headers q.0) None
+      by_header None e later =
+          ap (λ (o : Option HeaderData). at (pair d o ++ headers_in headers ds)) e
+          ∙ later
+          ∙ none (same_object q (number_of d)) (is_among ds) (λ same. ap (λ (x : ObjId). headers x.0) (same_is q (number_of d) same) ∙ e)
+      by_header (Some h) e later =
+          ap (λ (o : Option HeaderData). at (pair d o ++ headers_in headers ds)) e
+          ∙ chosen (same_object q (number_of d)) (is_among ds) h (at (headers_in headers ds)) later
+          (λ same. sym e ∙ ap (λ (x : ObjId). headers x.0) (sym (same_is q (number_of d) same)))
 
-      by_value : (o : Option ℤ) → values (number_of d).0 ≡ o → at (insert_all same_object es (pair d (values (number_of d).0) ++ values_in values ds)) ≡ values q.0
-      by_value None e =
-          ap (λ (o : Option ℤ). at (insert_all same_object es (pair d o ++ values_in values ds))) e
-          ∙ stays_known ds es (vacant ∙ sym e ∙ own)
-      by_value (Some v) e =
-          ap (λ (o : Option ℤ). at (insert_all same_object es (pair d o ++ values_in values ds))) e
-          ∙ stays_known ds (insert_entry same_object es (number_of d) v)
-          (found_behind q es (number_of d) v ∙ ap (λ b. cond b (Some v) (at es)) (is_same q (number_of d) same) ∙ sym e ∙ own)
-
-  becomes_known : (ds : List Declaration) (place : ℕ) (declaration : Declaration) → slice_get ds place ≡ Some declaration → number_of declaration ≡ q → (es : List (ObjId × ℤ)) → at es ≡ None → at (insert_all same_object es (values_in values ds)) ≡ values q.0
-  becomes_known [] place declaration there is es vacant = absurd (let never : None ≡ Some declaration = there in cc)
-  becomes_known (d ∷ ds) zero declaration there is es vacant =
+  -- it is one of them where it stands at a place
+  among_at : (ds : List Declaration) (place : ℕ) (declaration : Declaration) → slice_get ds place ≡ Some declaration → number_of declaration ≡ q → is_among ds ≡ true
+  among_at [] place declaration there is = absurd (let never : None ≡ Some declaration = there in cc)
+  among_at (d ∷ ds) zero declaration there is =
       let same : d ≡ declaration = (let both : Some d ≡ Some declaration = there in cc) in
-      known_here d ds es vacant (sym is ∙ ap number_of (sym same))
-  becomes_known (d ∷ ds) (suc place) declaration there is es vacant = by_test (becomes_known ds place declaration there is) (same_object q (number_of d)) refl
+      ap (λ b. b || is_among ds) (is_same q (number_of d) (sym is ∙ ap number_of (sym same)))
+  among_at (d ∷ ds) (suc place) declaration there is = behind (same_object q (number_of d)) (among_at ds place declaration there is)
     where
-      apart : (later : (more : List (ObjId × ℤ)) → at more ≡ None → at (insert_all same_object more (values_in values ds)) ≡ values q.0) → same_object q (number_of d) ≡ false → (o : Option ℤ) → values (number_of d).0 ≡ o → at (insert_all same_object es (pair d (values (number_of d).0) ++ values_in values ds)) ≡ values q.0
-      apart later other None e = ap (λ (o : Option ℤ). at (insert_all same_object es (pair d o ++ values_in values ds))) e ∙ later es vacant
-      apart later other (Some v) e =
-          ap (λ (o : Option ℤ). at (insert_all same_object es (pair d o ++ values_in values ds))) e
-          ∙ later (insert_entry same_object es (number_of d) v) (found_behind q es (number_of d) v ∙ ap (λ b. cond b (Some v) (at es)) other ∙ vacant)
+      behind : (b : Bool) → is_among ds ≡ true → (b || is_among ds) ≡ true
+      behind true e = refl
+      behind false e = e
 
-      by_test : ((more : List (ObjId × ℤ)) → at more ≡ None → at (insert_all same_object more (values_in values ds)) ≡ values q.0) → (b : Bool) → same_object q (number_of d) ≡ b → at (insert_all same_object es (pair d (values (number_of d).0) ++ values_in values ds)) ≡ values q.0
-      by_test later true e = known_here d ds es vacant (same_is q (number_of d) e)
-      by_test later false e = apart later e (values (number_of d).0) refl
+module _ (around : Around) (table : List (Option Header)) (declarations : List Declaration) (is_around : IsAround declarations around) where
+  -- what an object without a place has is known before
+  outside : (before : Option HeaderData) (b : Bool) → option_or before (cond b before None) ≡ before
+  outside None true = refl
+  outside None false = refl
+  outside (Some h) b = refl
 
-no_value : (o : Option ℤ) → option_map integer_header o ≡ None → o ≡ None
-no_value None e = refl
-no_value (Some v) e = absurd (let never : Some (integer_header v) ≡ None = e in cc)
+  inside : (before own : Option HeaderData) (b : Bool) → before ≡ None → b ≡ true → option_or before (cond b own None) ≡ own
+  inside before own b fresh among = (λ i. option_or (fresh i) (cond (among i) own None))
 
-module _ (around : Around) (table : List (Option ℤ)) (declarations : List Declaration) (is_around : IsAround declarations around) where
-  abbrev known_then : List (ObjId × ℤ)
-  known_then = insert_all same_object around.before.now.entries (values_in (values_by around table) declarations)
-
-  value_after : (q : ObjId) (o : Option ℕ) → places_by around q ≡ o → lookup (same_object q) known_then ≡ values_by around table q.0
-  value_after q None e = stays_known (values_by around table) q declarations around.before.now.entries (sym (ap (value_at table (values_before around q.0)) e))
-  value_after q (Some place) e =
+  header_after : (q : ObjId) (o : Option ℕ) → places_by around q ≡ o → known_with (before_by around) (headers_in (headers_by around table) declarations) q.0 ≡ headers_by around table q.0
+  header_after q None e =
+      let own : headers_by around table q.0 ≡ before_by around q.0 = ap (header_at table (before_by around q.0)) e in
+      ap (option_or (before_by around q.0)) (found_in (headers_by around table) q declarations ∙ ap (λ h. cond (is_among (headers_by around table) q declarations) h None) own)
+      ∙ outside (before_by around q.0) (is_among (headers_by around table) q declarations)
+      ∙ sym own
+  header_after q (Some place) e =
       let is = open_is (before_by around) declarations q place (sym (is_around q) ∙ e) in
-      becomes_known (values_by around table) q declarations place is.placed.declaration is.placed.at is.placed.number around.before.now.entries (no_value (values_before around q.0) is.fresh)
+      ap (option_or (before_by around q.0)) (found_in (headers_by around table) q declarations)
+      ∙ inside (before_by around q.0) (headers_by around table q.0) (is_among (headers_by around table) q declarations) is.fresh
+      (among_at (headers_by around table) q declarations place is.placed.declaration is.placed.at is.placed.number)
 
-  pub known_after : headers_listed known_then ≡ headers_by around table
-  known_after = fun_ext (λ d. ap (option_map integer_header) (value_after (record { 0 = d }) (places_by around (record { 0 = d })) refl) ∙ values_are around table d)
+  pub known_after : known_with (before_by around) (headers_in (headers_by around table) declarations) ≡ headers_by around table
+  known_after = fun_ext (λ d. header_after (record { 0 = d }) (places_by around (record { 0 = d })) refl)

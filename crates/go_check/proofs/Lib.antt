@@ -11,3 +11,4 @@ pub mod ResultLemmas
 pub mod StateLemmas
 pub mod ValueLemmas
 pub mod VerdictLemmas
+pub mod PartLemmas

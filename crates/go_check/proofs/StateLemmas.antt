@@ -1,5 +1,5 @@
 -- What is known as one more package of a module is checked.
-use Rattle.std.proofs.Common.{◌≡◌, ℕ, zero, suc, ◌+◌, ◌<◌, Bool, true, false, ◌⊎◌, inl, inr, Some, List, [], ◌∷◌, ◌++◌, length, map, drop, refl, sym, ap, ◌∙◌, subst, arith}
+use Rattle.std.proofs.Common.{◌≡◌, ℕ, zero, suc, ◌+◌, ◌<◌, Bool, true, false, ◌⊎◌, inl, inr, None, Some, List, [], ◌∷◌, ◌++◌, length, map, drop, refl, sym, ap, ◌∙◌, subst, arith}
 use Rattle.std.specs.Prelude.{slice_get, unwrap_or}
 use Rattle.std.proofs.Math.Path.{fun_ext}
 use Rattle.std.proofs.lemmas.List.{append_assoc}
@@ -9,7 +9,7 @@ use Rattle.go_model.specs.Phases.{AreReports, IsVerdict, all_told, skips, checks
 use Rattle.go_model.specs.Report as report
 use Rattle.go_model.specs.Report.{VerdictData, skipped}
 use Rattle.go_model.specs.Outcomes.Walk.{Headers}
-use Rattle.go_expr.specs.View.{headers_listed}
+use Rattle.go_model.specs.Values.Known.{headers_view}
 use Rattle.go_check.specs.declared.denoted.Denoted.{Denoted}
 use Rattle.go_check.specs.declared.module.State.{State}
 use Rattle.go_check.specs.Packages.Names.{ImportsSound, sound_at}
@@ -53,31 +53,29 @@ marked_cases (x ∷ marks) b (suc q) e = by_rest (marked_cases marks b q e)
     by_rest (inr new) = inr (ap suc new.0, new.1)
 
 module _ (m : ModuleData) (denoted : Denoted) where
-  nothing_known : headers_listed [] ≡ no_headers
-  nothing_known = fun_ext (λ d. refl)
-
-  front_at_first : IsFront m 0 (record { marks = []; before = headers_listed []; reports = [] })
-  front_at_first rest h = subst (λ (b : Headers). AreReports m 0 [] b m.packages rest) nothing_known h
+  front_at_first : IsFront m 0 (record { marks = []; before = no_headers; reports = [] })
+  front_at_first rest h = h
 
   no_mark : (q : ℕ) → is_marked [] q ≡ true → ⊥
   no_mark zero e = cc
   no_mark (suc q) e = cc
 
   -- before the first package nothing is known
-  pub first_state : (s : State) → s.marks.items ≡ [] → s.before.entries ≡ [] → s.reports.items ≡ [] → IsState m denoted 0 s
-  first_state s marks before reports = record {
+  pub first_state : (s : State) → s.marks.items ≡ [] → ((d : ℕ) → headers_view s.before d ≡ None) → s.reports.items ≡ [] → IsState m denoted 0 s
+  first_state s marks vacant reports = record {
     marked = ap length marks;
     accepted_sound = λ q e. absurd (no_mark q (ap (λ l. is_marked l q) (sym marks) ∙ e));
     front =
-        subst (λ ms. IsFront m 0 (record { marks = ms; before = headers_listed s.before.entries; reports = map report.package_view s.reports.items })) (sym marks)
-        (subst (λ bs. IsFront m 0 (record { marks = []; before = headers_listed bs; reports = map report.package_view s.reports.items })) (sym before)
-        (subst (λ rs. IsFront m 0 (record { marks = []; before = headers_listed []; reports = map report.package_view rs })) (sym reports) front_at_first));
+        let before : headers_view s.before ≡ no_headers = fun_ext vacant in
+        subst (λ ms. IsFront m 0 (record { marks = ms; before = headers_view s.before; reports = map report.package_view s.reports.items })) (sym marks)
+        (subst (λ hs. IsFront m 0 (record { marks = []; before = hs; reports = map report.package_view s.reports.items })) (sym before)
+        (subst (λ rs. IsFront m 0 (record { marks = []; before = no_headers; reports = map report.package_view rs })) (sym reports) front_at_first));
   }
 
   -- behind the last package all reports are told
   pub all_reports : (k : ℕ) (s : State) → IsState m denoted k s → k ≡ length m.packages → AreReports m 0 [] no_headers m.packages (map report.package_view s.reports.items)
   all_reports k s state last =
-      let told : AreReports m k s.marks.items (headers_listed s.before.entries) (drop k m.packages) [] = subst (λ ps. AreReports m k s.marks.items (headers_listed s.before.entries) ps []) (sym (drop_all m.packages k last)) (all_told k s.marks.items (headers_listed s.before.entries)) in
+      let told : AreReports m k s.marks.items (headers_view s.before) (drop k m.packages) [] = subst (λ ps. AreReports m k s.marks.items (headers_view s.before) ps []) (sym (drop_all m.packages k last)) (all_told k s.marks.items (headers_view s.before)) in
       subst (AreReports m 0 [] no_headers m.packages) (no_rest (map report.package_view s.reports.items)) (state.front [] told)
 
   -- what a package imports is sound where it is accepted
@@ -104,7 +102,7 @@ module _ (m : ModuleData) (denoted : Denoted) (k : ℕ) (p : PackageData) (old n
   -- one more package is checked
   pub next_state : IsState m denoted k old
       → new.marks.items ≡ old.marks.items ++ is_accepted verdict ∷ []
-      → headers_listed new.before.entries ≡ after
+      → headers_view new.before ≡ after
       → map report.package_view new.reports.items ≡ map report.package_view old.reports.items ++ package_report p verdict ∷ []
       → (is_accepted verdict ≡ true → sound_at denoted.verdicts.items k ≡ true)
       → IsFront m (k + 1) (record { marks = old.marks.items ++ is_accepted verdict ∷ []; before = after; reports = map report.package_view old.reports.items ++ package_report p verdict ∷ [] })
@@ -113,7 +111,7 @@ module _ (m : ModuleData) (denoted : Denoted) (k : ℕ) (p : PackageData) (old n
     marked = ap length marks ∙ one_longer old.marks.items (is_accepted verdict) ∙ ap (λ n. n + 1) state.marked;
     accepted_sound = λ q e. by_mark q (marked_cases old.marks.items (is_accepted verdict) q (ap (λ l. is_marked l q) (sym marks) ∙ e));
     front =
-        subst (λ ms. IsFront m (k + 1) (record { marks = ms; before = headers_listed new.before.entries; reports = map report.package_view new.reports.items })) (sym marks)
+        subst (λ ms. IsFront m (k + 1) (record { marks = ms; before = headers_view new.before; reports = map report.package_view new.reports.items })) (sym marks)
         (subst (λ bs. IsFront m (k + 1) (record { marks = old.marks.items ++ is_accepted verdict ∷ []; before = bs; reports = map report.package_view new.reports.items })) (sym before)
         (subst (λ rs. IsFront m (k + 1) (record { marks = old.marks.items ++ is_accepted verdict ∷ []; before = after; reports = rs })) (sym reports) front));
   }

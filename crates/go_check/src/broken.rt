@@ -1,8 +1,11 @@
 // What a spec breaks (Go specification, "Constants", "Constant expressions", "Constant declarations", "Qualified
 // identifiers").
-ghost use Rattle.std.specs.Prelude.{◌≡◌, ◌++◌, OnOk, is_some, map};
+ghost use Rattle.std.specs.Prelude.{◌≡◌, ◌++◌, IfOk, OnOk, is_some, map, slice_get, unwrap_or};
 ghost use Rattle.std.specs.List.{flat_map, list_all};
+ghost use Rattle.std.specs.Option.{option_map};
 ghost use Rattle.go_tree.specs.Tree.{tree_of};
+ghost use Rattle.go_module.specs.Broken.{broken_at};
+ghost use Rattle.go_model.specs.Outcomes.Readings.{part_start, spot_start};
 ghost use Rattle.go_model.specs.Values.Records.{record_of};
 ghost use Rattle.go_model.specs.Values.Rules as rules;
 ghost use Rattle.go_names.specs.Views.{spec_view};
@@ -12,8 +15,9 @@ ghost use Rattle.go_expr.specs.Table.{headers_by};
 ghost use Rattle.go_expr.specs.View.{means_by};
 
 use crate::rules::UNEQUAL_SIDES;
-use go_base::{Broken, NoMemory};
-use go_expr::{Around, Evaluated, NodeOutcome, evaluate, record};
+use go_base::{Broken, NoMemory, Rule};
+use go_expr::{Around, Evaluated, evaluate, record};
+use go_model::{Header, Outcome, Spot};
 use go_module::{add_if, broken_at};
 use go_names::Spec;
 use go_tree::Node;
@@ -24,14 +28,14 @@ use std::alloc::Global;
 pub fn push_spec(
     alloc: Global,
     around: &Around,
-    table: &[Option<i128>],
+    table: &[Option<Header>],
     spec: &Spec,
     found: &mut Vec<Broken>,
 ) -> Result<(), NoMemory>
     ensures { OnOk result (found.new.items ≡ found.old.items
         ++ rules.broken_spec (means_by around.now) (headers_by around.now table.now) (spec_view spec.now)) }
 {
-    let unequal = are_unequal(around, table, spec.names, spec.values);
+    let unequal = are_unequal(alloc, around, table, spec.names, spec.values)?;
     let start = spec.node.start();
     add_if(found, unequal, broken_at(spec.file, start, UNEQUAL_SIDES))?;
     push_nodes(alloc, around, table, spec, spec.types, found)?;
@@ -39,37 +43,58 @@ pub fn push_spec(
 }
 
 // Whether the numbers of names and of expressions differ, and all expressions have records.
-fn are_unequal(around: &Around, table: &[Option<i128>], names: &[Node], values: &[Node]) -> bool
-    ensures { result ≡ rules.are_unequal (means_by around.now) (headers_by around.now table.now)
-        (map tree_of names.now) (map tree_of values.now) }
+fn are_unequal(
+    alloc: Global,
+    around: &Around,
+    table: &[Option<Header>],
+    names: &[Node],
+    values: &[Node],
+) -> Result<bool, NoMemory>
+    ensures { IfOk result (λ unequal. unequal ≡ rules.are_unequal (means_by around.now)
+        (headers_by around.now table.now) (map tree_of names.now) (map tree_of values.now)) }
 {
-    names.len() != values.len() && have_records(around, table, values)
+    if names.len() == values.len() {
+        return Ok(false);
+    }
+    have_records(alloc, around, table, values)
 }
 
 // Whether all of these expressions have records.
-fn have_records(around: &Around, table: &[Option<i128>], values: &[Node]) -> bool
-    ensures { result ≡ list_all
+fn have_records(
+    alloc: Global,
+    around: &Around,
+    table: &[Option<Header>],
+    values: &[Node],
+) -> Result<bool, NoMemory>
+    ensures { IfOk result (λ each. each ≡ list_all
         (λ value. is_some (record_of (means_by around.now) (headers_by around.now table.now) value))
-        (map tree_of values.now) }
+        (map tree_of values.now)) }
 {
-    each_has_record(around, table, values)
+    for value in values {
+        if !has_record(alloc, around, table, value)? {
+            return Ok(false);
+        }
+    }
+    Ok(true)
 }
 
-// The same, said of the nodes one by one.
-fn each_has_record(around: &Around, table: &[Option<i128>], values: &[Node]) -> bool
-    ensures { result ≡ list_all (λ value. is_some (record_of (means_by around.now) (headers_by around.now table.now)
-        (tree_of value))) values.now }
+fn has_record(
+    alloc: Global,
+    around: &Around,
+    table: &[Option<Header>],
+    value: &Node,
+) -> Result<bool, NoMemory>
+    ensures { IfOk result (λ has. has ≡ is_some
+        (record_of (means_by around.now) (headers_by around.now table.now) (tree_of value.now))) }
 {
-    values
-        .iter()
-        .all(|value| record(around, table, value).is_some())
+    Ok(record(alloc, around, table, value)?.is_some())
 }
 
 // Pushes what the nodes of these parts of a spec break.
 fn push_nodes(
     alloc: Global,
     around: &Around,
-    table: &[Option<i128>],
+    table: &[Option<Header>],
     spec: &Spec,
     nodes: &[Node],
     found: &mut Vec<Broken>,
@@ -88,7 +113,7 @@ fn push_nodes(
 fn push_node(
     alloc: Global,
     around: &Around,
-    table: &[Option<i128>],
+    table: &[Option<Header>],
     spec: &Spec,
     node: &Node,
     found: &mut Vec<Broken>,
@@ -127,14 +152,56 @@ fn push_one(
     ensures { OnOk result (found.new.items ≡ found.old.items
         ++ broken_by file told_at (evaluated_view node.now)) }
 {
-    match node.outcome {
-        NodeOutcome::Broken(rule) => {
-            let offset = told_at.unwrap_or(node.node.start());
-            found.push(broken_at(file, offset, rule))?;
-            Ok(())
-        }
-        NodeOutcome::Found(_) => Ok(()),
-        NodeOutcome::Waits(_) => Ok(()),
-        NodeOutcome::Nothing => Ok(()),
+    match &node.outcome {
+        Outcome::Broken(rule, spots) => push_spots(file, told_at, node.node, *rule, spots, found),
+        Outcome::Found(_) => Ok(()),
+        Outcome::Waits(_) => Ok(()),
+        Outcome::Nothing => Ok(()),
     }
+}
+
+// Pushes a rule at each of these spots of a node.
+fn push_spots(
+    file: usize,
+    told_at: Option<usize>,
+    node: &Node,
+    rule: Rule,
+    spots: &[Spot],
+    found: &mut Vec<Broken>,
+) -> Result<(), NoMemory>
+    ensures { OnOk result (found.new.items ≡ found.old.items
+        ++ map (λ spot. broken_at file (unwrap_or told_at (spot_start (tree_of node.now) spot)) rule) spots.now) }
+{
+    for spot in spots {
+        let offset = told_at.unwrap_or(spot_start(node, *spot));
+        found.push(broken_at(file, offset, rule))?;
+    }
+    Ok(())
+}
+
+// The offset of a spot of a node.
+fn spot_start(node: &Node, spot: Spot) -> usize
+    ensures { result ≡ spot_start (tree_of node.now) spot }
+{
+    match spot {
+        Spot::Whole => node.start(),
+        Spot::Name => part_start(node, 1),
+        Spot::Part(place) => part_start(node, place),
+    }
+}
+
+// Where a part of a node starts; where there is no such part, where the node does.
+fn part_start(node: &Node, place: usize) -> usize
+    ensures { result ≡ part_start (tree_of node.now) place }
+{
+    match part_at(node.parts(), place) {
+        Some(part) => part.start(),
+        None => node.start(),
+    }
+}
+
+fn part_at(parts: &[Node], place: usize) -> Option<&Node>
+    ensures { option_map (λ part. part.now) result ≡ slice_get parts.now place }
+{
+    parts.get(place)
 }

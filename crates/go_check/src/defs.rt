@@ -6,6 +6,7 @@ ghost use Rattle.go_tree.specs.Tree.{tree_of, start_of, parts_of};
 ghost use Rattle.go_module.specs.Modules.Module.{file_view};
 ghost use Rattle.go_module.specs.Names.Declarations.{name_text};
 ghost use Rattle.go_module.specs.Names.Imports as imports;
+ghost use Rattle.go_model.specs.Outcomes.Records.{header_view};
 ghost use Rattle.go_model.specs.PackageLines as spec;
 ghost use Rattle.go_model.specs.Report.{defined, defined_view, line_view};
 ghost use Rattle.go_names.specs.Views.{declaration_view, declarations_view, trees_at};
@@ -17,12 +18,10 @@ ghost use Rattle.go_check.specs.View.{outline_view};
 use crate::outline::Outline;
 use crate::own_file::OwnFile;
 use go_base::NoMemory;
-use go_expr::{Around, value_over};
-use go_model::{DefKind, Line, What};
+use go_expr::{Around, header_over};
+use go_model::{DefKind, Header, Line, What};
 use go_module::text_name;
 use go_names::{Declaration, declarations_in};
-use go_num::Value;
-use go_term::{Basic, Term};
 use go_tree::{Node, NodeKind};
 use std::alloc::Global;
 
@@ -32,7 +31,7 @@ pub fn found_defs(
     outline: &Outline,
     file: &OwnFile,
     around: &Around,
-    table: &[Option<i128>],
+    table: &[Option<Header>],
 ) -> Result<Vec<Line>, NoMemory>
     ensures { IfOk result (λ lines. map line_view lines.items ≡ def_lines (outline_view outline.now)
         (means_by around.now) (headers_by around.now table.now) (own_file_view file.now)) }
@@ -118,7 +117,7 @@ fn push_declarations(
     alloc: Global,
     file: &OwnFile,
     around: &Around,
-    table: &[Option<i128>],
+    table: &[Option<Header>],
     declarations: &[Declaration],
     lines: &mut Vec<Line>,
 ) -> Result<(), NoMemory>
@@ -133,12 +132,12 @@ fn push_declarations(
     Ok(())
 }
 
-// Pushes the line of a declaration, where it has a value.
+// Pushes the line of a declaration, where it has a header.
 fn push_declaration(
     alloc: Global,
     file: &OwnFile,
     around: &Around,
-    table: &[Option<i128>],
+    table: &[Option<Header>],
     declaration: &Declaration,
     lines: &mut Vec<Line>,
 ) -> Result<(), NoMemory>
@@ -146,11 +145,19 @@ fn push_declaration(
         ++ spec.declaration_defs file.now.stub (file_view file.now.file.now) (means_by around.now)
         (headers_by around.now table.now) (declaration_view declaration.now)) }
 {
-    if let Some(v) = value_over(around, table, declaration) {
-        let kind = DefKind::Const(Term::Basic(Basic::UntypedInt), Value::Int(v));
-        lines.push(def_line(alloc, file, declaration.name, kind)?)?;
+    if let Some(header) = header_over(alloc, around, table, declaration)? {
+        lines.push(def_line(alloc, file, declaration.name, told_as(header))?)?;
     }
     Ok(())
+}
+
+// What a declaration is told as, by its header.
+fn told_as(header: Header) -> DefKind
+    ensures { defined_view result ≡ spec.told_as (header_view header) }
+{
+    match header {
+        Header::Const(ty, value) => DefKind::Const(ty, value),
+    }
 }
 
 // The line of a name that is declared as that.

@@ -5,11 +5,11 @@ ghost use Rattle.std.specs.List.{flat_map};
 ghost use Rattle.go_tree.specs.Tree.{tree_of, start_of, end_of};
 ghost use Rattle.go_module.specs.Modules.Module.{file_view};
 ghost use Rattle.go_module.specs.Names.Occurrences.{nodes_in, nodes_in_parts};
+ghost use Rattle.go_model.specs.Outcomes.Records.{rec_view};
 ghost use Rattle.go_model.specs.PackageLines as rule;
 ghost use Rattle.go_model.specs.Report.{line_view};
 ghost use Rattle.go_names.specs.Views.{spec_view, specs_view};
 ghost use Rattle.go_expr.specs.Evaluated.{evaluated_view, evaluated_views};
-ghost use Rattle.go_expr.specs.Outcomes.{integer_record};
 ghost use Rattle.go_check.specs.Lines.Nodes.{line_by};
 ghost use Rattle.go_check.specs.Lines.Found.{expr_lines, own_file_view};
 ghost use Rattle.go_expr.specs.Table.{headers_by};
@@ -18,11 +18,9 @@ ghost use Rattle.go_expr.specs.View.{means_by};
 use crate::own_file::OwnFile;
 use crate::uses::written;
 use go_base::NoMemory;
-use go_expr::{Around, Evaluated, Integer, evaluate};
-use go_model::{Line, Mode, What};
+use go_expr::{Around, Evaluated, evaluate};
+use go_model::{Header, Line, Outcome, Rec, What};
 use go_names::Spec;
-use go_num::Value;
-use go_term::{Basic, Term};
 use go_tree::Node;
 use std::alloc::Global;
 
@@ -31,7 +29,7 @@ pub fn found_exprs(
     alloc: Global,
     file: &OwnFile,
     around: &Around,
-    table: &[Option<i128>],
+    table: &[Option<Header>],
 ) -> Result<Vec<Line>, NoMemory>
     ensures { IfOk result (λ lines. map line_view lines.items
         ≡ expr_lines (means_by around.now) (headers_by around.now table.now) (own_file_view file.now)) }
@@ -48,7 +46,7 @@ fn push_spec(
     alloc: Global,
     file: &OwnFile,
     around: &Around,
-    table: &[Option<i128>],
+    table: &[Option<Header>],
     spec: &Spec,
     lines: &mut Vec<Line>,
 ) -> Result<(), NoMemory>
@@ -66,7 +64,7 @@ fn push_nodes(
     alloc: Global,
     file: &OwnFile,
     around: &Around,
-    table: &[Option<i128>],
+    table: &[Option<Header>],
     nodes: &[Node],
     lines: &mut Vec<Line>,
 ) -> Result<(), NoMemory>
@@ -96,22 +94,24 @@ fn push_one(file: &OwnFile, node: &Evaluated, lines: &mut Vec<Line>) -> Result<(
     ensures { OnOk result (map line_view lines.new.items ≡ map line_view lines.old.items
         ++ line_by file.now.stub (file_view file.now.file.now) (evaluated_view node.now)) }
 {
-    if let Some(found) = node.outcome.record() {
+    if let Outcome::Found(found) = &node.outcome {
         lines.push(expr_line(file, node.node, found)?)?;
     }
     Ok(())
 }
 
 // The line of an expression with that record.
-fn expr_line(file: &OwnFile, node: &Node, found: Integer) -> Result<Line, NoMemory>
+fn expr_line(file: &OwnFile, node: &Node, found: &Rec) -> Result<Line, NoMemory>
     ensures { IfOk result (λ line. line_view line ∷ [] ≡ rule.record_line file.now.stub
         (file_view file.now.file.now) (start_of (tree_of node.now)) (end_of (tree_of node.now))
-        (Some (integer_record found))) }
+        (Some (rec_view found.now))) }
 {
     let end = file.file.line_col(node.end());
-    let term = Term::Basic(Basic::UntypedInt);
+    let Rec {
+        mode, ty, value, ..
+    } = found.clone()?;
     Ok(Line {
         at: file.file.at(file.stub, node.start())?,
-        what: What::Expr(end, Mode::Const, Some(term), Some(Value::Int(found.value))),
+        what: What::Expr(end, mode, ty, value),
     })
 }

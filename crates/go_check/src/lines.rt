@@ -18,7 +18,7 @@ use crate::own_file::OwnFile;
 use crate::uses::found_uses;
 use go_base::NoMemory;
 use go_expr::Around;
-use go_model::Line;
+use go_model::{Header, Line};
 use std::alloc::Global;
 
 /// The lines of a package with these files: one for each declared name, then one for each use, then one for each
@@ -28,7 +28,7 @@ pub fn lines_of(
     outline: &Outline,
     files: &[OwnFile],
     around: &Around,
-    table: &[Option<i128>],
+    table: &[Option<Header>],
 ) -> Result<Vec<Line>, NoMemory>
     ensures { IfOk result (λ lines. (k : ℕ) (p : PackageData) → own_files_view files.now ≡ own_files_in p
         → spec.AreLines (outline_view outline.now) k p (denotes_by around.now) (means_by around.now)
@@ -75,7 +75,7 @@ fn all_defs(
     outline: &Outline,
     files: &[OwnFile],
     around: &Around,
-    table: &[Option<i128>],
+    table: &[Option<Header>],
 ) -> Result<Vec<Line>, NoMemory>
     ensures { IfOk result (λ lines. AreInOrder (map (def_lines (outline_view outline.now) (means_by around.now)
         (headers_by around.now table.now)) (own_files_view files.now)) (map line_view lines.items)) }
@@ -109,7 +109,7 @@ fn all_exprs(
     alloc: Global,
     files: &[OwnFile],
     around: &Around,
-    table: &[Option<i128>],
+    table: &[Option<Header>],
 ) -> Result<Vec<Line>, NoMemory>
     ensures { IfOk result (λ lines. AreInOrder (map (expr_lines (means_by around.now) (headers_by around.now table.now))
         (own_files_view files.now)) (map line_view lines.items)) }

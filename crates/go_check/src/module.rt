@@ -18,18 +18,17 @@ use crate::outline::Outline;
 use crate::package::check_package;
 use go_base::{NoMemory, Steps};
 use go_graph::is_marked;
-use go_model::{PackageReport, Report, Verdict};
-use go_module::{Module, ObjId, Package};
-use indexmap::IndexMap;
+use go_model::{Headers, PackageReport, Report, Verdict};
+use go_module::{Module, Package};
 use std::alloc::Global;
 use std::sync::ledger::Ledger;
 
-/// The packages that are checked: which of them are accepted, the values of the constants of these,
+/// The packages that are checked: which of them are accepted, the headers of the declarations of these,
 /// and their reports.
 #[derive(Drop)]
 pub struct State {
     pub marks: Vec<bool>,
-    pub before: IndexMap<ObjId, i128>,
+    pub before: Headers,
     pub reports: Vec<PackageReport>,
 }
 
@@ -73,7 +72,7 @@ fn check_packages(
 {
     let mut state = State {
         marks: Vec::new(alloc),
-        before: IndexMap::new(alloc),
+        before: Headers::new(alloc),
         reports: Vec::new(alloc),
     };
     for place in 0..module.packages.len() {

@@ -2,22 +2,22 @@
 // declarations").
 ghost use Rattle.std.specs.Prelude.{◌≡◌, ◌∷◌, ◌++◌, ◌<◌, [], ℕ, true, IfOk, OnOk, Some, length, slice_get};
 ghost use Rattle.std.specs.Option.{option_map_or};
-ghost use Rattle.indexmap.specs.IndexMap.{insert_all};
 ghost use Rattle.go_module.specs.Modules.Module.{ModuleData, PackageData, module_view, package_view};
 ghost use Rattle.go_module.specs.Names.Declarations as names;
-ghost use Rattle.go_module.specs.Scopes.{same_object};
 ghost use Rattle.go_model.specs.Outline.{outline_of};
 ghost use Rattle.go_model.specs.PackageLines.{named_in};
 ghost use Rattle.go_model.specs.Phases as phases;
+ghost use Rattle.go_model.specs.Outcomes.Records.{header_view};
 ghost use Rattle.go_model.specs.Report.{line_view, named_view, verdict_view};
+ghost use Rattle.go_model.specs.Values.Known.{headers_view};
 ghost use Rattle.go_names.specs.Views.{declarations_view};
 ghost use Rattle.go_check.specs.Lines.Found.{own_files_in, own_files_view};
 ghost use Rattle.go_check.specs.Packages.Denoted.{AreDenoted, AreUses};
-ghost use Rattle.go_check.specs.Packages.Known.{values_in};
+ghost use Rattle.go_check.specs.Packages.Known.{headers_in, known_with, pairs_view};
 ghost use Rattle.go_check.specs.Packages.Names.{ImportsSound, sound_at};
-ghost use Rattle.go_expr.specs.Table.{headers_by, values_by};
+ghost use Rattle.go_expr.specs.Table.{headers_by};
 ghost use Rattle.go_check.specs.Packages.Verdicts.{IsAccepting};
-ghost use Rattle.go_expr.specs.View.{IsAround, before_by, denotes_by, headers_listed, means_by};
+ghost use Rattle.go_expr.specs.View.{IsAround, before_by, denotes_by, means_by};
 ghost use Rattle.go_check.specs.View.{outline_view};
 
 use crate::denoted::Denoted;
@@ -31,14 +31,14 @@ use crate::values::broken_values;
 use go_base::NoMemory;
 use go_decl::{cyclic_declarations, headers, places_of};
 use go_expr::Around;
-use go_model::{Records, Verdict};
+use go_model::{Header, Headers, Records, Verdict};
 use go_module::{Module, ObjId, Package, breaks_none};
 use go_names::Declaration;
 use go_tree::NodeId;
 use indexmap::IndexMap;
 use std::alloc::Global;
 
-/// The verdict on the package at a place of the module, whose imports are accepted. `before` has the values of the
+/// The verdict on the package at a place of the module, whose imports are accepted. `before` has the headers of the
 /// declarations of accepted packages, and gets those of the package where it is accepted. An error is want of memory.
 pub fn check_package(
     alloc: Global,
@@ -46,7 +46,7 @@ pub fn check_package(
     place: usize,
     denoted: &Denoted,
     outline: &Outline,
-    before: &mut IndexMap<ObjId, i128>,
+    before: &mut Headers,
 ) -> Result<Verdict, NoMemory>
     requires within { place < length «module».now.packages.items }
     requires denoted { AreDenoted (module_view «module».now) (length «module».now.packages.items) denoted.now }
@@ -55,7 +55,7 @@ pub fn check_package(
         → ImportsSound denoted.now.verdicts.items place p }
     ensures verdict { IfOk result (λ verdict. (p : PackageData)
         → slice_get (module_view «module».now).packages place ≡ Some p → phases.IsVerdict (module_view «module».now)
-        place p (headers_listed before.old.entries) (verdict_view verdict) (headers_listed before.new.entries)) }
+        place p (headers_view before.old) (verdict_view verdict) (headers_view before.new)) }
     ensures sound { IfOk result (λ verdict. phases.is_accepted (verdict_view verdict) ≡ true
         → sound_at denoted.now.verdicts.items place ≡ true) }
 {
@@ -73,12 +73,12 @@ fn check_values(
     own: &Package,
     outline: &Outline,
     uses: &IndexMap<NodeId, ObjId>,
-    before: &mut IndexMap<ObjId, i128>,
+    before: &mut Headers,
 ) -> Result<Verdict, NoMemory>
     ensures { IfOk result (λ verdict. (m : ModuleData) (k : ℕ) → slice_get m.packages k ≡ Some (package_view own.now)
         → outline_view outline.now ≡ outline_of m → AreUses m k uses.now.entries → phases.IsVerdict m k
-        (package_view own.now) (headers_listed before.old.entries) (verdict_view verdict)
-        (headers_listed before.new.entries)) }
+        (package_view own.now) (headers_view before.old) (verdict_view verdict)
+        (headers_view before.new)) }
 {
     let files = own_files(alloc, own)?;
     let declarations = declarations_of(alloc, &files)?;
@@ -88,16 +88,16 @@ fn check_values(
         places: &places,
         before,
     };
-    let Judged { verdict, values } = judge(alloc, own, outline, &around, &files, &declarations)?;
-    add_values(before, &values)?;
+    let Judged { verdict, headers } = judge(alloc, own, outline, &around, &files, &declarations)?;
+    add_headers(before, &headers)?;
     Ok(verdict)
 }
 
-// A verdict, and the values of declarations that are known behind it.
+// A verdict, and the headers of declarations that are known behind it.
 #[derive(Drop)]
 struct Judged {
     verdict: Verdict,
-    values: Vec<(ObjId, i128)>,
+    headers: Vec<(ObjId, Header)>,
 }
 
 // The verdict by the values of declarations.
@@ -115,7 +115,7 @@ fn judge(
     ensures { IfOk result (λ judged. (m : ModuleData) (k : ℕ) → slice_get m.packages k ≡ Some (package_view own.now)
         → outline_view outline.now ≡ outline_of m → AreUses m k around.now.uses.now.entries → phases.IsVerdict m k
         (package_view own.now) (before_by around.now) (verdict_view judged.verdict)
-        (headers_listed (insert_all same_object around.now.before.now.entries judged.values.items))) }
+        (known_with (before_by around.now) (pairs_view judged.headers.items))) }
 {
     let table = headers(alloc, around, declarations)?;
     let cyclic = cyclic_declarations(alloc, around, &table, declarations)?;
@@ -126,7 +126,7 @@ fn judge(
         let verdict = Verdict::Refused(placed_list(alloc, own, &list)?);
         Ok(Judged {
             verdict,
-            values: Vec::new(alloc),
+            headers: Vec::new(alloc),
         })
     }
 }
@@ -136,64 +136,76 @@ fn accept(
     alloc: Global,
     outline: &Outline,
     around: &Around,
-    table: &[Option<i128>],
+    table: &[Option<Header>],
     files: &[OwnFile],
     declarations: &[Declaration],
 ) -> Result<Judged, NoMemory>
     ensures verdict { IfOk result (λ judged. (k : ℕ) (p : PackageData) → own_files_view files.now ≡ own_files_in p
         → IsAccepting (outline_view outline.now) k p (denotes_by around.now) (means_by around.now)
         (headers_by around.now table.now) (verdict_view judged.verdict)) }
-    ensures values { IfOk result (λ judged. judged.values.items
-        ≡ values_in (values_by around.now table.now) (declarations_view declarations.now)) }
+    ensures headers { IfOk result (λ judged. pairs_view judged.headers.items
+        ≡ headers_in (headers_by around.now table.now) (declarations_view declarations.now)) }
 {
     let lines = lines_of(alloc, outline, files, around, table)?;
     let named = named_in(alloc, outline, &lines)?;
-    let values = values_in(alloc, around, table, declarations)?;
+    let headers = headers_in(alloc, around, table, declarations)?;
     Ok(Judged {
         verdict: Verdict::Accepted(Records { lines, named }),
-        values,
+        headers,
     })
 }
 
-// The values of declarations, by their numbers.
-fn values_in(
+// The headers of declarations, by their numbers.
+fn headers_in(
     alloc: Global,
     around: &Around,
-    table: &[Option<i128>],
+    table: &[Option<Header>],
     declarations: &[Declaration],
-) -> Result<Vec<(ObjId, i128)>, NoMemory>
-    ensures { IfOk result (λ values. values.items
-        ≡ values_in (values_by around.now table.now) (declarations_view declarations.now)) }
+) -> Result<Vec<(ObjId, Header)>, NoMemory>
+    ensures { IfOk result (λ headers. pairs_view headers.items
+        ≡ headers_in (headers_by around.now table.now) (declarations_view declarations.now)) }
 {
-    let mut values = Vec::new(alloc);
+    let mut headers = Vec::new(alloc);
     for declaration in declarations {
-        let number = declaration.number();
-        push_value(number, around.value(table, number), &mut values)?;
+        push_header(around, table, declaration.number(), &mut headers)?;
     }
-    Ok(values)
+    Ok(headers)
 }
 
-// Pushes the value, if there is one.
-fn push_value(
+// Pushes the header of a declaration, if there is one.
+fn push_header(
+    around: &Around,
+    table: &[Option<Header>],
     number: ObjId,
-    value: Option<i128>,
-    values: &mut Vec<(ObjId, i128)>,
+    headers: &mut Vec<(ObjId, Header)>,
 ) -> Result<(), NoMemory>
-    ensures { OnOk result (values.new.items ≡ values.old.items
-        ++ option_map_or (λ v. (number, v) ∷ []) value []) }
+    ensures { OnOk result (pairs_view headers.new.items ≡ pairs_view headers.old.items
+        ++ option_map_or (λ h. (number, h) ∷ []) (headers_by around.now table.now number.0) []) }
 {
-    if let Some(value) = value {
-        values.push((number, value))?;
+    if let Some(header) = around.header(table, number) {
+        headers.push((number, header.clone()?))?;
     }
     Ok(())
 }
 
-// Adds values to those that are known.
-fn add_values(before: &mut IndexMap<ObjId, i128>, values: &[(ObjId, i128)]) -> Result<(), NoMemory>
-    ensures { OnOk result (before.new.entries ≡ insert_all same_object before.old.entries values.now) }
+// Adds the headers of declarations that have none before.
+fn add_headers(before: &mut Headers, headers: &[(ObjId, Header)]) -> Result<(), NoMemory>
+    ensures { OnOk result ((d : ℕ)
+        → headers_view before.new d ≡ known_with (headers_view before.old) (pairs_view headers.now) d) }
 {
-    for (number, value) in values {
-        before.insert(*number, *value)?;
+    for (number, header) in headers {
+        add_header(before, *number, header)?;
     }
     Ok(())
+}
+
+// Adds the header of a declaration that has none before.
+fn add_header(before: &mut Headers, number: ObjId, header: &Header) -> Result<(), NoMemory>
+    ensures { OnOk result ((d : ℕ) → headers_view before.new d
+        ≡ known_with (headers_view before.old) ((number, header_view header.now) ∷ []) d) }
+{
+    if before.get(number).is_some() {
+        return Ok(());
+    }
+    before.add(number, header.clone()?)
 }

@@ -18,6 +18,7 @@ use crate::rules::CYCLIC_DECLARATION;
 use go_base::{Broken, NoMemory};
 use go_decl::is_cyclic;
 use go_expr::Around;
+use go_model::Header;
 use go_module::{Package, add_if, broken_at, ordered, with_numbers};
 use go_names::{Declaration, Spec};
 use std::alloc::Global;
@@ -28,7 +29,7 @@ use std::alloc::Global;
 pub fn broken_values(
     alloc: Global,
     around: &Around,
-    table: &[Option<i128>],
+    table: &[Option<Header>],
     cyclic: &[bool],
     files: &[OwnFile],
     declarations: &[Declaration],
@@ -83,7 +84,7 @@ fn push_cyclic(
 fn push_files(
     alloc: Global,
     around: &Around,
-    table: &[Option<i128>],
+    table: &[Option<Header>],
     files: &[OwnFile],
     found: &mut Vec<Broken>,
 ) -> Result<(), NoMemory>
@@ -101,7 +102,7 @@ fn push_files(
 fn push_specs(
     alloc: Global,
     around: &Around,
-    table: &[Option<i128>],
+    table: &[Option<Header>],
     specs: &[Spec],
     found: &mut Vec<Broken>,
 ) -> Result<(), NoMemory>

@@ -18,6 +18,7 @@ use Rattle.go_model.specs.Values.Meaning.{denoted_meaning}
 use Rattle.go_model.specs.Outcomes.Judged.{Broken, Found, Nothing, OutcomeData}
 use Rattle.go_model.specs.Outcomes.Judged as outcomes
 use Rattle.go_model.specs.Outcomes.Readings.{awaited_in}
+use Rattle.go_model.specs.declared.header.Header.{Header}
 use Rattle.go_model.specs.Outcomes.Records.{HeaderData, RecData}
 use Rattle.go_model.specs.Outcomes.Walk.{outcome}
 use Rattle.go_model.specs.Values.Waiting.{Chain, Waits, awaited_by, awaited_by_nodes, more, one}
@@ -46,7 +47,7 @@ pub record HasPlace (places : ObjId → Option ℕ) (d : ℕ) : Type 0 where
   pub place : ℕ
   pub is : places (record { 0 = d }) ≡ Some place
 
-module _ (around : Around) (table : List (Option ℤ)) where
+module _ (around : Around) (table : List (Option Header)) where
   -- what has no header, and is declared, has a place
   lacking_place : (object : ObjId) → may_have_by around object ≡ true → headers_by around table object.0 ≡ None → HasPlace (places_by around) object.0
   lacking_place object declares lacks = by_place (places_by around object) refl
@@ -133,7 +134,7 @@ module _ (places : ObjId → Option ℕ) where
       by_cases (inl same) later = Contains-append_left (place_list places k) (flat_map (place_list places) numbers) place (here same)
       by_cases (inr there) later = Contains-append_right (place_list places k) (flat_map (place_list places) numbers) place (later there e)
 
-module _ (around : Around) (table : List (Option ℤ)) (declarations : List Declaration) (is_around : IsAround declarations around) where
+module _ (around : Around) (table : List (Option Header)) (declarations : List Declaration) (is_around : IsAround declarations around) where
   opened : (d : ObjId) (place : ℕ) → places_by around d ≡ Some place → IsOpen (before_by around) declarations d place
   opened d place e = open_is (before_by around) declarations d place (sym (is_around d) ∙ e)
 

@@ -1,8 +1,9 @@
 -- A table of headers that is filled in rounds.
 -- Says what the rounds keep, and when nothing more can be filled in.
-use Rattle.std.specs.Prelude.{◌≡◌, ℕ, suc, ℤ, Option, Some, None, List, [], ◌∷◌}
+use Rattle.std.specs.Prelude.{◌≡◌, ℕ, suc, Option, Some, None, List, [], ◌∷◌}
 use Rattle.go_model.specs.declared.meaning.Meaning.{Meaning}
 use Rattle.go_model.specs.Names.Declarations.{Declaration}
+use Rattle.go_model.specs.declared.header.Header.{Header}
 use Rattle.go_model.specs.Outcomes.Records.{HeaderData}
 use Rattle.go_model.specs.Outcomes.Walk.{Headers}
 use Rattle.go_model.specs.Values.Headers.{Follows, headers_of, Justified}
@@ -18,7 +19,7 @@ abbrev pub IsSettled : Headers → (ℕ → Meaning) → List Declaration → He
 IsSettled before means declarations headers d = (h : HeaderData) → headers d ≡ None → Follows before means declarations headers d h → ⊥
 
 -- how many declarations have no header yet
-abbrev pub open_count : List (Option ℤ) → ℕ
+abbrev pub open_count : List (Option Header) → ℕ
 open_count [] = 0
 open_count (None ∷ table) = suc (open_count table)
 open_count (Some h ∷ table) = open_count table

@@ -3,9 +3,11 @@ ghost use Rattle.std.specs.Prelude.{◌≡◌, IfOk, is_some};
 ghost use Rattle.std.specs.Map.{lookup};
 ghost use Rattle.go_module.specs.Scopes.{same_object};
 ghost use Rattle.go_names.specs.Views.{declarations_view};
-ghost use Rattle.go_expr.specs.View.{headers_listed, open_place};
+ghost use Rattle.go_model.specs.Values.Known.{headers_view};
+ghost use Rattle.go_expr.specs.View.{open_place};
 
 use go_base::NoMemory;
+use go_model::Headers;
 use go_module::ObjId;
 use go_names::Declaration;
 use indexmap::IndexMap;
@@ -15,11 +17,11 @@ use std::alloc::Global;
 /// first. An error is want of memory.
 pub fn places_of(
     alloc: Global,
-    before: &IndexMap<ObjId, i128>,
+    before: &Headers,
     declarations: &[Declaration],
 ) -> Result<IndexMap<ObjId, usize>, NoMemory>
     ensures { IfOk result (λ places. (d : ObjId) → lookup (same_object d) places.entries
-        ≡ open_place (headers_listed before.now.entries) (declarations_view declarations.now) d) }
+        ≡ open_place (headers_view before.now) (declarations_view declarations.now) d) }
 {
     let mut places = IndexMap::new(alloc);
     for place in (0..declarations.len()).rev() {
@@ -32,8 +34,8 @@ pub fn places_of(
 }
 
 // Whether a declaration has a header before.
-fn is_known(before: &IndexMap<ObjId, i128>, d: ObjId) -> bool
-    ensures { result ≡ is_some (headers_listed before.now.entries d.0) }
+fn is_known(before: &Headers, d: ObjId) -> bool
+    ensures { result ≡ is_some (headers_view before.now d.0) }
 {
-    before.get(&d).is_some()
+    before.get(d).is_some()
 }

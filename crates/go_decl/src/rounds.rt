@@ -1,5 +1,5 @@
 // The headers of declarations, found in rounds (Go specification, "Constant declarations").
-ghost use Rattle.std.specs.Prelude.{◌≡◌, ◌<◌, ◌↔◌, ℕ, Some, false, length, IfOk, IsTrue};
+ghost use Rattle.std.specs.Prelude.{◌≡◌, ◌<◌, ◌↔◌, ℕ, Some, false, length, IfOk, OnOk, IsTrue};
 ghost use Rattle.go_base.specs.declared.ids.ObjId.{ObjId as Object};
 ghost use Rattle.go_model.specs.Outcomes.Records.{HeaderData};
 ghost use Rattle.go_model.specs.Values.Headers.{Known};
@@ -9,82 +9,89 @@ ghost use Rattle.go_expr.specs.View.{IsAround, before_by, means_by, places_by};
 ghost use Rattle.go_names.specs.Views.{declarations_view};
 
 use go_base::NoMemory;
-use go_expr::{Around, value_over};
+use go_expr::{Around, header_over};
+use go_model::Header;
 use go_module::ObjId;
 use go_names::Declaration;
 use std::alloc::Global;
 
-/// The values of the declarations that have a header, by their places, beside those that are known before. An error is want
+/// The headers of the declarations that have one, by their places, beside those that are known before. An error is want
 /// of memory.
 pub fn headers(
     alloc: Global,
     around: &Around,
     declarations: &[Declaration],
-) -> Result<Vec<Option<i128>>, NoMemory>
+) -> Result<Vec<Option<Header>>, NoMemory>
     requires around { IsAround (declarations_view declarations.now) around.now }
     ensures length { IfOk result (λ table. length table.items ≡ length declarations.now) }
     ensures exact { IfOk result (λ table. (d : ℕ) (h : HeaderData) → (headers_by around.now table.items d ≡ Some h)
         ↔ Known (before_by around.now) (means_by around.now) (declarations_view declarations.now) d h) }
 {
     let mut table = vec![in alloc; None; declarations.len()]?;
-    while add_round(around, declarations, &mut table) {}
+    while add_round(alloc, around, declarations, &mut table)? {}
     Ok(table)
 }
 
 // Tries each declaration without a header, and says whether it added one.
-fn add_round(around: &Around, declarations: &[Declaration], table: &mut [Option<i128>]) -> bool
+fn add_round(
+    alloc: Global,
+    around: &Around,
+    declarations: &[Declaration],
+    table: &mut [Option<Header>],
+) -> Result<bool, NoMemory>
     requires around { IsAround (declarations_view declarations.now) around.now }
     requires length { length table.old ≡ length declarations.now }
     requires backed { IsBacked (before_by around.now) (means_by around.now) (declarations_view declarations.now)
         (headers_by around.now table.old) }
-    ensures backed { IsBacked (before_by around.now) (means_by around.now) (declarations_view declarations.now)
-        (headers_by around.now table.new) }
-    ensures fewer { IsTrue result → open_count table.new < open_count table.old }
-    ensures settled { result ≡ false → (d : ℕ) → IsSettled (before_by around.now) (means_by around.now)
-        (declarations_view declarations.now) (headers_by around.now table.new) d }
+    ensures backed { OnOk result (IsBacked (before_by around.now) (means_by around.now)
+        (declarations_view declarations.now) (headers_by around.now table.new)) }
+    ensures fewer { IfOk result (λ added. IsTrue added → open_count table.new < open_count table.old) }
+    ensures settled { IfOk result (λ added. added ≡ false → (d : ℕ) → IsSettled (before_by around.now)
+        (means_by around.now) (declarations_view declarations.now) (headers_by around.now table.new) d) }
 {
     let mut added = false;
     for place in 0..declarations.len() {
-        if add_one(around, declarations, table, place) {
+        if add_one(alloc, around, declarations, table, place)? {
             added = true;
         }
     }
-    added
+    Ok(added)
 }
 
 // Tries one declaration, and says whether it added its header.
 fn add_one(
+    alloc: Global,
     around: &Around,
     declarations: &[Declaration],
-    table: &mut [Option<i128>],
+    table: &mut [Option<Header>],
     place: usize,
-) -> bool
+) -> Result<bool, NoMemory>
     requires around { IsAround (declarations_view declarations.now) around.now }
     requires within { place < length declarations.now }
     requires length { length table.old ≡ length declarations.now }
     requires backed { IsBacked (before_by around.now) (means_by around.now) (declarations_view declarations.now)
         (headers_by around.now table.old) }
-    ensures backed { IsBacked (before_by around.now) (means_by around.now) (declarations_view declarations.now)
-        (headers_by around.now table.new) }
-    ensures fewer { IsTrue result → open_count table.new < open_count table.old }
-    ensures same { result ≡ false → table.new ≡ table.old }
-    ensures settled { result ≡ false → (d : Object) → places_by around.now d ≡ Some place
+    ensures backed { OnOk result (IsBacked (before_by around.now) (means_by around.now)
+        (declarations_view declarations.now) (headers_by around.now table.new)) }
+    ensures fewer { IfOk result (λ added. IsTrue added → open_count table.new < open_count table.old) }
+    ensures same { IfOk result (λ added. added ≡ false → table.new ≡ table.old) }
+    ensures settled { IfOk result (λ added. added ≡ false → (d : Object) → places_by around.now d ≡ Some place
         → IsSettled (before_by around.now) (means_by around.now) (declarations_view declarations.now)
-        (headers_by around.now table.new) d.0 }
+        (headers_by around.now table.new) d.0) }
 {
     let declaration = &declarations[place];
     if table[place].is_some() {
-        return false;
+        return Ok(false);
     }
-    match value_over(around, table, declaration) {
+    match header_over(alloc, around, table, declaration)? {
         Some(header) => {
             if !stands_at(around, declaration.number(), place) {
-                return false;
+                return Ok(false);
             }
             table[place] = Some(header);
-            true
+            Ok(true)
         }
-        None => false,
+        None => Ok(false),
     }
 }
 

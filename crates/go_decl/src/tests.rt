@@ -2,8 +2,11 @@
 use crate::{cyclic_declarations, headers, is_cyclic, places_of};
 use go_base::{Bytes, NoMemory, ObjId};
 use go_expr::Around;
+use go_model::{Header, Headers};
 use go_module::{Built, ObjKind};
 use go_names::Declaration;
+use go_num::Value;
+use go_term::{Basic, Term};
 use go_tree::{Node, NodeId, NodeKind};
 use indexmap::IndexMap;
 use std::alloc::Global;
@@ -33,10 +36,10 @@ fn constant<'a>(name: &'a Node, value: &'a Node) -> Declaration<'a> {
 }
 
 // The headers of these declarations, where X and Y are the nodes 45 and 46, and 47 is a use of Y.
-fn found(alloc: Global, declarations: &[Declaration]) -> Result<Vec<Option<i128>>, NoMemory> {
+fn found(alloc: Global, declarations: &[Declaration]) -> Result<Vec<Option<Header>>, NoMemory> {
     let mut uses = IndexMap::new(alloc);
     uses.insert(NodeId(47), ObjId(46))?;
-    let before = IndexMap::new(alloc);
+    let before = Headers::new(alloc);
     let places = places_of(alloc, &before, declarations)?;
     let around = Around {
         uses: &uses,
@@ -44,6 +47,15 @@ fn found(alloc: Global, declarations: &[Declaration]) -> Result<Vec<Option<i128>
         before: &before,
     };
     headers(alloc, &around, declarations)
+}
+
+// The type of a constant, and its value where it is an integer.
+fn told(header: &Option<Header>) -> Option<(Term, Option<i128>)> {
+    match header {
+        Some(Header::Const(ty, Value::Int(number))) => Some((*ty, Some(*number))),
+        Some(Header::Const(ty, _)) => Some((*ty, None)),
+        None => None,
+    }
 }
 
 #[test]
@@ -56,8 +68,9 @@ fn a_header_follows_from_a_later_one(rt: HostRuntime) -> Result<(), Fail> {
     let one = leaf(alloc, 48, NodeKind::IntLit, b"1")?;
     let table = found(alloc, &[constant(&x, &to_y), constant(&y, &one)])?;
     assert_eq!(rt; table.len(), 2);
-    assert_eq!(rt; table[0], Some(1));
-    assert_eq!(rt; table[1], Some(1));
+    for header in &table {
+        assert_eq!(rt; told(header), Some((Term::Basic(Basic::UntypedInt), Some(1))));
+    }
     Ok(())
 }
 
@@ -67,7 +80,7 @@ fn cyclic(alloc: Global, declarations: &[Declaration]) -> Result<(bool, bool), N
     let mut uses = IndexMap::new(alloc);
     uses.insert(NodeId(47), ObjId(46))?;
     uses.insert(NodeId(49), ObjId(45))?;
-    let before = IndexMap::new(alloc);
+    let before = Headers::new(alloc);
     let places = places_of(alloc, &before, declarations)?;
     let around = Around {
         uses: &uses,

@@ -11,8 +11,9 @@ ghost use Rattle.go_expr.specs.Table.{headers_by};
 ghost use Rattle.go_expr.specs.View.{IsAround, means_by, places_by};
 
 use go_base::NoMemory;
-use go_expr::{Around, Evaluated, NodeOutcome, evaluate};
+use go_expr::{Around, Evaluated, evaluate};
 use go_graph::{Numbers, cyclic_vertices, is_marked};
+use go_model::{Header, Outcome};
 use go_module::ObjId;
 use go_names::Declaration;
 use go_tree::Node;
@@ -23,7 +24,7 @@ use std::alloc::Global;
 pub fn cyclic_declarations(
     alloc: Global,
     around: &Around,
-    table: &[Option<i128>],
+    table: &[Option<Header>],
     declarations: &[Declaration],
 ) -> Result<Vec<bool>, NoMemory>
     requires { IsAround (declarations_view declarations.now) around.now }
@@ -49,7 +50,7 @@ pub fn is_cyclic(around: &Around, cyclic: &[bool], d: ObjId) -> bool
 fn waits_of(
     alloc: Global,
     around: &Around,
-    table: &[Option<i128>],
+    table: &[Option<Header>],
     declarations: &[Declaration],
 ) -> Result<Vec<Numbers>, NoMemory>
     ensures { IfOk result (λ waits. waits.items ≡ waits_of (places_by around.now) (means_by around.now)
@@ -66,7 +67,7 @@ fn waits_of(
 fn awaited_places(
     alloc: Global,
     around: &Around,
-    table: &[Option<i128>],
+    table: &[Option<Header>],
     declaration: &Declaration,
 ) -> Result<Numbers, NoMemory>
     ensures { IfOk result (λ places. places ≡ awaited_places (places_by around.now) (means_by around.now)
@@ -101,7 +102,7 @@ fn push_place(around: &Around, d: ObjId, places: &mut Numbers) -> Result<(), NoM
 fn awaited_by(
     alloc: Global,
     around: &Around,
-    table: &[Option<i128>],
+    table: &[Option<Header>],
     declaration: &Declaration,
 ) -> Result<Numbers, NoMemory>
     ensures { IfOk result (λ numbers. numbers
@@ -117,7 +118,7 @@ fn awaited_by(
 fn push_awaited(
     alloc: Global,
     around: &Around,
-    table: &[Option<i128>],
+    table: &[Option<Header>],
     nodes: &[Node],
     numbers: &mut Numbers,
 ) -> Result<(), NoMemory>
@@ -135,7 +136,7 @@ fn push_awaited(
 fn push_awaited_in(
     alloc: Global,
     around: &Around,
-    table: &[Option<i128>],
+    table: &[Option<Header>],
     node: &Node,
     numbers: &mut Numbers,
 ) -> Result<(), NoMemory>
@@ -161,10 +162,10 @@ fn push_each(list: &[Evaluated], numbers: &mut Numbers) -> Result<(), NoMemory>
 fn push_one(node: &Evaluated, numbers: &mut Numbers) -> Result<(), NoMemory>
     ensures { OnOk result (numbers.new ≡ numbers.old ++ awaited_in (evaluated_view node.now).outcome) }
 {
-    match node.outcome {
-        NodeOutcome::Waits(d) => numbers.push(d.0),
-        NodeOutcome::Found(_) => Ok(()),
-        NodeOutcome::Broken(_) => Ok(()),
-        NodeOutcome::Nothing => Ok(()),
+    match &node.outcome {
+        Outcome::Waits(d) => numbers.push(d.0),
+        Outcome::Found(_) => Ok(()),
+        Outcome::Broken(_, _) => Ok(()),
+        Outcome::Nothing => Ok(()),
     }
 }

@@ -20,7 +20,7 @@ use Rattle.go_model.specs.Outcomes.Constructs.Selector.{selector}
 use Rattle.go_model.specs.Outcomes.Constructs.Sum.{sum}
 use Rattle.go_model.specs.Outcomes.Judged.{Asks, Broken, Found, Nothing, OutcomeData, Waits, asked, judged, made, tested}
 use Rattle.go_model.specs.Outcomes.Operands.{at_whole}
-use Rattle.go_model.specs.Outcomes.Records.{HeaderData, RecData, integer, integer_in, named_record}
+use Rattle.go_model.specs.Outcomes.Records.{HeaderData, RecData, integer_in, integer_record, named_record}
 use Rattle.go_model.specs.Outcomes.Walk.{Headers, outcome}
 use Rattle.go_model.specs.Values.Quests.{Asked, Decided, Done, Lacks}
 use Rattle.go_expr.specs.Outcomes.{outcome_by_operands}
@@ -52,7 +52,7 @@ declared_waits object (Some h) d e = absurd (found_waits (named_record object h)
 
 -- what is asked of a sum of two integers
 abbrev sum_of : ℤ → ℤ → Asks HeaderData RecData
-sum_of x y = record { tests = at_whole wide_integer (Done (is_some (limited (binary_value Add x y)))) ∷ []; gives = Done (integer (binary_value Add x y)) }
+sum_of x y = record { tests = at_whole wide_integer (Done (is_some (limited (binary_value Add x y)))) ∷ []; gives = Done (integer_record (binary_value Add x y)) }
 
 module _ (headers : Headers) where
   name_waits : (m : Meaning) (d : ℕ) → judged headers (name m) [] ≡ Waits d → Names m d
@@ -78,7 +78,7 @@ module _ (headers : Headers) where
   integers_wait : (a b : Option ℤ) (d : ℕ) → asked headers (option_and_then (λ x. option_map (sum_of x) b) a) ≡ Waits d → ⊥
   integers_wait None b d e = nothing_waits d e
   integers_wait (Some x) None d e = nothing_waits d e
-  integers_wait (Some x) (Some y) d e = never_waits headers wide_integer (integer (binary_value Add x y)) (is_some (limited (binary_value Add x y))) d e
+  integers_wait (Some x) (Some y) d e = never_waits headers wide_integer (integer_record (binary_value Add x y)) (is_some (limited (binary_value Add x y))) d e
 
   sum_waits : (x y : OutcomeData RecData) (d : ℕ) → judged headers sum (x ∷ (y ∷ [])) ≡ Waits d → (x ≡ Waits d) ⊎ (y ≡ Waits d)
   sum_waits (Found a) (Found b) d e = absurd (integers_wait (integer_in a) (integer_in b) d e)
@@ -98,7 +98,7 @@ module _ (P : ℕ → Type 0) (means : ℕ → Meaning) (headers : Headers) (eac
   named id d n = subst P n.number (each id n.object n.means)
 
   by_waits : (t : Tree) (d : ℕ) → outcome_by_operands means headers t ≡ Waits d → P d
-  by_waits (branch id from to IntLit text parts) d e = absurd (never_waits headers wide_integer (integer (pos (int_lit_value text))) (is_some (limited (pos (int_lit_value text)))) d e)
+  by_waits (branch id from to IntLit text parts) d e = absurd (never_waits headers wide_integer (integer_record (pos (int_lit_value text))) (is_some (limited (pos (int_lit_value text)))) d e)
   by_waits (branch id from to Name text parts) d e = named id d (name_waits headers (means id) d e)
   by_waits (branch id from to SelectorExpr text (more_trees a (more_trees b no_trees))) d e = by_either (selector_waits headers (means (id_of b)) (outcome_by_operands means headers a) d e) (by_waits a d)
     where

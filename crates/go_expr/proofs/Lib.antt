@@ -1,4 +1,4 @@
 pub mod AwaitedLemmas
 pub mod EvaluatedLemmas
 pub mod NodeOutcomeLemmas
-pub mod TableLemmas
+pub mod ResultLemmas

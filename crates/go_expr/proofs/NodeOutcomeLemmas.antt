@@ -16,7 +16,7 @@ use Rattle.go_model.specs.Outcomes.Constructs.Selector.{selector}
 use Rattle.go_model.specs.Outcomes.Constructs.Sum.{sum}
 use Rattle.go_model.specs.Outcomes.Judged.{Found, OutcomeData, judged, tested}
 use Rattle.go_model.specs.Outcomes.Operands.{at_whole}
-use Rattle.go_model.specs.Outcomes.Records.{RecData, integer}
+use Rattle.go_model.specs.Outcomes.Records.{RecData, integer_record}
 use Rattle.go_model.specs.Outcomes.Walk.{Headers, outcome, outcomes}
 use Rattle.go_model.specs.Values.Quests.{Done}
 use Rattle.go_expr.specs.Outcomes.{both_of, limited_view, only_of, outcome_by_operands, outcome_by_parts, selector_by_parts}
@@ -30,12 +30,12 @@ limited_is : (x y : ℤ) → limited x ≡ Some y → x ≡ y
 limited_is (pos n) y e = cond_some (nat_lt n (2 ^ 127)) (pos n) y e
 limited_is (negsuc n) y e = cond_some (nat_lt n (2 ^ 127)) (negsuc n) y e
 
-by_limit : (headers : Headers) (x : ℤ) (o : Option ℤ) → limited x ≡ o → limited_view o ≡ tested headers (at_whole wide_integer (Done (is_some o)) ∷ []) (Done (integer x))
+by_limit : (headers : Headers) (x : ℤ) (o : Option ℤ) → limited x ≡ o → limited_view o ≡ tested headers (at_whole wide_integer (Done (is_some o)) ∷ []) (Done (integer_record x))
 by_limit headers x None e = refl
-by_limit headers x (Some y) e = ap (λ v. Found (integer v)) (sym (limited_is x y e))
+by_limit headers x (Some y) e = ap (λ v. Found (integer_record v)) (sym (limited_is x y e))
 
 -- what is asked whether it is within the limits, and then given
-pub limited_outcome : (headers : Headers) (x : ℤ) → limited_view (limited x) ≡ tested headers (at_whole wide_integer (Done (is_some (limited x))) ∷ []) (Done (integer x))
+pub limited_outcome : (headers : Headers) (x : ℤ) → limited_view (limited x) ≡ tested headers (at_whole wide_integer (Done (is_some (limited x))) ∷ []) (Done (integer_record x))
 limited_outcome headers x = by_limit headers x (limited x) refl
 
 -- an identifier has no operand

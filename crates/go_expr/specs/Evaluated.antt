@@ -6,7 +6,7 @@ use Rattle.go_model.specs.declared.meaning.Meaning.{Meaning}
 use Rattle.go_model.specs.Outcomes.Judged.{OutcomeData}
 use Rattle.go_model.specs.Outcomes.Records.{RecData}
 use Rattle.go_model.specs.Outcomes.Walk.{Headers, outcome}
-use Rattle.go_expr.specs.Outcomes.{outcome_view}
+use Rattle.go_model.specs.Outcomes.View.{outcome_view}
 use Rattle.go_expr.specs.declared.evaluated.Evaluated.{Evaluated}
 
 pub record EvaluatedData : Type 0 where

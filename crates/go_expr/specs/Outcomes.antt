@@ -2,12 +2,10 @@
 -- Says what the values of the program stand for. That both ways lead to the outcome of the node: `NodeOutcomeLemmas`.
 use Rattle.std.specs.Prelude.{ℕ, ℤ, Option, Some, None, List, [], ◌∷◌}
 use Rattle.std.specs.Option.{option_map_or}
-use Rattle.go_num.specs.declared.value.Value.TheVariants.{Int}
 use Rattle.go_tree.specs.declared.node_kind.NodeKind.TheVariants.{AddExpr, IntLit, Name, ParenExpr, SelectorExpr}
 use Rattle.go_tree.specs.Tree.{Tree, branch, id_of, more_trees, no_trees}
 use Rattle.go_model.specs.declared.meaning.Meaning.{Meaning}
 use Rattle.go_model.specs.declared.outcome.Spot.TheVariants.{Whole}
-use Rattle.go_model.specs.declared.rec.Mode.TheVariants.{Const}
 use Rattle.go_model.specs.Outcomes.Constructs.Limits.{wide_integer}
 use Rattle.go_model.specs.Outcomes.Constructs.Literal.{literal}
 use Rattle.go_model.specs.Outcomes.Constructs.Name.{name}
@@ -16,26 +14,12 @@ use Rattle.go_model.specs.Outcomes.Constructs.Selector.{selector}
 use Rattle.go_model.specs.Outcomes.Constructs.Sum.{sum}
 use Rattle.go_model.specs.Outcomes.Judged.{OutcomeData, judged}
 use Rattle.go_model.specs.Outcomes.Judged as outcomes
-use Rattle.go_model.specs.Outcomes.Records.{RecData, integer, untyped_int}
+use Rattle.go_model.specs.Outcomes.Records.{RecData, integer_record}
 use Rattle.go_model.specs.Outcomes.Walk.{Headers}
-use Rattle.go_expr.specs.declared.node_outcome.Integer.{Integer}
-use Rattle.go_expr.specs.declared.node_outcome.NodeOutcome.{NodeOutcome}
-use Rattle.go_expr.specs.declared.node_outcome.NodeOutcome.TheVariants.{Broken, Found, Nothing, Waits}
-
--- the record of an integer constant
-abbrev pub integer_record : Integer → RecData
-integer_record i = record { mode = Const; type = Some untyped_int; value = Some (Int i.value); object = i.object }
-
--- each rule that the program tells is broken by the node as a whole
-abbrev pub outcome_view : NodeOutcome → OutcomeData RecData
-outcome_view (Found i) = outcomes.Found (integer_record i)
-outcome_view (Broken rule) = outcomes.Broken rule (Whole ∷ [])
-outcome_view (Waits d) = outcomes.Waits d.0
-outcome_view Nothing = outcomes.Nothing
 
 -- a value within the limits, or the rule that it breaks
 abbrev pub limited_view : Option ℤ → OutcomeData RecData
-limited_view (Some v) = outcomes.Found (integer v)
+limited_view (Some v) = outcomes.Found (integer_record v)
 limited_view None = outcomes.Broken wide_integer (Whole ∷ [])
 
 -- from the outcomes of its operands

@@ -1,15 +1,13 @@
 -- What the values of the program stand for.
-use Rattle.std.specs.Prelude.{◌≡◌, ℕ, ℤ, ◌||◌, Bool, is_some, if◌then◌else◌, Option, None, List}
+use Rattle.std.specs.Prelude.{◌≡◌, ℕ, ◌||◌, Bool, is_some, if◌then◌else◌, Option, None, List}
 use Rattle.std.specs.Map.{lookup}
-use Rattle.std.specs.Option.{option_map}
 use Rattle.go_base.specs.declared.ids.ObjId.{ObjId}
-use Rattle.go_num.specs.declared.value.Value.TheVariants.{Int}
 use Rattle.go_tree.specs.declared.node.NodeId.{NodeId}
 use Rattle.go_module.specs.Names.Declarations.{Declaration, numbers_of}
 use Rattle.go_module.specs.Scopes.{same_node, same_object}
 use Rattle.go_model.specs.declared.meaning.Meaning.{Meaning}
-use Rattle.go_model.specs.Outcomes.Records.{HeaderData, constant, untyped_int}
 use Rattle.go_model.specs.Outcomes.Walk.{Headers}
+use Rattle.go_model.specs.Values.Known.{headers_view}
 use Rattle.go_model.specs.Values.Meaning.{meaning_by}
 use Rattle.go_expr.specs.Places.{place_among}
 use Rattle.go_expr.specs.declared.around.Around.{Around}
@@ -21,23 +19,9 @@ places_by around d = lookup (same_object d) around.places.now.entries
 abbrev pub denotes_by : Around → NodeId → Option ObjId
 denotes_by around id = lookup (same_node id) around.uses.now.entries
 
--- the header of an integer constant, by its value
-abbrev pub integer_header : ℤ → HeaderData
-integer_header v = constant untyped_int (Int v)
-
--- what a list of the values of integer constants has, by their numbers, and the headers of these
-abbrev pub values_listed : List (ObjId × ℤ) → ℕ → Option ℤ
-values_listed entries d = lookup (same_object (record { 0 = d })) entries
-
-abbrev pub headers_listed : List (ObjId × ℤ) → Headers
-headers_listed entries d = option_map integer_header (values_listed entries d)
-
--- those that are known before
-abbrev pub values_before : Around → ℕ → Option ℤ
-values_before around = values_listed around.before.now.entries
-
+-- the headers that are known before
 abbrev pub before_by : Around → Headers
-before_by around = headers_listed around.before.now.entries
+before_by around = headers_view around.before.now
 
 -- whether an object has a place, or a header before
 abbrev pub may_have_by : Around → ObjId → Bool

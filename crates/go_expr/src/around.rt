@@ -1,22 +1,24 @@
 // What identifiers mean in a package that is checked (Go specification, "Declarations and scope", "Qualified
 // identifiers").
 ghost use Rattle.std.specs.Prelude.{◌≡◌};
+ghost use Rattle.std.specs.Option.{option_map};
+ghost use Rattle.go_model.specs.Outcomes.Records.{header_view};
 ghost use Rattle.go_model.specs.Values.Meaning as spec;
-ghost use Rattle.go_expr.specs.Table.{slot_of, values_by};
+ghost use Rattle.go_expr.specs.Table.{headers_by, slot_of};
 ghost use Rattle.go_expr.specs.View.{may_have_by, denotes_by, means_by};
 
-use go_model::Meaning;
+use go_model::{Header, Headers, Meaning};
 use go_module::{FIRST_NUMBER, ObjId};
 use go_tree::NodeId;
 use indexmap::IndexMap;
 
 /// What is known round the declarations of a package: what its names denote, the places of those of its declarations
-/// that have no header before, by their numbers, and the values of constants of packages that stand before.
+/// that have no header before, by their numbers, and the headers of declarations of packages that stand before.
 #[derive(Clone, Copy)]
 pub struct Around<'a> {
     pub uses: &'a IndexMap<NodeId, ObjId>,
     pub places: &'a IndexMap<ObjId, usize>,
-    pub before: &'a IndexMap<ObjId, i128>,
+    pub before: &'a Headers,
 }
 
 impl<'a> Around<'a> {
@@ -54,24 +56,23 @@ impl<'a> Around<'a> {
     fn may_have_header(&self, d: ObjId) -> bool
         ensures { result ≡ may_have_by self.now d }
     {
-        self.places.get(&d).is_some() || self.before.get(&d).is_some()
+        self.places.get(&d).is_some() || self.before.get(d).is_some()
     }
 
-    /// The value of a declaration that is an integer constant: what the table has at its place, or what is known
-    /// before.
-    pub fn value(&self, table: &[Option<i128>], d: ObjId) -> Option<i128>
-        ensures { result ≡ values_by self.now table.now d.0 }
+    /// The header of a declaration: what the table has at its place, or what is known before.
+    pub fn header<'t>(&'t self, table: &'t [Option<Header>], d: ObjId) -> Option<&'t Header>
+        ensures { option_map (λ header. header_view header.now) result ≡ headers_by self.now table.now d.0 }
     {
         match self.places.get(&d) {
             Some(place) => slot(table, *place),
-            None => self.before.get(&d).copied(),
+            None => self.before.get(d),
         }
     }
 }
 
 // What the table has at a place.
-fn slot(table: &[Option<i128>], place: usize) -> Option<i128>
-    ensures { result ≡ slot_of table.now place }
+fn slot(table: &[Option<Header>], place: usize) -> Option<&Header>
+    ensures { option_map (λ header. header.now) result ≡ slot_of table.now place }
 {
-    table.get(place).copied()?
+    table.get(place)?.as_ref()
 }

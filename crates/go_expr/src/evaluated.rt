@@ -1,11 +1,12 @@
 // The nodes of expressions and types with their outcomes (Go specification, "Expressions").
 ghost use Rattle.std.specs.Prelude.{◌≡◌, ◌++◌, IfOk, OnOk, map, reverse};
+ghost use Rattle.std.specs.Option.{option_map};
 ghost use Rattle.go_tree.specs.Tree.{tree_of};
 ghost use Rattle.go_module.specs.Names.Inner.{inner_parts};
-ghost use Rattle.go_model.specs.Outcomes.Walk.{Headers, outcome};
-ghost use Rattle.go_expr.specs.Evaluated as spec;
+ghost use Rattle.go_model.specs.Outcomes.View.{outcome_view};
+ghost use Rattle.go_model.specs.Outcomes.Walk.{Headers as Known, outcome};
 ghost use Rattle.go_expr.specs.Evaluated.{all_evaluated, evaluated_views};
-ghost use Rattle.go_expr.specs.Outcomes.{both_of, only_of, outcome_by_parts, outcome_view};
+ghost use Rattle.go_expr.specs.Outcomes.{both_of, only_of, outcome_by_parts};
 ghost use Rattle.go_expr.specs.Outcomes.{parentheses_by_parts, selector_by_parts, sum_by_parts};
 ghost use Rattle.go_expr.specs.Table.{headers_by};
 ghost use Rattle.go_expr.specs.View.{means_by};
@@ -13,28 +14,27 @@ ghost use Rattle.go_expr.specs.View.{means_by};
 use crate::around::Around;
 use crate::literal::literal;
 use crate::name::name;
-use crate::node_outcome::NodeOutcome;
 use crate::parentheses::parentheses;
 use crate::selector::selector;
 use crate::sum::sum;
 use go_base::NoMemory;
-use go_model::Meaning;
+use go_model::{Header, Meaning, Outcome};
 use go_names::inner_parts;
 use go_tree::{Node, NodeKind};
 use std::alloc::Global;
 
 /// A node and its outcome.
-#[derive(Clone, Copy)]
+#[derive(Drop)]
 pub struct Evaluated<'a> {
     pub node: &'a Node,
-    pub outcome: NodeOutcome,
+    pub outcome: Outcome,
 }
 
 /// The nodes of an expression or a type with their outcomes, a node before its parts. An error is want of memory.
 pub fn evaluate<'a>(
     alloc: Global,
     around: &Around,
-    table: &[Option<i128>],
+    table: &[Option<Header>],
     node: &'a Node,
 ) -> Result<Vec<Evaluated<'a>>, NoMemory>
     ensures { IfOk result (λ list. evaluated_views list.items
@@ -51,10 +51,10 @@ pub fn evaluate<'a>(
 fn push_evaluated<'a>(
     alloc: Global,
     around: &Around,
-    table: &[Option<i128>],
+    table: &[Option<Header>],
     node: &'a Node,
     list: &mut Vec<Evaluated<'a>>,
-) -> Result<NodeOutcome, NoMemory>
+) -> Result<Outcome, NoMemory>
     ensures outcome { IfOk result (λ found.
         outcome_view found ≡ outcome (means_by around.now) (headers_by around.now table.now) (tree_of node.now)) }
     ensures list { OnOk result (evaluated_views list.new.items ≡ evaluated_views list.old.items
@@ -66,101 +66,106 @@ fn push_evaluated<'a>(
         outcomes.push(push_evaluated(alloc, around, table, inner[place], list)?)?;
     }
     outcomes.reverse();
-    let made = with_outcome(around, table, node, &outcomes);
-    list.push(made)?;
-    Ok(made.outcome)
+    let made = with_outcomes(alloc, around, table, node, &outcomes)?;
+    let outcome = made.clone()?;
+    list.push(Evaluated { node, outcome })?;
+    Ok(made)
 }
 
-// The node, where its inner parts have these outcomes.
-fn with_outcome<'a>(
+// The outcome of a node whose inner parts have these outcomes.
+fn with_outcomes(
+    alloc: Global,
     around: &Around,
-    table: &[Option<i128>],
-    node: &'a Node,
-    outcomes: &[NodeOutcome],
-) -> Evaluated<'a>
+    table: &[Option<Header>],
+    node: &Node,
+    outcomes: &[Outcome],
+) -> Result<Outcome, NoMemory>
     requires { map outcome_view outcomes.now
         ≡ map (outcome (means_by around.now) (headers_by around.now table.now)) (inner_parts (tree_of node.now)) }
-    ensures { spec.evaluated_view result
-        ≡ spec.evaluated (means_by around.now) (headers_by around.now table.now) (tree_of node.now) }
+    ensures { IfOk result (λ found.
+        outcome_view found ≡ outcome (means_by around.now) (headers_by around.now table.now) (tree_of node.now)) }
 {
-    Evaluated {
-        node,
-        outcome: found_by_parts(around, table, node, outcomes),
-    }
+    found_by_parts(alloc, around, table, node, outcomes)
 }
 
 // The outcome of a node, by its kind, from those of its inner parts.
 fn found_by_parts(
+    alloc: Global,
     around: &Around,
-    table: &[Option<i128>],
+    table: &[Option<Header>],
     node: &Node,
-    outcomes: &[NodeOutcome],
-) -> NodeOutcome
-    ensures { outcome_view result
+    outcomes: &[Outcome],
+) -> Result<Outcome, NoMemory>
+    ensures { IfOk result (λ found. outcome_view found
         ≡ outcome_by_parts (means_by around.now) (headers_by around.now table.now) (tree_of node.now)
-        (map outcome_view outcomes.now) }
+        (map outcome_view outcomes.now)) }
 {
     match node.kind() {
-        NodeKind::IntLit => literal(node.text()),
-        NodeKind::Name => name(around, table, around.meaning(node.id())),
+        NodeKind::IntLit => literal(alloc, node.text()),
+        NodeKind::Name => name(alloc, around, table, around.meaning(node.id())),
         NodeKind::SelectorExpr => match node.both_parts() {
-            Some((_, f)) => selector_by_parts(around, table, around.meaning(f.id()), outcomes),
-            None => NodeOutcome::Nothing,
+            Some((_, f)) => {
+                selector_by_parts(alloc, around, table, around.meaning(f.id()), outcomes)
+            }
+            None => Ok(Outcome::Nothing),
         },
         NodeKind::ParenExpr => parentheses_by_parts(outcomes),
-        NodeKind::AddExpr => sum_by_parts(outcomes),
-        _ => NodeOutcome::Nothing,
+        NodeKind::AddExpr => sum_by_parts(alloc, outcomes),
+        _ => Ok(Outcome::Nothing),
     }
 }
 
 fn selector_by_parts(
+    alloc: Global,
     around: &Around,
-    table: &[Option<i128>],
+    table: &[Option<Header>],
     meaning: Meaning,
-    outcomes: &[NodeOutcome],
-) -> NodeOutcome
-    ensures { outcome_view result
-        ≡ selector_by_parts (headers_by around.now table.now) meaning (map outcome_view outcomes.now) }
+    outcomes: &[Outcome],
+) -> Result<Outcome, NoMemory>
+    ensures { IfOk result (λ found. outcome_view found
+        ≡ selector_by_parts (headers_by around.now table.now) meaning (map outcome_view outcomes.now)) }
 {
     match only(outcomes) {
-        Some(operand) => selector(around, table, meaning, operand),
-        None => NodeOutcome::Nothing,
+        Some(operand) => selector(alloc, around, table, meaning, operand),
+        None => Ok(Outcome::Nothing),
     }
 }
 
-fn parentheses_by_parts(outcomes: &[NodeOutcome]) -> NodeOutcome
-    ensures { (headers : Headers) → outcome_view result ≡ parentheses_by_parts headers (map outcome_view outcomes.now) }
+fn parentheses_by_parts(outcomes: &[Outcome]) -> Result<Outcome, NoMemory>
+    ensures { IfOk result (λ found. (headers : Known)
+        → outcome_view found ≡ parentheses_by_parts headers (map outcome_view outcomes.now)) }
 {
     match only(outcomes) {
         Some(part) => parentheses(part),
-        None => NodeOutcome::Nothing,
+        None => Ok(Outcome::Nothing),
     }
 }
 
-fn sum_by_parts(outcomes: &[NodeOutcome]) -> NodeOutcome
-    ensures { (headers : Headers) → outcome_view result ≡ sum_by_parts headers (map outcome_view outcomes.now) }
+fn sum_by_parts(alloc: Global, outcomes: &[Outcome]) -> Result<Outcome, NoMemory>
+    ensures { IfOk result (λ found. (headers : Known)
+        → outcome_view found ≡ sum_by_parts headers (map outcome_view outcomes.now)) }
 {
     match both(outcomes) {
-        Some((left, right)) => sum(left, right),
-        None => NodeOutcome::Nothing,
+        Some((left, right)) => sum(alloc, left, right),
+        None => Ok(Outcome::Nothing),
     }
 }
 
 // The one outcome, and the two outcomes, where there are so many.
-fn only(outcomes: &[NodeOutcome]) -> Option<NodeOutcome>
-    ensures { result ≡ only_of outcomes.now }
+fn only(outcomes: &[Outcome]) -> Option<&Outcome>
+    ensures { option_map (λ x. x.now) result ≡ only_of outcomes.now }
 {
     match outcomes {
-        [x] => Some(*x),
+        [x] => Some(x),
         _ => None,
     }
 }
 
-fn both(outcomes: &[NodeOutcome]) -> Option<(NodeOutcome, NodeOutcome)>
-    ensures { result ≡ both_of outcomes.now }
+fn both(outcomes: &[Outcome]) -> Option<(&Outcome, &Outcome)>
+    ensures { option_map (λ pair. (pair.0.now, pair.1.now)) result ≡ both_of outcomes.now }
 {
     match outcomes {
-        [x, y] => Some((*x, *y)),
+        [x, y] => Some((x, y)),
         _ => None,
     }
 }

@@ -1,6 +1,6 @@
 //! What expressions come to over the headers that are known.
 //!
-//! `outcome` gives the outcome of an expression, from which `record` and `value_over` read its record and the value of
+//! `outcome` gives the outcome of an expression, from which `record` and `header_over` read its record and the header of
 //! a declaration; `evaluate` gives each node of an expression or a type with its outcome. Each construct has a file of
 //! its own. `Around` says what identifiers mean. How headers are found is left to go_decl, which rules are told where
 //! to go_check.
@@ -11,10 +11,10 @@ mod rules;
 // What identifiers mean.
 mod around;
 
-// What a node comes to, and each construct.
+// What a node comes to: each construct.
+mod broken;
 mod literal;
 mod name;
-mod node_outcome;
 mod parentheses;
 mod selector;
 mod sum;
@@ -25,5 +25,4 @@ mod outcomes;
 
 pub use around::Around;
 pub use evaluated::{Evaluated, evaluate};
-pub use node_outcome::{Integer, NodeOutcome};
-pub use outcomes::{outcome, record, value_over};
+pub use outcomes::{header_over, outcome, record};

@@ -1,96 +1,129 @@
-// The outcome of an expression, its record, and the value of a declaration (Go specification, "Expressions", "Constant
-// declarations").
-ghost use Rattle.std.specs.Prelude.{◌≡◌};
+// The outcome of an expression, its record, and the header of a declaration (Go specification, "Expressions",
+// "Constant declarations").
+ghost use Rattle.std.specs.Prelude.{◌≡◌, IfOk, option_and_then};
 ghost use Rattle.std.specs.Option.{option_map};
 ghost use Rattle.go_tree.specs.Tree.{tree_of};
 ghost use Rattle.go_model.specs.Outcomes.Walk as walk;
-ghost use Rattle.go_model.specs.Outcomes.Readings.{record_in};
+ghost use Rattle.go_model.specs.Outcomes.Readings as readings;
+ghost use Rattle.go_model.specs.Outcomes.Records as known;
+ghost use Rattle.go_model.specs.Outcomes.Records.{header_view, rec_view};
+ghost use Rattle.go_model.specs.Outcomes.View.{outcome_view};
 ghost use Rattle.go_model.specs.Values.Records as records;
 ghost use Rattle.go_names.specs.Views.{declaration_view};
-ghost use Rattle.go_expr.specs.Outcomes.{integer_record, outcome_by_operands, outcome_view};
+ghost use Rattle.go_expr.specs.Outcomes.{outcome_by_operands};
 ghost use Rattle.go_expr.specs.Table.{headers_by};
-ghost use Rattle.go_expr.specs.View.{integer_header, means_by};
+ghost use Rattle.go_expr.specs.View.{means_by};
 
 use crate::around::Around;
 use crate::literal::literal;
 use crate::name::name;
-use crate::node_outcome::{Integer, NodeOutcome};
 use crate::parentheses::parentheses;
 use crate::selector::selector;
 use crate::sum::sum;
+use go_base::NoMemory;
+use go_model::{Header, Outcome, Rec};
 use go_module::Built;
 use go_names::Declaration;
 use go_tree::{Node, NodeKind};
+use std::alloc::Global;
 
-/// The outcome of a node of an expression over the headers that the table has.
-pub fn outcome(around: &Around, table: &[Option<i128>], node: &Node) -> NodeOutcome
-    ensures { outcome_view result
-        ≡ walk.outcome (means_by around.now) (headers_by around.now table.now) (tree_of node.now) }
+/// The outcome of a node of an expression over the headers that the table has. An error is want of memory.
+pub fn outcome(
+    alloc: Global,
+    around: &Around,
+    table: &[Option<Header>],
+    node: &Node,
+) -> Result<Outcome, NoMemory>
+    ensures { IfOk result (λ found. outcome_view found
+        ≡ walk.outcome (means_by around.now) (headers_by around.now table.now) (tree_of node.now)) }
 {
-    found(around, table, node)
+    found(alloc, around, table, node)
 }
 
 // The outcome as it is found, by the kind of the node, from those of its operands.
-fn found(around: &Around, table: &[Option<i128>], node: &Node) -> NodeOutcome
-    ensures { outcome_view result
-        ≡ outcome_by_operands (means_by around.now) (headers_by around.now table.now) (tree_of node.now) }
+fn found(
+    alloc: Global,
+    around: &Around,
+    table: &[Option<Header>],
+    node: &Node,
+) -> Result<Outcome, NoMemory>
+    ensures { IfOk result (λ found. outcome_view found
+        ≡ outcome_by_operands (means_by around.now) (headers_by around.now table.now) (tree_of node.now)) }
 {
     match node.kind() {
-        NodeKind::IntLit => literal(node.text()),
-        NodeKind::Name => name(around, table, around.meaning(node.id())),
+        NodeKind::IntLit => literal(alloc, node.text()),
+        NodeKind::Name => name(alloc, around, table, around.meaning(node.id())),
         NodeKind::SelectorExpr => match node.both_parts() {
-            Some((x, f)) => selector(
-                around,
-                table,
-                around.meaning(f.id()),
-                found(around, table, x),
-            ),
-            None => NodeOutcome::Nothing,
+            Some((x, f)) => {
+                let operand = found(alloc, around, table, x)?;
+                selector(alloc, around, table, around.meaning(f.id()), &operand)
+            }
+            None => Ok(Outcome::Nothing),
         },
         NodeKind::ParenExpr => match node.only_part() {
-            Some(x) => parentheses(found(around, table, x)),
-            None => NodeOutcome::Nothing,
+            Some(x) => parentheses(&found(alloc, around, table, x)?),
+            None => Ok(Outcome::Nothing),
         },
         NodeKind::AddExpr => match node.both_parts() {
-            Some((x, y)) => sum(found(around, table, x), found(around, table, y)),
-            None => NodeOutcome::Nothing,
+            Some((x, y)) => {
+                let left = found(alloc, around, table, x)?;
+                sum(alloc, &left, &found(alloc, around, table, y)?)
+            }
+            None => Ok(Outcome::Nothing),
         },
-        _ => NodeOutcome::Nothing,
+        _ => Ok(Outcome::Nothing),
     }
 }
 
-/// The record of an expression over the headers that the table has; None where its outcome is another.
-pub fn record(around: &Around, table: &[Option<i128>], node: &Node) -> Option<Integer>
-    ensures { option_map integer_record result
-        ≡ records.record_of (means_by around.now) (headers_by around.now table.now) (tree_of node.now) }
-{
-    outcome(around, table, node).record()
-}
-
-impl NodeOutcome {
-    /// The record, where the node has one.
-    pub fn record(self) -> Option<Integer>
-        ensures { option_map integer_record result ≡ record_in (outcome_view self) }
-    {
-        match self {
-            NodeOutcome::Found(found) => Some(found),
-            NodeOutcome::Broken(_) => None,
-            NodeOutcome::Waits(_) => None,
-            NodeOutcome::Nothing => None,
-        }
-    }
-}
-
-/// The value of a declaration over the headers that the table has, by which it has a header.
-pub fn value_over(
+/// The record of an expression over the headers that the table has; None where its outcome is another. An error is want
+/// of memory.
+pub fn record(
+    alloc: Global,
     around: &Around,
-    table: &[Option<i128>],
-    declaration: &Declaration,
-) -> Option<i128>
-    ensures { option_map integer_header result ≡ records.header_over (means_by around.now)
-        (headers_by around.now table.now) (declaration_view declaration.now) }
+    table: &[Option<Header>],
+    node: &Node,
+) -> Result<Option<Rec>, NoMemory>
+    ensures { IfOk result (λ found. option_map rec_view found
+        ≡ records.record_of (means_by around.now) (headers_by around.now table.now) (tree_of node.now)) }
 {
-    Some(record(around, table, bound_value(declaration)?)?.value)
+    Ok(record_in(outcome(alloc, around, table, node)?))
+}
+
+// The record, where the node has one.
+fn record_in(outcome: Outcome) -> Option<Rec>
+    ensures { option_map rec_view result ≡ readings.record_in (outcome_view outcome) }
+{
+    match outcome {
+        Outcome::Found(found) => Some(found),
+        Outcome::Broken(_, _) => None,
+        Outcome::Waits(_) => None,
+        Outcome::Nothing => None,
+    }
+}
+
+/// The header of a declaration over those that the table has. An error is want of memory.
+pub fn header_over(
+    alloc: Global,
+    around: &Around,
+    table: &[Option<Header>],
+    declaration: &Declaration,
+) -> Result<Option<Header>, NoMemory>
+    ensures { IfOk result (λ header. option_map header_view header ≡ records.header_over (means_by around.now)
+        (headers_by around.now table.now) (declaration_view declaration.now)) }
+{
+    match bound_value(declaration) {
+        Some(value) => Ok(declared_header(record(alloc, around, table, value)?)),
+        None => Ok(None),
+    }
+}
+
+// The header of a constant that is declared with this record.
+fn declared_header(found: Option<Rec>) -> Option<Header>
+    ensures { option_map header_view result
+        ≡ option_and_then known.declared_header (option_map rec_view found) }
+{
+    let Rec { ty, value, .. } = found?;
+    Some(Header::Const(ty?, value?))
 }
 
 // The expression whose value a declaration has.

@@ -1,22 +1,23 @@
-// Parentheses (Go specification, "Operands").
-ghost use Rattle.std.specs.Prelude.{◌≡◌, List, ◌∷◌};
+// Expressions in parentheses (Go specification, "Operands").
+ghost use Rattle.std.specs.Prelude.{◌≡◌, List, ◌∷◌, IfOk};
 ghost use Rattle.go_model.specs.Outcomes.Constructs.Parentheses as spec;
 ghost use Rattle.go_model.specs.Outcomes.Judged.{OutcomeData, judged};
 ghost use Rattle.go_model.specs.Outcomes.Records.{RecData};
-ghost use Rattle.go_model.specs.Outcomes.Walk.{Headers};
-ghost use Rattle.go_expr.specs.Outcomes.{outcome_view};
+ghost use Rattle.go_model.specs.Outcomes.View.{outcome_view};
+ghost use Rattle.go_model.specs.Outcomes.Walk as walk;
 
-use crate::node_outcome::NodeOutcome;
+use go_base::NoMemory;
+use go_model::Outcome;
 
-/// An expression in parentheses, by the outcome of what stands in them.
-pub fn parentheses(part: NodeOutcome) -> NodeOutcome
-    ensures { (headers : Headers) (parts : List (OutcomeData RecData)) → outcome_view result
-        ≡ judged headers spec.parentheses (outcome_view part ∷ parts) }
+/// An expression in parentheses, by the outcome of what stands in them. An error is want of memory.
+pub fn parentheses(part: &Outcome) -> Result<Outcome, NoMemory>
+    ensures { IfOk result (λ outcome. (headers : walk.Headers) (parts : List (OutcomeData RecData))
+        → outcome_view outcome ≡ judged headers spec.parentheses (outcome_view part.now ∷ parts)) }
 {
     match part {
-        NodeOutcome::Found(found) => NodeOutcome::Found(found),
-        NodeOutcome::Waits(d) => NodeOutcome::Waits(d),
-        NodeOutcome::Broken(_) => NodeOutcome::Nothing,
-        NodeOutcome::Nothing => NodeOutcome::Nothing,
+        Outcome::Found(found) => Ok(Outcome::Found(found.clone()?)),
+        Outcome::Waits(d) => Ok(Outcome::Waits(*d)),
+        Outcome::Broken(_, _) => Ok(Outcome::Nothing),
+        Outcome::Nothing => Ok(Outcome::Nothing),
     }
 }

@@ -7,3 +7,4 @@ pub mod Walk
 pub mod Readings
 pub mod Stays
 pub mod Exactly
+pub mod View

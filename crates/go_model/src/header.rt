@@ -1,6 +1,7 @@
 // Headers: what a declaration tells others.
-ghost use Rattle.std.specs.Prelude.{◌≡◌, IfOk};
+ghost use Rattle.std.specs.Prelude.{◌≡◌};
 
+use crate::value::copy_of;
 use go_num::Value;
 use go_term::Ty;
 use std::alloc::AllocError;
@@ -20,15 +21,4 @@ impl Clone for Header {
             Header::Const(ty, value) => Ok(Header::Const(*ty, copy_of(value)?)),
         }
     }
-}
-
-// The value once more.
-fn copy_of(value: &Value) -> Result<Value, AllocError>
-    ensures { IfOk result (λ copy. copy ≡ value.now) }
-{
-    Ok(match value {
-        Value::Bool(truth) => Value::Bool(*truth),
-        Value::Int(number) => Value::Int(*number),
-        Value::Text(bytes) => Value::Text(bytes.clone()?),
-    })
 }

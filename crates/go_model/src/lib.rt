@@ -18,6 +18,7 @@ mod headers;
 mod meaning;
 mod outcome;
 mod rec;
+mod value;
 
 // Reports.
 mod declared_object;
@@ -44,3 +45,4 @@ pub use meaning::Meaning;
 pub use outcome::{Answer, Outcome, Spot};
 pub use rec::{Mode, Rec};
 pub use report::{PackageReport, Report, Verdict};
+pub use value::copy_of;

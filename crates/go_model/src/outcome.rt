@@ -1,7 +1,11 @@
 // What a question and an expression come to while some headers may be missing.
+ghost use Rattle.std.specs.Prelude.{◌≡◌, IfOk};
+ghost use Rattle.go_model.specs.Outcomes.View.{outcome_view};
+
 use crate::rec::Rec;
 use go_base::Rule;
 use go_module::ObjId;
+use std::alloc::AllocError;
 
 /// The answer to a question; Unknown with the first header that it lacks.
 #[derive(Clone, Copy, Debug, PartialEq, Eq)]
@@ -19,6 +23,26 @@ pub enum Outcome {
     Broken(Rule, Vec<Spot>),
     Waits(ObjId),
     Nothing,
+}
+
+impl Clone for Outcome {
+    ghost is_clone = { λ outcome copy. outcome_view copy ≡ outcome_view outcome };
+
+    fn clone(&self) -> Result<Outcome, AllocError> {
+        match self {
+            Outcome::Found(rec) => Ok(Outcome::Found(rec.clone()?)),
+            Outcome::Broken(rule, spots) => Ok(Outcome::Broken(*rule, copied(spots)?)),
+            Outcome::Waits(d) => Ok(Outcome::Waits(*d)),
+            Outcome::Nothing => Ok(Outcome::Nothing),
+        }
+    }
+}
+
+// The spots once more.
+fn copied(spots: &Vec<Spot>) -> Result<Vec<Spot>, AllocError>
+    ensures { IfOk result (λ copy. copy.items ≡ spots.now.items) }
+{
+    spots.clone()
 }
 
 /// Where in a node a rule is broken: at the node, at the name after its `.`, or at an operand, counted

@@ -5,7 +5,7 @@ use Rattle.go_module.specs.Modules.Module.{ModuleData}
 use Rattle.go_graph.specs.Graph.{is_marked}
 use Rattle.go_model.specs.Phases.{AreReports, no_headers}
 use Rattle.go_model.specs.Report.{PackageReportData, package_view}
-use Rattle.go_expr.specs.View.{headers_listed}
+use Rattle.go_model.specs.Values.Known.{headers_view}
 use Rattle.go_check.specs.declared.denoted.Denoted.{Denoted}
 use Rattle.go_check.specs.declared.module.State.{State}
 use Rattle.go_check.specs.Packages.Names.{sound_at}
@@ -18,7 +18,7 @@ pub record StateData : Type 0 where
   pub reports : List PackageReportData
 
 abbrev pub state_view : State → StateData
-state_view s = record { marks = s.marks.items; before = headers_listed s.before.entries; reports = map package_view s.reports.items }
+state_view s = record { marks = s.marks.items; before = headers_view s.before; reports = map package_view s.reports.items }
 
 -- the names of each package that is accepted break no rule
 abbrev pub AcceptedAreSound : Denoted → List Bool → Type 0

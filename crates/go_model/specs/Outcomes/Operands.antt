@@ -19,7 +19,7 @@ abbrev pub one_asks : {H R : Type 0} → (R → Asks H R) → List R → Option 
 one_asks asks (a ∷ []) = Some (asks a)
 one_asks asks rs = None
 
--- asked of two integers; of other records nothing is, of which none is built yet
+-- asked of two untyped integer constants; of other records, of which none is built yet, nothing is
 abbrev pub two_integers_ask : (ℤ → ℤ → Asks HeaderData RecData) → List RecData → Option (Asks HeaderData RecData)
 two_integers_ask asks (x ∷ (y ∷ [])) = option_and_then (λ a. option_map (asks a) (integer_in y)) (integer_in x)
 two_integers_ask asks rs = None

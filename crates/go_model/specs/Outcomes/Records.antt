@@ -4,7 +4,7 @@ use Rattle.std.specs.Prelude.{ℤ, Option, None, Some, option_and_then}
 use Rattle.std.specs.Option.{option_map}
 use Rattle.go_base.specs.declared.ids.ObjId.{ObjId}
 use Rattle.go_num.specs.declared.value.Value.{Value}
-use Rattle.go_num.specs.declared.value.Value.TheVariants.{Bool, Int, Text}
+use Rattle.go_num.specs.declared.value.Value.TheVariants.{Int}
 use Rattle.go_term.specs.declared.basic.Basic.TheVariants.{UntypedInt}
 use Rattle.go_term.specs.Types.{TypeData, basic, type_of}
 use Rattle.go_model.specs.declared.header.Header.{Header}
@@ -14,13 +14,14 @@ use Rattle.go_model.specs.declared.rec.Mode.TheVariants.{Const}
 use Rattle.go_model.specs.declared.rec.Rec.{Rec}
 
 -- what an expression stands for; its type; its value where it is a constant; the object that it denotes where it is a name
+-- or a qualified identifier, parentheses aside
 pub record RecData : Type 0 where
   pub mode : Mode
   pub type : Option TypeData
   pub value : Option Value
   pub object : Option ObjId
 
--- the type and the value of a constant
+-- what a declaration tells others: a constant its type and its value
 pub data HeaderData : Type 0 where
   constant : TypeData → Value → HeaderData
 
@@ -38,17 +39,16 @@ abbrev pub untyped_int : TypeData
 untyped_int = basic UntypedInt
 
 -- the record of an untyped integer constant without a name
-abbrev pub integer : ℤ → RecData
-integer v = record { mode = Const; type = Some untyped_int; value = Some (Int v); object = None }
+abbrev pub integer_record : ℤ → RecData
+integer_record v = record { mode = Const; type = Some untyped_int; value = Some (Int v); object = None }
 
--- the whole number that a value is
-abbrev pub whole_number : Value → Option ℤ
-whole_number (Int v) = Some v
-whole_number (Bool b) = None
-whole_number (Text text) = None
+-- the value of an untyped integer constant
+abbrev pub integer_by : Option TypeData → Option Value → Option ℤ
+integer_by (Some (basic UntypedInt)) (Some (Int v)) = Some v
+integer_by type value = None
 
 abbrev pub integer_in : RecData → Option ℤ
-integer_in r = option_and_then whole_number r.value
+integer_in r = integer_by r.type r.value
 
 -- NAMES AND DECLARATIONS
 
@@ -56,6 +56,6 @@ integer_in r = option_and_then whole_number r.value
 abbrev pub named_record : ObjId → HeaderData → RecData
 named_record d (constant type value) = record { mode = Const; type = Some type; value = Some value; object = Some d }
 
--- the header of a constant that is declared with this record
+-- the header of a constant that is declared with this record and without a type; one with a type is not built
 abbrev pub declared_header : RecData → Option HeaderData
 declared_header r = option_and_then (λ type. option_map (constant type) r.value) r.type

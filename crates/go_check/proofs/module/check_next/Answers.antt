@@ -4,7 +4,7 @@ use Rattle.go_graph.specs.Graph.{is_marked}
 use Rattle.go_module.specs.Modules.Module.{module_view, package_view}
 use Rattle.go_model.specs.Phases.{imports_accepted}
 use Rattle.go_model.specs.Report.{skipped, verdict_view}
-use Rattle.go_expr.specs.View.{headers_listed}
+use Rattle.go_model.specs.Values.Known.{headers_view}
 use Rattle.go_check.specs.Packages.Names.{ImportsSound}
 use Rattle.go_check.specs.Packages.State.{state_view}
 use Rattle.go_check.proofs.NamesLemmas.{viewed_at}
@@ -33,10 +33,10 @@ returns-in_ok-verdict c =
     let asked : list_all (is_marked c.deref.result.now) c.deref-2.result.now ≡ imports_accepted old.marks.items p = (λ i. list_all (is_marked (c.deref.ensures.value i)) (c.deref-2.ensures.value i)) in
     let accepted = sym asked ∙ sym c.imports_accepted.ensures ∙ c.if-imports_accepted.true in
     let verdict = verdict_view c.in_ok-verdict.verdict in
-    let after = headers_listed c.check_package.new.before.entries in
+    let after = headers_view c.check_package.new.before in
     three_on_ok c.add_report.result
     (λ marks before reports.
-    next_state m denoted k p old c.add_report.new.state verdict after c.requires.state marks (ap (λ b. headers_listed b.entries) before) reports c.in_ok-verdict.ensures.sound
+    next_state m denoted k p old c.add_report.new.state verdict after c.requires.state marks (ap headers_view before) reports c.in_ok-verdict.ensures.sound
     (front_checks m k p at (state_view old) verdict after c.requires.state.front accepted (c.in_ok-verdict.ensures.verdict p at)))
     c.add_report.ensures.marks c.add_report.ensures.before c.add_report.ensures.reports
 
@@ -52,6 +52,6 @@ returns-else-imports_accepted c =
     let not_accepted = sym asked ∙ sym c.imports_accepted.ensures ∙ c.if-imports_accepted.false in
     three_on_ok c.add_report-else-imports_accepted.result
     (λ marks before reports.
-    next_state m denoted k p old c.add_report-else-imports_accepted.new.state skipped (headers_listed old.before.entries) c.requires.state marks (ap (λ b. headers_listed b.entries) before) reports (λ e. absurd (cc e))
+    next_state m denoted k p old c.add_report-else-imports_accepted.new.state skipped (headers_view old.before) c.requires.state marks (ap headers_view before) reports (λ e. absurd (cc e))
     (front_skips m k p at (state_view old) c.requires.state.front not_accepted))
     c.add_report-else-imports_accepted.ensures.marks c.add_report-else-imports_accepted.ensures.before c.add_report-else-imports_accepted.ensures.reports

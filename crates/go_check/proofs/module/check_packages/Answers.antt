@@ -5,7 +5,7 @@ use Rattle.go_check.proofs.StateLemmas.{all_reports, first_state}
 use Rattle.go_check.proofs.module.check_packages.Goals as goal
 
 pub loop-place-init : goal.loop-place-init
-loop-place-init c = first_state (module_view c.args.module.now) c.args.denoted.now (record { marks = c.new.result; before = c.new-2.result; reports = c.new-3.result }) c.new.ensures.items c.new-2.ensures.empty c.new-3.ensures.items
+loop-place-init c = first_state (module_view c.args.module.now) c.args.denoted.now (record { marks = c.new.result; before = c.new-2.result; reports = c.new-3.result }) c.new.ensures.items c.new-2.ensures c.new-3.ensures.items
 
 pub returns : goal.returns
 returns c =

@@ -3,7 +3,7 @@ use Rattle.go_module.specs.Modules.Module.{module_view, package_view}
 use Rattle.go_module.specs.Places.{placed_by}
 use Rattle.go_model.specs.Phases.{IsVerdict}
 use Rattle.go_model.specs.Report.{refused}
-use Rattle.go_expr.specs.View.{headers_listed}
+use Rattle.go_model.specs.Values.Known.{headers_view}
 use Rattle.go_check.specs.Packages.Names.{IsBrokenAt}
 use Rattle.go_check.proofs.NamesLemmas.{get_at, viewed_at}
 use Rattle.go_check.proofs.VerdictLemmas.{refused_names}
@@ -13,7 +13,7 @@ pub returns-in_ok-placed_list-in-Broken-clause-verdict : goal.returns-in_ok-plac
 returns-in_ok-placed_list-in-Broken-clause-verdict c = λ p there.
     let m = module_view c.args.module.now in
     let k = c.args.place in
-    let before = headers_listed c.args.before.now.entries in
+    let before = headers_view c.args.before.now in
     let own = package_view c.index-own.result.now in
     let list = c.in-Broken.list.items in
     let at = viewed_at package_view c.args.module.now.packages.items k c.index-own.result.now c.requires.within c.index-own.ensures in

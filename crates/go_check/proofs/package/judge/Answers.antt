@@ -1,23 +1,21 @@
 use Rattle.std.proofs.Common.{◌≡◌, ◌≢◌, ◌∙◌, ℕ, true, [], map, sym, ap, subst}
 use Rattle.std.specs.Prelude.{◌↔◌}
-use Rattle.indexmap.specs.IndexMap.{insert_all}
 use Rattle.go_module.specs.Order.{IsListOf}
 use Rattle.go_module.specs.Modules.Module.{package_view}
 use Rattle.go_module.specs.Places.{placed_by}
-use Rattle.go_module.specs.Scopes.{same_object}
 use Rattle.go_model.specs.Outcomes.Walk.{Headers}
 use Rattle.go_model.specs.Phases.{IsVerdict}
 use Rattle.go_model.specs.Report.{refused, verdict_view}
 use Rattle.go_model.specs.Values.Rules.{broken_values}
 use Rattle.go_model.specs.Values.Waiting.{Chain}
 use Rattle.go_names.specs.Views.{declarations_view}
-use Rattle.go_expr.specs.Table.{headers_by, values_by}
-use Rattle.go_check.specs.Packages.Known.{values_in}
+use Rattle.go_expr.specs.Table.{headers_by}
+use Rattle.go_check.specs.Packages.Known.{headers_in, known_with, pairs_view}
 use Rattle.go_check.specs.Packages.Verdicts.{IsAccepting}
-use Rattle.go_expr.specs.View.{before_by, denotes_by, headers_listed, means_by, places_by}
+use Rattle.go_expr.specs.View.{before_by, denotes_by, means_by, places_by}
 use Rattle.go_decl.specs.Waits.{marked_by}
 use Rattle.go_check.specs.View.{outline_view}
-use Rattle.go_check.proofs.KnownLemmas.{known_after}
+use Rattle.go_check.proofs.KnownLemmas.{known_after, known_alone}
 use Rattle.go_check.proofs.ResultLemmas.{both_if_ok}
 use Rattle.go_check.proofs.VerdictLemmas.{breaks, denotes_are, means_are, refused_values, sound_names, sound_verdict}
 use Rattle.go_check.proofs.package.judge.Goals as goal
@@ -37,18 +35,18 @@ returns-then-breaks_none c =
     let listed = subst (λ t. IsListOf (broken_values means (headers_by around table) (marked_by (places_by around) t) p) list) c.deref-3.ensures.value over_table in
     let none : list ≡ [] = sym c.deref-4.ensures.value ∙ c.breaks_none.ensures.none c.if-breaks_none.true in
     both_if_ok c.accept.result _ _ _
-    (λ judged verdict values m k at outline uses.
+    (λ judged verdict headers m k at outline uses.
     let same = means_are m k p at declarations around c.requires.declarations c.requires.around uses in
     let found = breaks m k p before means declarations same c.requires.declarations (headers_by around table) cyclic list (sound_names m k p at around.uses.now.entries uses) c.in_ok-table.ensures.exact chains listed in
     let accepting = subst (λ o. IsAccepting o k p (denotes_by around) means (headers_by around table) (verdict_view judged.verdict)) outline
     (subst (λ t. IsAccepting (outline_view c.args.outline.now) k p (denotes_by around) means (headers_by around t) (verdict_view judged.verdict)) c.deref-then-breaks_none.ensures.value (verdict k p c.requires.files)) in
-    let after : headers_listed (insert_all same_object around.before.now.entries judged.values.items) ≡ headers_by around table =
-    ap (λ hs. headers_listed (insert_all same_object around.before.now.entries hs)) (values ∙ ap (λ t. values_in (values_by around t) declarations) c.deref-then-breaks_none.ensures.value)
+    let after : known_with before (pairs_view judged.headers.items) ≡ headers_by around table =
+    ap (known_with before) (headers ∙ ap (λ t. headers_in (headers_by around t) declarations) c.deref-then-breaks_none.ensures.value)
     ∙ known_after around table declarations c.requires.around in
-    sound_verdict m k p before means declarations same c.requires.declarations (headers_by around table) (headers_listed (insert_all same_object around.before.now.entries judged.values.items)) (denotes_by around) list (verdict_view judged.verdict) found none
+    sound_verdict m k p before means declarations same c.requires.declarations (headers_by around table) (known_with before (pairs_view judged.headers.items)) (denotes_by around) list (verdict_view judged.verdict) found none
     (denotes_are m k p at declarations around c.requires.declarations c.requires.around uses)
     accepting after)
-    c.accept.ensures.verdict c.accept.ensures.values
+    c.accept.ensures.verdict c.accept.ensures.headers
 
 pub returns : goal.returns
 returns c m k at outline uses =
@@ -67,6 +65,6 @@ returns c m k at outline uses =
     let found = breaks m k p before means declarations same c.requires.declarations (headers_by around table) cyclic list (sound_names m k p at around.uses.now.entries uses) c.in_ok-table.ensures.exact chains listed in
     let some : list ≢ [] = λ e. c.breaks_none.ensures.some c.if-breaks_none.false (c.deref-4.ensures.value ∙ e) in
     let placed : c.in_ok-placed_list.field-0.items ≡ map (placed_by p) list = c.in_ok-placed_list.ensures ∙ ap (map (placed_by p)) c.deref-else-breaks_none.ensures.value in
-    let after : before ≡ headers_listed (insert_all same_object around.before.now.entries c.new.result.items) = ap (λ hs. headers_listed (insert_all same_object around.before.now.entries hs)) (sym c.new.ensures.items) in
+    let after : before ≡ known_with before (pairs_view c.new.result.items) = known_alone before ∙ ap (λ hs. known_with before (pairs_view hs)) (sym c.new.ensures.items) in
     subst (λ (b : Headers). IsVerdict m k p before (refused c.in_ok-placed_list.field-0.items) b) after
     (subst (λ bs. IsVerdict m k p before (refused bs) before) (sym placed) (refused_values m k p before (headers_by around table) list found some))

@@ -1,7 +1,9 @@
-use Rattle.std.proofs.Common.{◌≡◌, ◌∙◌, Some, sym, ap, rules, arith}
-use Rattle.std.specs.Prelude.{FitsSigned, IsTrue}
-use Rattle.std.specs.Int.{w128}
-use Rattle.std.proofs.lemmas.Int.{to_z-of_z}
+use Rattle.std.proofs.Common.{◌≡◌, ◌∙◌, Some, None, sym, ap, arith}
+use Rattle.std.specs.Prelude.{IsTrue}
+use Rattle.std.specs.Option.{option_map}
+use Rattle.go_model.specs.Outcomes.Records.{header_view}
+use Rattle.go_model.specs.Values.Records.{header_over}
+use Rattle.go_expr.specs.Table.{headers_by}
 use Rattle.go_expr.specs.View.{before_by, means_by, places_by}
 use Rattle.go_names.specs.Views.{declaration_view, declarations_view}
 use Rattle.go_decl.proofs.RoundLemmas.{IsBacked-set, one_declaration, open_count-set, own_number, declared_at, was_open}
@@ -10,19 +12,20 @@ use Rattle.go_decl.proofs.rounds.add_one.Goals as goal
 pub returns-else-not-stands_at-clause-backed : goal.returns-else-not-stands_at-clause-backed
 returns-else-not-stands_at-clause-backed c =
     let around = c.args.around.now in
-    let fits : FitsSigned w128 c.in-Some.header = search rules in
     let declared = declared_at c.args.declarations.now c.args.place c.index-declarations-place.result c.requires.within c.index-declarations-place.is in
-    simp to_z-of_z (IsBacked-set (before_by around) (means_by around) (declarations_view c.args.declarations.now) (places_by around) c.requires.around c.args.table.now c.number.result c.args.place c.in-Some.header _ c.requires.backed (omega arith) (c.stands_at.ensures.0 c.if-not-stands_at.false) declared (sym c.in-Some.ensures))
+    IsBacked-set (before_by around) (means_by around) (declarations_view c.args.declarations.now) (places_by around) c.requires.around c.args.table.now c.number.result c.args.place c.in-Some.header _ c.requires.backed (omega arith) (c.stands_at.ensures.0 c.if-not-stands_at.false) declared
+    (sym c.in_ok-header.ensures ∙ ap (option_map header_view) c.in-Some.is)
 
 pub returns-else-not-stands_at-clause-fewer : goal.returns-else-not-stands_at-clause-fewer
-returns-else-not-stands_at-clause-fewer c = λ _. open_count-set c.args.table.now c.args.place _ (omega arith) (was_open c.args.table.now c.args.place c.if-is_some.ensures)
+returns-else-not-stands_at-clause-fewer c = λ _. open_count-set c.args.table.now c.args.place _ (omega arith) (was_open c.args.table.now c.args.place c.index-table-place.result (omega arith) c.if-is_some.ensures)
 
 pub returns-in-None-clause-settled : goal.returns-in-None-clause-settled
 returns-in-None-clause-settled c = λ _ d at h _ f.
     let around = c.args.around.now in
     let declared = declared_at c.args.declarations.now c.args.place c.index-declarations-place.result c.requires.within c.index-declarations-place.is in
     let same : f.declaration ≡ declaration_view c.index-declarations-place.result = one_declaration (before_by around) (means_by around) (declarations_view c.args.declarations.now) (places_by around) c.requires.around d c.args.place at f.declaration f.declared _ declared in
-    cc (f.tells, same, c.in-None.ensures)
+    let none : header_over (means_by around) (headers_by around c.args.table.now) (declaration_view c.index-declarations-place.result) ≡ None = sym c.in_ok-header.ensures ∙ ap (option_map header_view) c.in-None.is in
+    cc (f.tells, same, none)
 
 pub returns-then-not-stands_at-clause-settled : goal.returns-then-not-stands_at-clause-settled
 returns-then-not-stands_at-clause-settled c = λ _ d at h _ f.

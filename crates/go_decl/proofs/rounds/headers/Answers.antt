@@ -6,8 +6,8 @@ use Rattle.go_names.specs.Views.{declarations_view}
 use Rattle.go_decl.proofs.RoundLemmas.{empty_backed, empty_table, exact, vacant_slots, written_whole}
 use Rattle.go_decl.proofs.rounds.headers.Goals as goal
 
-pub loop-init : goal.loop-init
-loop-init c =
+pub loop-table-init : goal.loop-table-init
+loop-table-init c =
     let around = c.args.around.now in
     let declarations = declarations_view c.args.declarations.now in
     let table = c.in_ok-table.table.items in
@@ -20,6 +20,6 @@ loop-init c =
 
 pub returns-clause-exact : goal.returns-clause-exact
 returns-clause-exact c =
-    let did = c.add_round.ensures in
-    let same = written_whole c.loop.table.items c.add_round.new.table c.loop.table.len (omega arith) (omega arith) in
-    rw same (exact (before_by c.args.around.now) (means_by c.args.around.now) (declarations_view c.args.declarations.now) (headers_by c.args.around.now c.add_round.new.table) did.backed (did.settled c.loop-test.false))
+    let did = c.in_ok-add_round.ensures in
+    let same = written_whole c.loop-table.table.items c.add_round.new.table c.loop-table.table.len (omega arith) (omega arith) in
+    rw same (exact (before_by c.args.around.now) (means_by c.args.around.now) (declarations_view c.args.declarations.now) (headers_by c.args.around.now c.add_round.new.table) did.backed (did.settled c.if-branch.false))

@@ -1,12 +1,14 @@
 use Rattle.std.proofs.Common.{◌≡◌, ◌-◌, ◌++◌, [], ◌∷◌, map, drop, reverse, refl, ap, ◌∙◌, arith}
 use Rattle.std.specs.List.{flat_map}
 use Rattle.std.proofs.lemmas.List.{reverse-reverse}
+use Rattle.go_model.specs.Outcomes.Judged.{OutcomeData}
+use Rattle.go_model.specs.Outcomes.Records.{RecData}
 use Rattle.go_model.specs.Outcomes.Walk.{outcome}
-use Rattle.go_expr.specs.Outcomes.{outcome_view}
+use Rattle.go_model.specs.Outcomes.View.{outcome_view}
 use Rattle.go_names.proofs.WalkLemmas.{inner_part_smaller}
 use Rattle.go_names.specs.Views.{trees_at}
 use Rattle.go_tree.specs.Tree.{tree_of}
-use Rattle.go_expr.specs.Evaluated.{all_evaluated, evaluated_view, evaluated_views}
+use Rattle.go_expr.specs.Evaluated.{EvaluatedData, all_evaluated, evaluated_view, evaluated_views}
 use Rattle.go_expr.specs.Table.{headers_by}
 use Rattle.go_expr.specs.View.{means_by}
 use Rattle.go_expr.proofs.EvaluatedLemmas.{map-append, map-reverse, node_done}
@@ -18,8 +20,8 @@ push_evaluated-requires t c =
     let smaller = inner_part_smaller inner inner (tree_of c.args.node.now) (c.loop-place.place - 1) c.index.result.now refl c.in_ok-inner.ensures (omega (arith, c.in_ok-inner.inner.ok.0)) c.index.ensures in
     (omega (arith, smaller, c.decreases), tt)
 
-pub with_outcome-made-requires : goal.with_outcome-made-requires
-with_outcome-made-requires t c =
+pub with_outcomes-requires : goal.with_outcomes-requires
+with_outcomes-requires t c =
     let outcomes = outcome (means_by c.args.around.now) (headers_by c.args.around.now c.args.table.now) in
     let first : c.loop-place.place ≡ 0 = omega arith in
     ap (map outcome_view) (c.deref.ensures.value ∙ c.reverse.ensures.items)
@@ -36,7 +38,8 @@ returns-clause-list t c =
     let first : c.loop-place.place ≡ 0 = omega arith in
     let inside : evaluated_views c.loop-place.list.items ≡ old ++ reverse (flat_map (all_evaluated means headers) (trees_at c.in_ok-inner.inner.items)) =
     c.loop-place.invariant.listed ∙ ap (λ n. old ++ reverse (flat_map (all_evaluated means headers) (trees_at (drop n c.in_ok-inner.inner.items)))) first in
-    node_done means headers (tree_of c.args.node.now) old (evaluated_views c.loop-place.list.items) (evaluated_views c.push-2.new.self.items) (evaluated_view c.with_outcome-made.result)
+    let made : EvaluatedData = record { tree = tree_of c.args.node.now; outcome = outcome_view c.in_ok-outcome.outcome } in
+    node_done means headers (tree_of c.args.node.now) old (evaluated_views c.loop-place.list.items) (evaluated_views c.push-2.new.self.items) made
     (inside ∙ ap (λ ts. old ++ reverse (flat_map (all_evaluated means headers) ts)) c.in_ok-inner.ensures)
-    c.with_outcome-made.ensures
-    (ap evaluated_views c.in_ok-push-2.ensures.items ∙ map-append evaluated_view c.loop-place.list.items (c.with_outcome-made.result ∷ []))
+    (ap (λ (x : OutcomeData RecData). record { tree = tree_of c.args.node.now; outcome = x }) (c.in_ok-outcome.ensures.cases ∙ c.in_ok-made.ensures))
+    (ap evaluated_views c.in_ok-push-2.ensures.items ∙ map-append evaluated_view c.loop-place.list.items _)

@@ -1,7 +1,7 @@
 use Rattle.std.proofs.Common.{◌≡◌, ◌++◌, map, drop, reverse}
 use Rattle.std.specs.List.{flat_map}
 use Rattle.go_model.specs.Outcomes.Walk.{outcome}
-use Rattle.go_expr.specs.Outcomes.{outcome_view}
+use Rattle.go_model.specs.Outcomes.View.{outcome_view}
 use Rattle.go_names.specs.Views.{trees_at}
 use Rattle.go_tree.specs.Tree.{tree_of, node_count}
 use Rattle.go_expr.specs.Evaluated.{all_evaluated, evaluated_views}

@@ -7,11 +7,11 @@ use Rattle.go_tree.specs.Lexical.LiteralValues.{int_lit_value}
 use Rattle.go_model.specs.Outcomes.Judged.{Construct}
 use Rattle.go_model.specs.Outcomes.Constructs.Limits.{wide_integer}
 use Rattle.go_model.specs.Outcomes.Operands.{at_whole, leaf}
-use Rattle.go_model.specs.Outcomes.Records.{HeaderData, RecData, integer}
+use Rattle.go_model.specs.Outcomes.Records.{HeaderData, RecData, integer_record}
 use Rattle.go_model.specs.Values.Quests.{Done}
 
 abbrev pub literal : List ℕ → Construct HeaderData RecData
 literal text = leaf (record {
   tests = at_whole wide_integer (Done (is_some (limited (pos (int_lit_value text))))) ∷ [];
-  gives = Done (integer (pos (int_lit_value text)));
+  gives = Done (integer_record (pos (int_lit_value text)));
 })

@@ -7,11 +7,11 @@ use Rattle.go_num.specs.Arithmetic.{binary_value, limited}
 use Rattle.go_model.specs.Outcomes.Judged.{Construct}
 use Rattle.go_model.specs.Outcomes.Constructs.Limits.{wide_integer}
 use Rattle.go_model.specs.Outcomes.Operands.{at_whole, of_two_integers}
-use Rattle.go_model.specs.Outcomes.Records.{HeaderData, RecData, integer}
+use Rattle.go_model.specs.Outcomes.Records.{HeaderData, RecData, integer_record}
 use Rattle.go_model.specs.Values.Quests.{Done}
 
 abbrev pub sum : Construct HeaderData RecData
 sum = of_two_integers (λ x y. record {
   tests = at_whole wide_integer (Done (is_some (limited (binary_value Add x y)))) ∷ [];
-  gives = Done (integer (binary_value Add x y));
+  gives = Done (integer_record (binary_value Add x y));
 })
