@@ -65,7 +65,7 @@ module _ (means : ℕ → Meaning) (headers : Headers) where
   operand_integers integers parts operands records e r among =
       let found : Contains (map (outcome_at (outcomes means headers parts)) operands) (Found r) = subst (λ xs. Contains xs (Found r)) (sym e) (map_contains Found records r among) in
       let operand = map_cases (outcome_at (outcomes means headers parts)) operands (Found r) found in
-      (part_integer headers integers means parts operand.0 r operand.2).whole
+      part_integer headers integers means parts operand.0 r operand.2
 
   -- where its operands are good and something is asked of it, a node has an outcome
   not_nothing : HaveIntegers headers → (t : Tree) → IsAsked means t → (id from to : ℕ) (kind : NodeKind) (text : List ℕ) (parts : Trees) → t ≡ branch id from to kind text parts

@@ -1,5 +1,5 @@
--- Where the headers that are known are those of integers, each record is that of an integer, and so is each header that
--- follows.
+-- Where the headers that are known are those of untyped integer constants, each record is that of one, and so is each
+-- header that follows.
 use Rattle.std.proofs.Common.{◌≡◌, ℕ, zero, suc, ℤ, pos, Bool, true, false, Option, Some, None, List, [], ◌∷◌, ◌⊎◌, inl, inr, refl, sym, ◌∙◌, subst}
 use Rattle.std.specs.Prelude.{IsSome, is_some, option_and_then}
 use Rattle.std.specs.Option.{option_map}
@@ -9,7 +9,8 @@ use Rattle.go_base.specs.declared.rule.Rule.{Rule}
 use Rattle.go_num.specs.declared.arithmetic.IntOp.TheVariants.{Add}
 use Rattle.go_num.specs.declared.value.Value.{Value}
 use Rattle.go_num.specs.Arithmetic.{binary_value, limited}
-use Rattle.go_term.specs.Types.{TypeData}
+use Rattle.go_term.specs.declared.basic.Basic.TheVariants.{UntypedInt}
+use Rattle.go_term.specs.Types.{TypeData, basic, named}
 use Rattle.go_tree.specs.declared.node_kind.NodeKind.TheVariants.{AddExpr, IntLit, Name, ParenExpr, SelectorExpr}
 use Rattle.go_tree.specs.Lexical.LiteralValues.{int_lit_value}
 use Rattle.go_tree.specs.Tree.{Tree, Trees, branch, id_of, more_trees, no_trees}
@@ -27,7 +28,7 @@ use Rattle.go_model.specs.Outcomes.Constructs.Sum.{sum}
 use Rattle.go_model.specs.Outcomes.Judged.{Asks, Broken, Found, Nothing, OutcomeData, Waits, asked, judged, made, outcome_at, tested}
 use Rattle.go_model.specs.Outcomes.Operands.{at_whole}
 use Rattle.go_model.specs.Outcomes.Readings.{record_in}
-use Rattle.go_model.specs.Outcomes.Records.{HeaderData, RecData, constant, declared_header, integer, integer_in, named_record, whole_number}
+use Rattle.go_model.specs.Outcomes.Records.{HeaderData, RecData, constant, declared_header, integer_by, integer_in, integer_record, named_record}
 use Rattle.go_model.specs.Outcomes.Walk.{Headers, outcome, outcomes}
 use Rattle.go_model.specs.Values.Headers.{Justified, Known, headers_of}
 use Rattle.go_model.specs.Values.Quests.{Asked, Decided, Done, Lacks}
@@ -36,19 +37,18 @@ use Rattle.go_model.proofs.HeaderLemmas.{headers_of-here, headers_of-there}
 use Rattle.go_expr.specs.Outcomes.{outcome_by_operands}
 use Rattle.go_expr.proofs.NodeOutcomeLemmas.{by_operands_is}
 
--- the value of a constant is a whole number
+-- the header of an untyped integer constant
 abbrev pub IsInteger : HeaderData → Type 0
-IsInteger (constant type value) = IsSome (whole_number value)
+IsInteger (constant type value) = IsSome (integer_by (Some type) (Some value))
 
 abbrev pub HaveIntegers : Headers → Type 0
 HaveIntegers headers = (d : ℕ) (h : HeaderData) → headers d ≡ Some h → IsInteger h
 
 -- RECORDS
 
--- a record with a type, of an integer
-pub record IsIntegerRecord (r : RecData) : Type 0 where
-  pub typed : IsSome r.type
-  pub whole : IsSome (integer_in r)
+-- the record of an untyped integer constant
+abbrev pub IsIntegerRecord : RecData → Type 0
+IsIntegerRecord r = IsSome (integer_in r)
 
 -- an outcome that has a record has such a one
 abbrev GivesInteger : OutcomeData RecData → Type 0
@@ -67,16 +67,16 @@ nothing_integer : GivesInteger Nothing
 nothing_integer r e = absurd (let never : ◌≡◌ {A = OutcomeData RecData} Nothing (Found r) = e in cc)
 
 -- a test that is decided, and then an integer
-tested_integer : (headers : Headers) (own : Rule) (x : ℤ) (b : Bool) → GivesInteger (tested headers (at_whole own (Done b) ∷ []) (Done (integer x)))
+tested_integer : (headers : Headers) (own : Rule) (x : ℤ) (b : Bool) → GivesInteger (tested headers (at_whole own (Done b) ∷ []) (Done (integer_record x)))
 tested_integer headers own x false = broken_integer own (Whole ∷ [])
-tested_integer headers own x true = found_integer (integer x) (record { typed = refl; whole = refl })
+tested_integer headers own x true = found_integer (integer_record x) refl
 
 named_integer : (object : ObjId) (h : HeaderData) → IsInteger h → IsIntegerRecord (named_record object h)
-named_integer object (constant type value) is = record { typed = refl; whole = is }
+named_integer object (constant type value) is = is
 
 -- what is asked of a sum of two integers
 abbrev sum_of : ℤ → ℤ → Asks HeaderData RecData
-sum_of x y = record { tests = at_whole wide_integer (Done (is_some (limited (binary_value Add x y)))) ∷ []; gives = Done (integer (binary_value Add x y)) }
+sum_of x y = record { tests = at_whole wide_integer (Done (is_some (limited (binary_value Add x y)))) ∷ []; gives = Done (integer_record (binary_value Add x y)) }
 
 module _ (headers : Headers) (integers : HaveIntegers headers) where
   declared_integer : (object : ObjId) (o : Option HeaderData) → headers object.0 ≡ o → GivesInteger (made (elim o as (λ _. Asked RecData) [ None ↦ Lacks object.0 | Some h ↦ Decided (named_record object h) ]))
@@ -139,23 +139,28 @@ module _ (headers : Headers) (integers : HaveIntegers headers) where
 
 -- HEADERS
 
+-- without a value there is no integer
+valueless : (type : TypeData) → IsSome (integer_by (Some type) None) → ⊥
+valueless (basic UntypedInt) is = let never : false ≡ true = is in cc
+valueless (named object) is = let never : false ≡ true = is in cc
+
 -- what is declared with the record of an integer is an integer
-told_integer : (type : Option TypeData) (value : Option Value) → IsSome (option_and_then whole_number value) → (h : HeaderData) → option_and_then (λ t. option_map (constant t) value) type ≡ Some h → IsInteger h
+told_integer : (type : Option TypeData) (value : Option Value) → IsSome (integer_by type value) → (h : HeaderData) → option_and_then (λ t. option_map (constant t) value) type ≡ Some h → IsInteger h
 told_integer None value is h e = absurd (let never : None ≡ Some h = e in cc)
 told_integer (Some t) None is h e = absurd (let never : None ≡ Some h = e in cc)
 told_integer (Some t) (Some v) is h e = let same : constant t v ≡ h = (let both : Some (constant t v) ≡ Some h = e in cc) in subst IsInteger same is
 
 -- and a header is declared with it
-told_some : (type : Option TypeData) (value : Option Value) → IsSome type → IsSome (option_and_then whole_number value) → (h : HeaderData) × (option_and_then (λ t. option_map (constant t) value) type ≡ Some h)
-told_some None value typed whole = absurd (let never : false ≡ true = typed in cc)
-told_some (Some t) None typed whole = absurd (let never : false ≡ true = whole in cc)
-told_some (Some t) (Some v) typed whole = (constant t v, refl)
+told_some : (type : Option TypeData) (value : Option Value) → IsSome (integer_by type value) → (h : HeaderData) × (option_and_then (λ t. option_map (constant t) value) type ≡ Some h)
+told_some None value is = absurd (let never : false ≡ true = is in cc)
+told_some (Some t) None is = absurd (valueless t is)
+told_some (Some t) (Some v) is = (constant t v, refl)
 
 pub integer_declared : (r : RecData) → IsIntegerRecord r → (h : HeaderData) × (declared_header r ≡ Some h)
-integer_declared r is = told_some r.type r.value is.typed is.whole
+integer_declared r is = told_some r.type r.value is
 
 by_outcome : (x : OutcomeData RecData) → GivesInteger x → (h : HeaderData) → option_and_then declared_header (record_in x) ≡ Some h → IsInteger h
-by_outcome (Found r) is h e = told_integer r.type r.value (is r refl).whole h e
+by_outcome (Found r) is h e = told_integer r.type r.value (is r refl) h e
 by_outcome (Broken rule spots) is h e = absurd (let never : None ≡ Some h = e in cc)
 by_outcome (Waits d) is h e = absurd (let never : None ≡ Some h = e in cc)
 by_outcome Nothing is h e = absurd (let never : None ≡ Some h = e in cc)
