@@ -10,7 +10,7 @@ use Rattle.go_laws.specs.Complete.{asked_in}
 abbrev pub construct_of : (ℕ → Meaning) → Tree → Construct HeaderData RecData
 construct_of means (branch id from to kind text parts) = construct means id kind text (list_of parts)
 
--- each of these records is that of an integer
+-- each of these records is that of an untyped integer constant, an integer for short
 abbrev pub AreIntegers : List RecData → Type 0
 AreIntegers records = (r : RecData) → Contains records r → IsSome (integer_in r)
 

@@ -1,5 +1,5 @@
--- Why an accepted package is complete: what has no header waits for what has none, and so on, and finitely many that do so
--- come back to one that waits for itself.
+-- Why an accepted package is complete: what has no header waits for what has none, and so on, and finitely many that do
+-- so come back to one that waits for itself.
 use Rattle.std.proofs.Common.{◌≡◌, ◌≢◌, ℕ, Bool, true, false, cond, Option, Some, None, List, [], ◌∷◌, ◌++◌, ◌⊎◌, inl, inr, map, Contains, refl, sym, ap, ◌∙◌, subst, ⊎_elim}
 use Rattle.std.specs.Prelude.{◌==◌, ◌||◌, ◌&&◌, not, is_some, IsSome, length, option_and_then, if◌then◌else◌}
 use Rattle.std.specs.List.{flat_map, list_all}

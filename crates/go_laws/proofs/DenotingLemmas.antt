@@ -242,8 +242,8 @@ module _ (m : ModuleData) (k : ℕ) (p : PackageData) (before : Headers)
               let x = selecting spec.file spec.told_at is_before.selected (occurrence spec.file spec.told_at (id_of s) (start_of s) (text_of s)) in
               before_fine spec file x (inside x is_before.among) placed (selected_name spec.file spec.told_at is_before.selected) refl is_before.other e
 
--- So an identifier that is asked for a record (not the name of a package before a `.`) does not mean nothing: it denotes a
--- universe name, a declaration of the package, or an exported one of a package that it imports.
+-- So an identifier that is asked for a record (not the name of a package before a `.`) does not mean nothing: it
+-- denotes a universe name, a declaration of the package, or an exported one of a package that it imports.
 pub names_denote : (m : ModuleData) (k : ℕ) (p : PackageData) (before : Headers)
     → slice_get m.packages k ≡ Some p → broken_names (known_in m) k p ≡ []
     → AllPairs (λ (a b : ℕ). a < b) (numbers_in_files p.files)

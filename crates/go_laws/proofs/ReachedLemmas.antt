@@ -1,5 +1,5 @@
--- What is known in the states that the check of a module goes through; so each package that it accepts is complete, and it
--- comes so to each that its report calls accepted.
+-- What is known in the states that the check of a module goes through; so each package that it accepts is complete, and
+-- it comes so to each that its report calls accepted.
 use Rattle.std.proofs.Common.{◌≡◌, ℕ, zero, suc, ◌+◌, Bool, true, false, Option, Some, None, List, [], ◌∷◌, ◌++◌, ◌⊎◌, inl, inr, length, Contains, refl, sym, ap, ◌∙◌, subst, arith}
 use Rattle.std.specs.Prelude.{IsSome, is_some, slice_get}
 use Rattle.std.proofs.lemmas.List.Elements.{All-contains}
@@ -54,7 +54,8 @@ some_part before after d part some = by_header (before d) refl some
     by_header None e is = absurd (let never : false ≡ true = is in cc)
     by_header (Some h) e is = ap is_some (part d h e)
 
--- STATES: as many marks as packages that are checked; headers of integers; one of each declaration of an accepted package
+-- STATES: as many marks as packages before the place; headers of integers; one of each declaration of an accepted
+-- package
 
 abbrev AreDeclared : PackageData → Headers → Type 0
 AreDeclared p headers = (d : Declaration) → Contains (declarations_of p) d → IsSome (headers (number_of d).0)

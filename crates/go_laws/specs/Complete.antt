@@ -1,6 +1,6 @@
 -- Constant declarations; Constant expressions; Packages; Package initialization (Go specification).
--- Says which nodes of an expression are asked for records, what it is that a package is complete, and through which states
--- the check of a module goes.
+-- Says which nodes of an expression are asked for records, what it is that a package is complete, and through which
+-- states the check of a module goes.
 use Rattle.std.specs.Prelude.{◌≡◌, ℕ, ◌+◌, Bool, true, false, Some, List, [], ◌∷◌, ◌++◌, Contains, IsSome, slice_get}
 use Rattle.std.specs.List.{flat_map}
 use Rattle.go_graph.specs.Graph.{row_at}
@@ -16,34 +16,40 @@ use Rattle.go_model.specs.Values.Records.{record_of}
 -- the nodes of an expression that are asked for records: itself, and those of its operands
 abbrev mutual
   pub asked_in : (ℕ → Meaning) → Tree → List Tree
-  asked_in means (branch id from to kind text parts) = branch id from to kind text parts ∷ flat_map (row_at (asked_in_each means parts)) (construct means id kind text (list_of parts)).operands
+  asked_in means (branch id from to kind text parts) =
+      branch id from to kind text parts
+      ∷ flat_map (row_at (asked_in_each means parts)) (construct means id kind text (list_of parts)).operands
 
   pub asked_in_each : (ℕ → Meaning) → Trees → List (List Tree)
   asked_in_each means no_trees = []
   asked_in_each means (more_trees t ts) = asked_in means t ∷ asked_in_each means ts
 
--- the expressions of the declarations of a package
+-- the expressions of the declarations of a package, with the copies that stand for omitted lists; no types
 abbrev pub values_in : PackageData → List Tree
 values_in p = flat_map (λ spec. spec.values) (specs_of p)
 
--- each declaration has a header, and each node of these expressions that is asked for a record has one
+-- each declaration of the package has a header, and each node of these expressions that is asked for a record has one
 pub record IsComplete (means : ℕ → Meaning) (headers : Headers) (p : PackageData) : Type 0 where
   pub declared : (d : Declaration) → Contains (declarations_of p) d → IsSome (headers (number_of d).0)
-  pub recorded : (t : Tree) → Contains (values_in p) t → (s : Tree) → Contains (asked_in means t) s → IsSome (record_of means headers s)
+  pub recorded : (t : Tree) → Contains (values_in p) t → (s : Tree) → Contains (asked_in means t) s
+      → IsSome (record_of means headers s)
 
 -- STATES OF THE CHECK
 
--- the packages before a place are checked: the marks say which of them are accepted, and these headers are known
+-- each package before a place is checked, or skipped since one that it imports is not accepted: the marks say which are
+-- accepted, and these headers are known
 pub data IsReached (m : ModuleData) : ℕ → List Bool → Headers → Type 0 where
   first : IsReached m 0 [] no_headers
   skips : (k : ℕ) (marks : List Bool) (before : Headers) (p : PackageData)
       → IsReached m k marks before → slice_get m.packages k ≡ Some p → imports_accepted marks p ≡ false
       → IsReached m (k + 1) (marks ++ false ∷ []) before
   checks : (k : ℕ) (marks : List Bool) (before after : Headers) (verdict : VerdictData) (p : PackageData)
-      → IsReached m k marks before → slice_get m.packages k ≡ Some p → imports_accepted marks p ≡ true → IsVerdict m k p before verdict after
+      → IsReached m k marks before → slice_get m.packages k ≡ Some p → imports_accepted marks p ≡ true
+      → IsVerdict m k p before verdict after
       → IsReached m (k + 1) (marks ++ is_accepted verdict ∷ []) after
 
--- the check of a module comes to the package at a place, whose imports are accepted, and accepts it
+-- the check of a module comes to this place with marks by which the imports of this package are accepted, and the
+-- package is accepted there with this verdict; that it is the module's package at that place is not said
 pub record IsAcceptedAt (m : ModuleData) (k : ℕ) (p : PackageData) (verdict : VerdictData) : Type 0 where
   pub marks : List Bool
   pub before : Headers
