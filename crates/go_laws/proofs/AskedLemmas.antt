@@ -1,5 +1,5 @@
 -- A node of which something is asked, where no rule is broken, has a record or waits.
-use Rattle.std.proofs.Common.{◌≡◌, ℕ, ℤ, zero, suc, ◌<◌, Some, None, List, [], ◌∷◌, ◌++◌, ◌⊎◌, inl, inr, length, map, Contains, refl, sym, ap, ◌∙◌, subst, arith}
+use Rattle.std.proofs.Common.{◌≡◌, ℕ, zero, suc, ◌<◌, Some, None, List, [], ◌∷◌, ◌++◌, ◌⊎◌, inl, inr, length, map, Contains, refl, sym, ap, ◌∙◌, subst, arith}
 use Rattle.std.specs.Prelude.{slice_get}
 use Rattle.std.specs.List.{flat_map}
 use Rattle.std.proofs.lemmas.List.{length-map}
@@ -18,43 +18,14 @@ use Rattle.go_model.specs.Outcomes.Judged.{Broken, Found, Nothing, OutcomeData, 
 use Rattle.go_model.specs.Outcomes.Constructs.Name.{name}
 use Rattle.go_model.specs.Outcomes.Constructs.Selector.{selector}
 use Rattle.go_model.specs.Outcomes.Exactly.{HasNothing}
+use Rattle.go_model.specs.Outcomes.Records.{RecData}
 use Rattle.go_model.specs.Outcomes.Stays.{HasFailed}
 use Rattle.go_model.specs.Outcomes.Walk.{Headers, construct, outcome, outcomes}
 use Rattle.go_model.proofs.ExactWaitLemmas.{outcome_exactly}
-use Rattle.go_laws.specs.Complete.{IsAsked, asked_in, asked_in_each}
-
--- what stands in a list that is made of several, or of another
-pub flat_cases : {X Y : Type 0} (f : X → List Y) (xs : List X) (y : Y) → Contains (flat_map f xs) y → (x : X) × Contains xs x × Contains (f x) y
-flat_cases {X = X} f [] y h = absurd (contains_none y h)
-flat_cases {X = X} f (x ∷ xs) y h = by_either (Contains-append_cases (f x) (flat_map f xs) y h) (flat_cases f xs y)
-  where
-    by_either : Contains (f x) y ⊎ Contains (flat_map f xs) y → (Contains (flat_map f xs) y → (z : X) × Contains xs z × Contains (f z) y) → (z : X) × Contains (x ∷ xs) z × Contains (f z) y
-    by_either (inl here) later = (x, contains_head x xs x refl, here)
-    by_either (inr there) later = let found = later there in (found.0, contains_tail x xs found.0 found.1, found.2)
-
-pub flat_contains : {X Y : Type 0} (f : X → List Y) (xs : List X) (x : X) (y : Y) → Contains xs x → Contains (f x) y → Contains (flat_map f xs) y
-flat_contains f [] x y h i = absurd (contains_none x h)
-flat_contains f (z ∷ xs) x y h i = by_cases (cons_cases z xs x h) (flat_contains f xs x y)
-  where
-    by_cases : (z ≡ x) ⊎ Contains xs x → (Contains xs x → Contains (f x) y → Contains (flat_map f xs) y) → Contains (flat_map f (z ∷ xs)) y
-    by_cases (inl same) later = Contains-append_left (f z) (flat_map f xs) y (subst (λ w. Contains (f w) y) (sym same) i)
-    by_cases (inr there) later = Contains-append_right (f z) (flat_map f xs) y (later there i)
-
-pub map_cases : {X Y : Type 0} (f : X → Y) (xs : List X) (y : Y) → Contains (map f xs) y → (x : X) × Contains xs x × (f x ≡ y)
-map_cases {X = X} f [] y h = absurd (contains_none y h)
-map_cases {X = X} f (x ∷ xs) y h = by_cases (cons_cases (f x) (map f xs) y h) (map_cases f xs y)
-  where
-    by_cases : (f x ≡ y) ⊎ Contains (map f xs) y → (Contains (map f xs) y → (z : X) × Contains xs z × (f z ≡ y)) → (z : X) × Contains (x ∷ xs) z × (f z ≡ y)
-    by_cases (inl here) later = (x, contains_head x xs x refl, here)
-    by_cases (inr there) later = let found = later there in (found.0, contains_tail x xs found.0 found.1, found.2)
-
-pub map_contains : {X Y : Type 0} (f : X → Y) (xs : List X) (x : X) → Contains xs x → Contains (map f xs) (f x)
-map_contains f [] x h = absurd (contains_none x h)
-map_contains f (z ∷ xs) x h = by_cases (cons_cases z xs x h) (map_contains f xs x)
-  where
-    by_cases : (z ≡ x) ⊎ Contains xs x → (Contains xs x → Contains (map f xs) (f x)) → Contains (map f (z ∷ xs)) (f x)
-    by_cases (inl same) later = contains_head (f z) (map f xs) (f x) (ap f same)
-    by_cases (inr there) later = contains_tail (f z) (map f xs) (f x) (later there)
+use Rattle.go_laws.specs.Complete.{asked_in, asked_in_each}
+use Rattle.go_laws.proofs.Asked.{AreIntegers, IsAsked}
+use Rattle.go_laws.proofs.IntegerLemmas.{HaveIntegers, part_integer}
+use Rattle.go_laws.proofs.ListLemmas.{flat_cases, flat_contains, map_cases, map_contains, only_is}
 
 -- a part of a node, and what is found of it
 part_at : (ts : Trees) (n : ℕ) → n < length (list_of ts) → (t : Tree) × (slice_get (list_of ts) n ≡ Some t)
@@ -78,10 +49,10 @@ module _ (means : ℕ → Meaning) (headers : Headers) where
   IsUnbroken t = (rule : Rule) (spots : List Spot) → outcome means headers t ≡ Broken rule spots → ⊥
 
   -- it has a record, or waits
-  abbrev pub IsGood : OutcomeData ℤ → Type 0
-  IsGood x = ((v : ℤ) × (x ≡ Found v)) ⊎ ((d : ℕ) × (x ≡ Waits d))
+  abbrev pub IsGood : OutcomeData RecData → Type 0
+  IsGood x = ((v : RecData) × (x ≡ Found v)) ⊎ ((d : ℕ) × (x ≡ Waits d))
 
-  good_not_failed : (x : OutcomeData ℤ) → IsGood x → HasFailed x → ⊥
+  good_not_failed : (x : OutcomeData RecData) → IsGood x → HasFailed x → ⊥
   good_not_failed (Found v) g f = f
   good_not_failed (Broken rule spots) (inl found) f = let never : Broken rule spots ≡ Found found.0 = found.1 in cc
   good_not_failed (Broken rule spots) (inr waits) f = let never : Broken rule spots ≡ Waits waits.0 = waits.1 in cc
@@ -89,11 +60,18 @@ module _ (means : ℕ → Meaning) (headers : Headers) where
   good_not_failed Nothing (inl found) f = let never : Nothing ≡ Found found.0 = found.1 in cc
   good_not_failed Nothing (inr waits) f = let never : Nothing ≡ Waits waits.0 = waits.1 in cc
 
+  -- where headers are integers, so are records of operands
+  operand_integers : HaveIntegers headers → (parts : Trees) (operands : List ℕ) (records : List RecData) → map (outcome_at (outcomes means headers parts)) operands ≡ map Found records → AreIntegers records
+  operand_integers integers parts operands records e r among =
+      let found : Contains (map (outcome_at (outcomes means headers parts)) operands) (Found r) = subst (λ xs. Contains xs (Found r)) (sym e) (map_contains Found records r among) in
+      let operand = map_cases (outcome_at (outcomes means headers parts)) operands (Found r) found in
+      part_integer headers integers means parts operand.0 r operand.2
+
   -- where its operands are good and something is asked of it, a node has an outcome
-  not_nothing : (t : Tree) → IsAsked means t → (id from to : ℕ) (kind : NodeKind) (text : List ℕ) (parts : Trees) → t ≡ branch id from to kind text parts
+  not_nothing : HaveIntegers headers → (t : Tree) → IsAsked means t → (id from to : ℕ) (kind : NodeKind) (text : List ℕ) (parts : Trees) → t ≡ branch id from to kind text parts
       → ((n : ℕ) → Contains (construct means id kind text (list_of parts)).operands n → IsGood (outcome_at (outcomes means headers parts) n))
       → outcome means headers (branch id from to kind text parts) ≡ Nothing → ⊥
-  not_nothing t asked id from to kind text parts is good e = by_cause ((outcome_exactly means headers id from to kind text parts).nothing.0 e)
+  not_nothing integers t asked id from to kind text parts is good e = by_cause ((outcome_exactly means headers id from to kind text parts).nothing.0 e)
     where
       here : IsAsked means (branch id from to kind text parts)
       here = subst (IsAsked means) is asked
@@ -106,10 +84,10 @@ module _ (means : ℕ → Meaning) (headers : Headers) where
           let records = none.0 in
           let many : length records ≡ length (construct means id kind text (list_of parts)).operands =
           sym (length-map records Found) ∙ ap length (sym none.1) ∙ length-map (construct means id kind text (list_of parts)).operands (outcome_at (outcomes means headers parts)) in
-          let some = here.asks records many in
+          let some = here.asks records (operand_integers integers parts (construct means id kind text (list_of parts)).operands records none.1) many in
           let never : None ≡ Some some.0 = sym none.2 ∙ some.1 in cc
 
-  by_outcome : (x : OutcomeData ℤ) → (x ≡ Nothing → ⊥) → ((rule : Rule) (spots : List Spot) → x ≡ Broken rule spots → ⊥) → IsGood x
+  by_outcome : (x : OutcomeData RecData) → (x ≡ Nothing → ⊥) → ((rule : Rule) (spots : List Spot) → x ≡ Broken rule spots → ⊥) → IsGood x
   by_outcome (Found v) something unbroken = inl (v, refl)
   by_outcome (Broken rule spots) something unbroken = absurd (unbroken rule spots refl)
   by_outcome (Waits d) something unbroken = inr (d, refl)
@@ -120,19 +98,19 @@ module _ (means : ℕ → Meaning) (headers : Headers) where
   AllFine t = (s : Tree) → Contains (asked_in means t) s → IsAsked means s × IsUnbroken s
 
   mutual
-    all_good : (t : Tree) → AllFine t → IsGood (outcome means headers t)
-    all_good (branch id from to kind text parts) fine =
+    all_good : HaveIntegers headers → (t : Tree) → AllFine t → IsGood (outcome means headers t)
+    all_good integers (branch id from to kind text parts) fine =
         let own = fine (branch id from to kind text parts) (contains_head (branch id from to kind text parts) _ (branch id from to kind text parts) refl) in
         by_outcome (outcome means headers (branch id from to kind text parts))
-        (not_nothing (branch id from to kind text parts) own.0 id from to kind text parts refl
-        (λ n operand. good_at parts n (own.0.within n operand)
+        (not_nothing integers (branch id from to kind text parts) own.0 id from to kind text parts refl
+        (λ n operand. good_at integers parts n (own.0.within n operand)
         (λ s there. fine s (contains_tail (branch id from to kind text parts) _ s (flat_contains (row_at (asked_in_each means parts)) (construct means id kind text (list_of parts)).operands n s operand there)))))
         own.1
 
-    good_at : (ts : Trees) (n : ℕ) → n < length (list_of ts) → ((s : Tree) → Contains (row_at (asked_in_each means ts) n) s → IsAsked means s × IsUnbroken s) → IsGood (outcome_at (outcomes means headers ts) n)
-    good_at no_trees n lt fine = absurd (omega (arith, lt))
-    good_at (more_trees t ts) zero lt fine = all_good t fine
-    good_at (more_trees t ts) (suc n) lt fine = good_at ts n (omega (arith, lt)) fine
+    good_at : HaveIntegers headers → (ts : Trees) (n : ℕ) → n < length (list_of ts) → ((s : Tree) → Contains (row_at (asked_in_each means ts) n) s → IsAsked means s × IsUnbroken s) → IsGood (outcome_at (outcomes means headers ts) n)
+    good_at integers no_trees n lt fine = absurd (omega (arith, lt))
+    good_at integers (more_trees t ts) zero lt fine = all_good integers t fine
+    good_at integers (more_trees t ts) (suc n) lt fine = good_at integers ts n (omega (arith, lt)) fine
 
   each_by : (t : Tree) → AllFine t → (s : Tree) → IsGood (outcome means headers t) → (rest : List Tree) → (t ≡ s) ⊎ Contains rest s → (Contains rest s → IsGood (outcome means headers s)) → IsGood (outcome means headers s)
   each_by t fine s own rest (inl same) inner = subst (λ r. IsGood (outcome means headers r)) same own
@@ -140,24 +118,20 @@ module _ (means : ℕ → Meaning) (headers : Headers) where
 
   mutual
     -- and so each of them
-    pub each_good : (t : Tree) → AllFine t → (s : Tree) → Contains (asked_in means t) s → IsGood (outcome means headers s)
-    each_good (branch id from to kind text parts) fine s h = each_by (branch id from to kind text parts) fine s (all_good (branch id from to kind text parts) fine) (flat_map (row_at (asked_in_each means parts)) (construct means id kind text (list_of parts)).operands)
+    pub each_good : HaveIntegers headers → (t : Tree) → AllFine t → (s : Tree) → Contains (asked_in means t) s → IsGood (outcome means headers s)
+    each_good integers (branch id from to kind text parts) fine s h = each_by (branch id from to kind text parts) fine s (all_good integers (branch id from to kind text parts) fine) (flat_map (row_at (asked_in_each means parts)) (construct means id kind text (list_of parts)).operands)
         (cons_cases (branch id from to kind text parts) _ s h)
         (λ inside. (let at = flat_cases (row_at (asked_in_each means parts)) (construct means id kind text (list_of parts)).operands s inside in
-        each_good_at parts at.0 (λ r there. fine r (contains_tail (branch id from to kind text parts) _ r (flat_contains (row_at (asked_in_each means parts)) (construct means id kind text (list_of parts)).operands at.0 r at.1 there))) s at.2))
+        each_good_at integers parts at.0 (λ r there. fine r (contains_tail (branch id from to kind text parts) _ r (flat_contains (row_at (asked_in_each means parts)) (construct means id kind text (list_of parts)).operands at.0 r at.1 there))) s at.2))
 
-    each_good_at : (ts : Trees) (n : ℕ) → ((s : Tree) → Contains (row_at (asked_in_each means ts) n) s → IsAsked means s × IsUnbroken s) → (s : Tree) → Contains (row_at (asked_in_each means ts) n) s → IsGood (outcome means headers s)
-    each_good_at no_trees n fine s h = absurd (contains_none s h)
-    each_good_at (more_trees t ts) zero fine s h = each_good t fine s h
-    each_good_at (more_trees t ts) (suc n) fine s h = each_good_at ts n fine s h
+    each_good_at : HaveIntegers headers → (ts : Trees) (n : ℕ) → ((s : Tree) → Contains (row_at (asked_in_each means ts) n) s → IsAsked means s × IsUnbroken s) → (s : Tree) → Contains (row_at (asked_in_each means ts) n) s → IsGood (outcome means headers s)
+    each_good_at integers no_trees n fine s h = absurd (contains_none s h)
+    each_good_at integers (more_trees t ts) zero fine s h = each_good integers t fine s h
+    each_good_at integers (more_trees t ts) (suc n) fine s h = each_good_at integers ts n fine s h
 
 -- the nodes that are asked for records are nodes of the expression
 head_alone : (t : Tree) (rest : List Tree) (s : Tree) → Contains (t ∷ []) s → Contains (t ∷ rest) s
-head_alone t rest s h = by_cases (cons_cases t [] s h)
-  where
-    by_cases : (t ≡ s) ⊎ Contains [] s → Contains (t ∷ rest) s
-    by_cases (inl same) = contains_head t rest s same
-    by_cases (inr none) = absurd (contains_none s none)
+head_alone t rest s h = contains_head t rest s (only_is t s h)
 
 lifted : (t : Tree) (xs ys : List Tree) (s : Tree) → (Contains xs s → Contains ys s) → Contains (t ∷ xs) s → Contains (t ∷ ys) s
 lifted t xs ys s go h = by_cases (cons_cases t xs s h)

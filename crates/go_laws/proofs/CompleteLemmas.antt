@@ -1,6 +1,6 @@
--- Why an accepted package is complete: what has no header waits for what has none, and so on, and finitely many that do so
--- come back to one that waits for itself.
-use Rattle.std.proofs.Common.{◌≡◌, ◌≢◌, ℕ, ℤ, Bool, true, false, cond, Option, Some, None, List, [], ◌∷◌, ◌++◌, ◌⊎◌, inl, inr, map, Contains, refl, sym, ap, ◌∙◌, subst, ⊎_elim}
+-- Why an accepted package is complete: what has no header waits for what has none, and so on, and finitely many that do
+-- so come back to one that waits for itself.
+use Rattle.std.proofs.Common.{◌≡◌, ◌≢◌, ℕ, Bool, true, false, cond, Option, Some, None, List, [], ◌∷◌, ◌++◌, ◌⊎◌, inl, inr, map, Contains, refl, sym, ap, ◌∙◌, subst, ⊎_elim}
 use Rattle.std.specs.Prelude.{◌==◌, ◌||◌, ◌&&◌, not, is_some, IsSome, length, option_and_then, if◌then◌else◌}
 use Rattle.std.specs.List.{flat_map, list_all}
 use Rattle.std.specs.Map.{lookup}
@@ -23,6 +23,7 @@ use Rattle.go_model.specs.declared.meaning.Meaning.TheVariants.{Declared}
 use Rattle.go_model.specs.declared.outcome.Spot.{Spot}
 use Rattle.go_model.specs.Outcomes.Judged.{Broken, Waits, OutcomeData}
 use Rattle.go_model.specs.Outcomes.Readings.{awaited_in, broken_spots, record_in}
+use Rattle.go_model.specs.Outcomes.Records.{HeaderData, RecData, declared_header}
 use Rattle.go_model.specs.Outcomes.Walk.{Headers, outcome}
 use Rattle.go_model.specs.Phases.{HasHeaders, IsVerdict, sound}
 use Rattle.go_model.specs.Report.{LineData, NamedData, accepted}
@@ -30,41 +31,23 @@ use Rattle.go_model.specs.Values.Declared.{declared_as}
 use Rattle.go_model.specs.Values.Headers.{Follows, Justified, Known, headers_of}
 use Rattle.go_model.specs.Values.Meaning.{may_have_header, meaning_in, uses_table}
 use Rattle.go_model.specs.Values.Quests.{IsPart}
-use Rattle.go_model.specs.Values.Records.{bound_value, record_of, value_over}
+use Rattle.go_model.specs.Values.Records.{bound_value, header_over, record_of}
 use Rattle.go_model.specs.Values.Rules.{are_unequal, broken_cycles, broken_in, broken_in_files, broken_node, broken_spec, broken_values, cyclic_at, unequal_at, unequal_sides}
 use Rattle.go_model.specs.Values.Waiting.{Chain, Waits as WaitsFor, awaited_by_nodes, more, one}
 use Rattle.go_model.proofs.ExactWaitLemmas.{outcome_exactly}
-use Rattle.go_model.proofs.HeaderLemmas.{both_justified, closed_under, headers_of-here, kept, later_part, stays, value_over-part}
+use Rattle.go_model.proofs.HeaderLemmas.{both_justified, closed_under, header_over-part, headers_of-here, kept, later_part, stays}
 use Rattle.go_model.proofs.OutcomeLemmas.{outcome_stays}
 use Rattle.go_expr.proofs.AwaitedLemmas.{awaited_means}
 use Rattle.go_decl.proofs.WaitLemmas.{denoted_may_have}
-use Rattle.go_laws.specs.Complete.{AreAsked, IsComplete, asked_in, values_in}
-use Rattle.go_laws.proofs.AskedLemmas.{IsGood, IsUnbroken, asked_are_nodes, each_good, flat_cases, flat_contains, map_cases, map_contains}
+use Rattle.go_laws.specs.Complete.{IsComplete, asked_in, values_in}
+use Rattle.go_laws.proofs.Asked.{AreAsked}
+use Rattle.go_laws.proofs.AskedLemmas.{IsGood, IsUnbroken, asked_are_nodes, each_good}
+use Rattle.go_laws.proofs.DenotedLemmas.{declared_by_number}
+use Rattle.go_laws.proofs.IntegerLemmas.{HaveIntegers, integer_declared, known_integer, record_integer}
+use Rattle.go_laws.proofs.ListLemmas.{flat_cases, flat_contains, left_is_empty, map_cases, map_contains, map_is_empty, none_of_each, right_is_empty}
 use Rattle.go_laws.proofs.WalkLemmas.{no_walk}
 
--- what makes an empty list makes nothing of any item
-none_by : {X Y : Type 0} (f : X → List Y) (xs : List X) → flat_map f xs ≡ [] → (x : X) → Contains xs x → (l : List Y) → f x ≡ l → l ≡ []
-none_by f xs e x h [] is = refl
-none_by f xs e x h (y ∷ ys) is =
-    let here : Contains (f x) y = subst (λ l. Contains l y) (sym is) (contains_head y ys y refl) in
-    absurd (contains_none y (subst (λ l. Contains l y) e (flat_contains f xs x y h here)))
-
-none_each : {X Y : Type 0} (f : X → List Y) (xs : List X) → flat_map f xs ≡ [] → (x : X) → Contains xs x → f x ≡ []
-none_each f xs e x h = none_by f xs e x h (f x) refl
-
-left_empty : {X : Type 0} (xs ys : List X) → xs ++ ys ≡ [] → xs ≡ []
-left_empty [] ys e = refl
-left_empty (x ∷ xs) ys e = cc
-
-right_empty : {X : Type 0} (xs ys : List X) → xs ++ ys ≡ [] → ys ≡ []
-right_empty [] ys e = e
-right_empty (x ∷ xs) ys e = cc
-
-map_empty : {X Y : Type 0} (f : X → Y) (xs : List X) → map f xs ≡ [] → xs ≡ []
-map_empty f [] e = refl
-map_empty f (x ∷ xs) e = cc
-
--- what a number names is a declaration with that number, and each has one that its number names
+-- what a number names is a declaration with that number
 pub record Names (declarations : List Declaration) (n : ℕ) (d : Declaration) : Type 0 where
   pub among : Contains declarations d
   pub number : (number_of d).0 ≡ n
@@ -79,19 +62,6 @@ declared_names (x ∷ xs) n d e =
     (λ ne. (let there = declared_names xs n d (sym (ap (λ b. cond b (Some x) (declared_as xs n)) (ne_eqb (number_of x).0 n ne)) ∙ e) in
     record { among = contains_tail x xs d there.among; number = there.number }))
     (cases_eq (number_of x).0 n)
-
-names_declared : (declarations : List Declaration) (d : Declaration) → Contains declarations d → (first : Declaration) × (declared_as declarations (number_of d).0 ≡ Some first)
-names_declared [] d h = absurd (contains_none d h)
-names_declared (x ∷ xs) d h =
-    ⊎_elim
-    (λ here. (x, ap (λ b. cond b (Some x) (declared_as xs (number_of d).0)) (eq-eqb (number_of x).0 (number_of d).0 here)))
-    (λ ne. (let there = later ne (cons_cases x xs d h) (names_declared xs d) in
-    (there.0, ap (λ b. cond b (Some x) (declared_as xs (number_of d).0)) (ne_eqb (number_of x).0 (number_of d).0 ne) ∙ there.1)))
-    (cases_eq (number_of x).0 (number_of d).0)
-  where
-    later : ((number_of x).0 ≡ (number_of d).0 → ⊥) → (x ≡ d) ⊎ Contains xs d → (Contains xs d → (first : Declaration) × (declared_as xs (number_of d).0 ≡ Some first)) → (first : Declaration) × (declared_as xs (number_of d).0 ≡ Some first)
-    later ne (inl same) rest = absurd (ne (ap (λ y. (number_of y).0) same))
-    later ne (inr there) rest = rest there
 
 -- a declaration of a spec with as many names as expressions is that of one of these
 pub record IsPair (spec : Spec) (values : List Tree) (d : Declaration) : Type 0 where
@@ -133,6 +103,7 @@ module _ (before : Headers) (means : ℕ → Meaning) (specs : List Spec) (heade
     (no_cycles : broken_cycles cyclic (declarations_in specs) ≡ [])
     (no_broken : flat_map (broken_spec means headers) specs ≡ [])
     (named : (id : ℕ) (object : ObjId) → means id ≡ Declared object → may_have_header before (declarations_in specs) object ≡ true)
+    (integers : HaveIntegers before)
     (asked : AreAsked means (flat_map (λ spec. spec.values) specs)) where
   abbrev all : List Declaration
   all = declarations_in specs
@@ -143,17 +114,20 @@ module _ (before : Headers) (means : ℕ → Meaning) (specs : List Spec) (heade
 
   -- RECORDS
 
+  whole : HaveIntegers headers
+  whole d h e = known_integer means before (declarations_in specs) integers d h ((has.known d h).0 e)
+
   unbroken : (spec : Spec) → Contains specs spec → (t : Tree) → Contains spec.values t → (s : Tree) → Contains (nodes_in t) s → IsUnbroken means headers s
   unbroken spec is t among s inside rule spots e =
-      let whole = none_each (broken_spec means headers) specs no_broken spec is in
-      let parts = right_empty (unequal_at means headers spec) (flat_map (broken_in spec.file spec.told_at means headers) (spec.types ++ spec.values)) whole in
-      let part = none_each (broken_in spec.file spec.told_at means headers) (spec.types ++ spec.values) parts t (Contains-append_right spec.types spec.values t among) in
-      let node = none_each (broken_node spec.file spec.told_at means headers) (nodes_in t) part s inside in
-      some_spots means headers s rule spots e (map_empty _ spots (ap (broken_spots spec.file spec.told_at s) (sym e) ∙ node))
+      let whole = none_of_each (broken_spec means headers) specs no_broken spec is in
+      let parts = right_is_empty (unequal_at means headers spec) (flat_map (broken_in spec.file spec.told_at means headers) (spec.types ++ spec.values)) whole in
+      let part = none_of_each (broken_in spec.file spec.told_at means headers) (spec.types ++ spec.values) parts t (Contains-append_right spec.types spec.values t among) in
+      let node = none_of_each (broken_node spec.file spec.told_at means headers) (nodes_in t) part s inside in
+      some_spots means headers s rule spots e (map_is_empty _ spots (ap (broken_spots spec.file spec.told_at s) (sym e) ∙ node))
 
   good : (spec : Spec) → Contains specs spec → (t : Tree) → Contains spec.values t → (s : Tree) → Contains (asked_in means t) s → IsGood means headers (outcome means headers s)
   good spec is t among s h =
-      each_good means headers t
+      each_good means headers whole t
       (λ r there. (asked t (flat_contains (λ (x : Spec). x.values) specs spec t is among) r there, unbroken spec is t among r (asked_are_nodes means t r there)))
       s h
 
@@ -167,7 +141,7 @@ module _ (before : Headers) (means : ℕ → Meaning) (specs : List Spec) (heade
   own : (object : ObjId) → may_have_header before all object ≡ true → headers object.0 ≡ None → (d : Declaration) × (declared_as all object.0 ≡ Some d)
   own object declared missing = by_declaration (declared_as all object.0) refl
     where
-      none_before : (o : Option ℤ) → before object.0 ≡ o → is_some o ≡ true → ⊥
+      none_before : (o : Option HeaderData) → before object.0 ≡ o → is_some o ≡ true → ⊥
       none_before None e some = cc
       none_before (Some h) e some = let known = base object.0 h e in let never : Some h ≡ None = sym known ∙ missing in cc
 
@@ -184,23 +158,23 @@ module _ (before : Headers) (means : ℕ → Meaning) (specs : List Spec) (heade
   -- HEADERS THAT FOLLOW
 
   record One (numbers : List ℕ) : Type 0 where
-    pub list : List (ℕ × ℤ)
+    pub list : List (ℕ × HeaderData)
     pub justified : Justified before means all list
-    pub has_all : (n : ℕ) → Contains numbers n → (h : ℤ) → headers n ≡ Some h → headers_of before list n ≡ Some h
+    pub has_all : (n : ℕ) → Contains numbers n → (h : HeaderData) → headers n ≡ Some h → headers_of before list n ≡ Some h
 
   -- one justified list has the headers of all these numbers
   in_one : (numbers : List ℕ) → One numbers
   in_one [] = record { list = []; justified = tt; has_all = λ n h. absurd (contains_none n h) }
   in_one (n ∷ numbers) = by_header (in_one numbers) (headers n) refl
     where
-      by_header : One numbers → (o : Option ℤ) → headers n ≡ o → One (n ∷ numbers)
+      by_header : One numbers → (o : Option HeaderData) → headers n ≡ o → One (n ∷ numbers)
       by_header rest None e = record {
         list = rest.list;
         justified = rest.justified;
         has_all = λ i there h known. by_cases (cons_cases n numbers i there) h known;
       }
         where
-          by_cases : {i : ℕ} → (n ≡ i) ⊎ Contains numbers i → (h : ℤ) → headers i ≡ Some h → headers_of before rest.list i ≡ Some h
+          by_cases : {i : ℕ} → (n ≡ i) ⊎ Contains numbers i → (h : HeaderData) → headers i ≡ Some h → headers_of before rest.list i ≡ Some h
           by_cases {i} (inl same) h known = absurd (let never : None ≡ Some h = sym e ∙ ap headers same ∙ known in cc)
           by_cases {i} (inr there) h known = rest.has_all i there h known
       by_header rest (Some g) e =
@@ -211,7 +185,7 @@ module _ (before : Headers) (means : ℕ → Meaning) (specs : List Spec) (heade
             has_all = λ i there h known. by_cases k (cons_cases n numbers i there) h known;
           }
         where
-          by_cases : (k : Known before means all n g) → {i : ℕ} → (n ≡ i) ⊎ Contains numbers i → (h : ℤ) → headers i ≡ Some h → headers_of before (k.list ++ rest.list) i ≡ Some h
+          by_cases : (k : Known before means all n g) → {i : ℕ} → (n ≡ i) ⊎ Contains numbers i → (h : HeaderData) → headers i ≡ Some h → headers_of before (k.list ++ rest.list) i ≡ Some h
           by_cases k {i} (inl same) h known =
               let value : g ≡ h = (let both : Some g ≡ Some h = sym e ∙ ap headers same ∙ known in cc) in
               subst (λ j. headers_of before (k.list ++ rest.list) j ≡ Some h) same (closed_under before means all rest.list rest.justified k.list k.justified n h (k.has ∙ ap Some value))
@@ -224,15 +198,15 @@ module _ (before : Headers) (means : ℕ → Meaning) (specs : List Spec) (heade
   number_in d among n same = subst (Contains numbers) same (map_contains (λ (x : Declaration). (number_of x).0) all d among)
 
   -- what follows from the headers is among them
-  follows_known : (n : ℕ) (d : Declaration) (v : ℤ) → declared_as all n ≡ Some d → headers n ≡ None → value_over means headers d ≡ Some v → ⊥
+  follows_known : (n : ℕ) (d : Declaration) (v : HeaderData) → declared_as all n ≡ Some d → headers n ≡ None → header_over means headers d ≡ Some v → ⊥
   follows_known n d v declared missing value =
       let single = in_one numbers in
-      let whole = value_over-part means headers (headers_of before single.list) (in_list single) d v value in
-      let follows : Follows before means all (headers_of before single.list) n v = record { declaration = d; declared = declared; fresh = fresh (before n) refl; value = whole } in
+      let whole = header_over-part means headers (headers_of before single.list) (in_list single) d v value in
+      let follows : Follows before means all (headers_of before single.list) n v = record { declaration = d; declared = declared; fresh = fresh (before n) refl; tells = whole } in
       let known = (has.known n v).1 (record { list = (n, v) ∷ single.list; justified = (single.justified, follows); has = headers_of-here before (n, v) single.list n refl }) in
       let never : None ≡ Some v = sym missing ∙ known in cc
     where
-      fresh : (o : Option ℤ) → before n ≡ o → before n ≡ None
+      fresh : (o : Option HeaderData) → before n ≡ o → before n ≡ None
       fresh None e = e
       fresh (Some h) e = absurd (let never : None ≡ Some h = sym missing ∙ base n h e in cc)
 
@@ -258,7 +232,7 @@ module _ (before : Headers) (means : ℕ → Meaning) (specs : List Spec) (heade
   -- by an expression that a declaration rests on
   next_by : (n : ℕ) (d : Declaration) → declared_as all n ≡ Some d → (t : Tree) → Contains d.values t → (e : ℕ) → outcome means headers t ≡ Waits e → Next n
   next_by n d declared t among e waits =
-      let here : Contains (awaited_in (outcome means headers t)) e = subst (λ (x : OutcomeData ℤ). Contains (awaited_in x) e) (sym waits) (contains_head e [] e refl) in
+      let here : Contains (awaited_in (outcome means headers t)) e = subst (λ (x : OutcomeData RecData). Contains (awaited_in x) e) (sym waits) (contains_head e [] e refl) in
       let node = flat_contains (λ node. awaited_in (outcome means headers node)) (nodes_in t) t e (self_in t) here in
       record {
         other = e;
@@ -294,7 +268,10 @@ module _ (before : Headers) (means : ℕ → Meaning) (specs : List Spec) (heade
           bound = (λ i. bound_value (p.built i) (p.values_are i))
 
           by_outcome : IsGood means headers (outcome means headers p.value) → Next n
-          by_outcome (inl found) = absurd (follows_known n l.declaration found.0 l.declared l.missing (ap (option_and_then (record_of means headers)) bound ∙ ap record_in found.1))
+          by_outcome (inl found) =
+              let told = integer_declared found.0 (record_integer headers whole means p.value found.0 found.1) in
+              absurd (follows_known n l.declaration told.0 l.declared l.missing
+              (ap (λ t. option_and_then declared_header (option_and_then (record_of means headers) t)) bound ∙ ap (λ x. option_and_then declared_header (record_in x)) found.1 ∙ told.1))
           by_outcome (inr waits) = next_by n l.declaration l.declared p.value (subst (λ vs. Contains vs p.value) (sym p.values_are) (contains_head p.value [] p.value refl)) waits.0 waits.1
 
       listed : (spec : Spec) → Contains specs spec → (length spec.names == length spec.values) ≡ false → l.declaration.values ≡ spec.values → Next n
@@ -304,7 +281,7 @@ module _ (before : Headers) (means : ℕ → Meaning) (specs : List Spec) (heade
           by_records (inl recorded) =
               let broken : are_unequal means headers spec.names spec.values ≡ true = (λ i. not (unequal i) && recorded i) in
               let told = broken_at spec.file (start_of spec.node) unequal_sides in
-              let none = left_empty (unequal_at means headers spec) _ (none_each (broken_spec means headers) specs no_broken spec is) in
+              let none = left_is_empty (unequal_at means headers spec) _ (none_of_each (broken_spec means headers) specs no_broken spec is) in
               absurd (let never : told ∷ [] ≡ [] = ap (λ b. told_if b told) (sym broken) ∙ none in cc)
           by_records (inr w) = next_by n l.declaration l.declared w.tree (subst (λ vs. Contains vs w.tree) (sym values) w.among) w.number w.waits
 
@@ -318,7 +295,7 @@ module _ (before : Headers) (means : ℕ → Meaning) (specs : List Spec) (heade
   no_return n l chain =
       let is = declared_names all n l.declaration l.declared in
       let marked : cyclic (number_of l.declaration).0 ≡ true = ap cyclic is.number ∙ (has.is_cyclic n).1 chain in
-      let none = none_each (λ d. cyclic_at (cyclic (number_of d).0) d) all no_cycles l.declaration is.among in
+      let none = none_of_each (λ d. cyclic_at (cyclic (number_of d).0) d) all no_cycles l.declaration is.among in
       let never = ap (λ b. cyclic_at b l.declaration) (sym marked) ∙ none in cc never
 
   none_lacks : (n : ℕ) → Lacking n → ⊥
@@ -335,9 +312,9 @@ module _ (before : Headers) (means : ℕ → Meaning) (specs : List Spec) (heade
   pub each_declared : (d : Declaration) → Contains all d → IsSome (headers (number_of d).0)
   each_declared d among = by_header (headers (number_of d).0) refl
     where
-      by_header : (o : Option ℤ) → headers (number_of d).0 ≡ o → IsSome o
+      by_header : (o : Option HeaderData) → headers (number_of d).0 ≡ o → IsSome o
       by_header (Some h) e = refl
-      by_header None e = absurd (let first = names_declared all d among in none_lacks (number_of d).0 (record { missing = e; declaration = first.0; declared = first.1 }))
+      by_header None e = absurd (let first = declared_by_number all d among in none_lacks (number_of d).0 (record { missing = e; declaration = first.0; declared = first.1 }))
 
   pub each_recorded : (t : Tree) → Contains (flat_map (λ spec. spec.values) specs) t → (s : Tree) → Contains (asked_in means t) s → IsSome (record_of means headers s)
   each_recorded t among s h =
@@ -345,20 +322,20 @@ module _ (before : Headers) (means : ℕ → Meaning) (specs : List Spec) (heade
       by_outcome (good from.0 from.1 t from.2 s h)
     where
       by_outcome : IsGood means headers (outcome means headers s) → IsSome (record_of means headers s)
-      by_outcome (inl found) = subst (λ (x : OutcomeData ℤ). IsSome (record_in x)) (sym found.1) refl
+      by_outcome (inl found) = subst (λ (x : OutcomeData RecData). IsSome (record_in x)) (sym found.1) refl
       by_outcome (inr waits) = absurd (none_lacks waits.0 (waits_lack s waits.0 waits.1))
 
--- an accepted package is complete
-pub complete : (m : ModuleData) (k : ℕ) (p : PackageData) (before after : Headers) (lines : List LineData) (names : List NamedData)
-    → IsVerdict m k p before (accepted lines names) after → AreAsked (meaning_in m k p before) (values_in p)
+-- an accepted package of which something is asked at each node that is asked for a record is complete
+pub complete_where_asked : (m : ModuleData) (k : ℕ) (p : PackageData) (before after : Headers) (lines : List LineData) (names : List NamedData)
+    → IsVerdict m k p before (accepted lines names) after → HaveIntegers before → AreAsked (meaning_in m k p before) (values_in p)
     → IsComplete (meaning_in m k p before) after p
-complete m k p before after lines names (sound headers _ breaks _) asked =
+complete_where_asked m k p before after lines names (sound headers _ breaks _) integers asked =
     let means = meaning_in m k p before in
-    let none = map_empty (with_number p.files) (broken_in_files means headers breaks.cyclic p) (none_found (broken_values means headers breaks.cyclic p) breaks.is_list) in
-    let no_cycles = left_empty (broken_cycles breaks.cyclic (declarations_of p)) (flat_map (broken_spec means headers) (specs_of p)) none in
-    let no_broken = right_empty (broken_cycles breaks.cyclic (declarations_of p)) (flat_map (broken_spec means headers) (specs_of p)) none in
+    let none = map_is_empty (with_number p.files) (broken_in_files means headers breaks.cyclic p) (none_found (broken_values means headers breaks.cyclic p) breaks.is_list) in
+    let no_cycles = left_is_empty (broken_cycles breaks.cyclic (declarations_of p)) (flat_map (broken_spec means headers) (specs_of p)) none in
+    let no_broken = right_is_empty (broken_cycles breaks.cyclic (declarations_of p)) (flat_map (broken_spec means headers) (specs_of p)) none in
     let named = λ (id : ℕ) (object : ObjId) (e : means id ≡ Declared object). denoted_may_have (may_have_header before (declarations_of p)) (lookup (same_node (record { 0 = id })) (uses_table m k p)) object e in
     record {
-      declared = each_declared before means (specs_of p) headers breaks.cyclic breaks.has_headers no_cycles no_broken named asked;
-      recorded = each_recorded before means (specs_of p) headers breaks.cyclic breaks.has_headers no_cycles no_broken named asked;
+      declared = each_declared before means (specs_of p) headers breaks.cyclic breaks.has_headers no_cycles no_broken named integers asked;
+      recorded = each_recorded before means (specs_of p) headers breaks.cyclic breaks.has_headers no_cycles no_broken named integers asked;
     }

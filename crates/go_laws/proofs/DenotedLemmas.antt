@@ -1,7 +1,6 @@
 -- What may have a header: the declarations of a package, and what the packages that it imports export.
 use Rattle.std.proofs.Common.{◌≡◌, ℕ, ◌+◌, ◌<◌, Bool, true, false, cond, Option, Some, None, List, [], ◌∷◌, ◌⊎◌, inl, inr, map, length, filter, Contains, refl, sym, ap, ◌∙◌, subst, ⊎_elim, arith}
 use Rattle.std.specs.Prelude.{◌||◌, IsSome, is_some, if◌then◌else◌, option_and_then, slice_get}
-use Rattle.std.specs.List.{cons_option, filter_map}
 use Rattle.std.specs.Map.{lookup}
 use Rattle.std.specs.Option.{option_map_or}
 use Rattle.std.proofs.lemmas.Bool.{cases_eq, eq-eqb, ne_eqb}
@@ -22,12 +21,12 @@ use Rattle.go_module.proofs.TableLemmas.{object_declared}
 use Rattle.go_model.specs.Outcomes.Walk.{Headers}
 use Rattle.go_model.specs.Values.Declared.{declared_as}
 use Rattle.go_model.specs.Values.Meaning.{may_have_header}
-use Rattle.go_laws.specs.Denoting.{ImportsHaveHeaders}
-use Rattle.go_laws.proofs.AskedLemmas.{flat_cases, map_cases}
+use Rattle.go_laws.proofs.Denoting.{ImportsHaveHeaders}
+use Rattle.go_laws.proofs.ListLemmas.{flat_cases, found_from, map_cases}
 use Rattle.go_laws.proofs.PickedLemmas.{picked_contains, picked_filter}
 
 -- each declaration has one that its number names
-declared_by_number : (declarations : List Declaration) (d : Declaration) → Contains declarations d → (first : Declaration) × (declared_as declarations (number_of d).0 ≡ Some first)
+pub declared_by_number : (declarations : List Declaration) (d : Declaration) → Contains declarations d → (first : Declaration) × (declared_as declarations (number_of d).0 ≡ Some first)
 declared_by_number [] d h = absurd (contains_none d h)
 declared_by_number (x ∷ xs) d h =
     ⊎_elim
@@ -85,18 +84,6 @@ module _ (P : Object → Type 0) where
     pub exports : (o : Object) → Contains known.exports o → P o
     pub exported : (name : List ℕ) (o : Object) → known.exported name ≡ Some o → P o
 
-  map_found : {X : Type 0} (f : X → Option Object) (xs : List X) → ((x : X) (o : Object) → f x ≡ Some o → P o) → (o : Object) → Contains (filter_map f xs) o → P o
-  map_found f [] each o h = absurd (contains_none o h)
-  map_found f (x ∷ xs) each o h = by_option (f x) refl h (map_found f xs each o)
-    where
-      by_cases : (y : Object) → f x ≡ Some y → (y ≡ o) ⊎ Contains (filter_map f xs) o → (Contains (filter_map f xs) o → P o) → P o
-      by_cases y e (inl same) later = each x o (e ∙ ap Some same)
-      by_cases y e (inr there) later = later there
-
-      by_option : (found : Option Object) → f x ≡ found → Contains (cons_option found (filter_map f xs)) o → (Contains (filter_map f xs) o → P o) → P o
-      by_option None e there later = later there
-      by_option (Some y) e there later = by_cases y e (cons_cases y (filter_map f xs) o there) later
-
   module _ (regions : List Region) (each : (r : Region) → Contains regions r → P r.object) where
     entry_found : (d : ObjId) (o : Object) → lookup (same_object d) (objects_of regions) ≡ Some o → P o
     entry_found d o found =
@@ -111,7 +98,8 @@ module _ (P : Object → Type 0) where
 
     tables_known : (clause : List ℕ) → AreKnown (known_by_tables clause (names_of regions) (objects_of regions))
     tables_known clause = record {
-      exports = λ o h. map_found (λ (entry : List ℕ × ObjId). lookup (same_object entry.1) (objects_of regions)) (filter (λ (entry : List ℕ × ObjId). is_exported entry.0) (names_of regions)) (λ entry object found. entry_found entry.1 object found) o h;
+      exports = λ o h. (let from = found_from (λ (entry : List ℕ × ObjId). lookup (same_object entry.1) (objects_of regions)) (filter (λ (entry : List ℕ × ObjId). is_exported entry.0) (names_of regions)) o h in
+          entry_found from.0.1 o from.2);
       exported = λ name o found. name_found (is_exported name) (lookup (same_text name) (names_of regions)) o found;
     }
 

@@ -37,12 +37,11 @@ use Rattle.go_model.specs.Values.Declared.{declared_as}
 use Rattle.go_model.specs.Values.Meaning.{denoted_meaning, may_have_header, meaning_in}
 use Rattle.go_laws.specs.BuiltTrees.{IsBuilt}
 use Rattle.go_laws.specs.Complete.{asked_in, values_in}
-use Rattle.go_laws.specs.Denoting.{ImportsHaveHeaders}
 use Rattle.go_laws.specs.NodeNumbers.{numbers_in_files}
-use Rattle.go_laws.proofs.AskedLemmas.{flat_cases, flat_contains}
 use Rattle.go_laws.proofs.DenotedLemmas.{HasHeader, IsImported, block_may_have, block_no_package, file_imported, imported_known, universal}
-use Rattle.go_laws.proofs.EmptyLemmas.{left_is_empty, map_is_empty, none_of_each, not_told, right_is_empty}
+use Rattle.go_laws.proofs.Denoting.{ImportsHaveHeaders}
 use Rattle.go_laws.proofs.FileLemmas.{AtFile, at_file, spec_file}
+use Rattle.go_laws.proofs.ListLemmas.{flat_cases, flat_contains, left_is_empty, map_is_empty, none_of_each, not_told, right_is_empty}
 use Rattle.go_laws.proofs.OccursLemmas.{Occurs, asked_occurs}
 use Rattle.go_laws.proofs.ResolvedLemmas.{Denotes, Stands, held_denotes}
 use Rattle.go_laws.proofs.UseLemmas.{use_found}
@@ -243,8 +242,8 @@ module _ (m : ModuleData) (k : ℕ) (p : PackageData) (before : Headers)
               let x = selecting spec.file spec.told_at is_before.selected (occurrence spec.file spec.told_at (id_of s) (start_of s) (text_of s)) in
               before_fine spec file x (inside x is_before.among) placed (selected_name spec.file spec.told_at is_before.selected) refl is_before.other e
 
--- So an identifier that is asked for a record (not the name of a package before a `.`) does not mean nothing: it denotes a
--- universe name, a declaration of the package, or an exported one of a package that it imports.
+-- So an identifier that is asked for a record (not the name of a package before a `.`) does not mean nothing: it
+-- denotes a universe name, a declaration of the package, or an exported one of a package that it imports.
 pub names_denote : (m : ModuleData) (k : ℕ) (p : PackageData) (before : Headers)
     → slice_get m.packages k ≡ Some p → broken_names (known_in m) k p ≡ []
     → AllPairs (λ (a b : ℕ). a < b) (numbers_in_files p.files)

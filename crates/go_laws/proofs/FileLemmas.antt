@@ -15,17 +15,28 @@ use Rattle.go_module.specs.Names.Occurrences.{occurrences_in_file}
 use Rattle.go_module.specs.Names.Rules.BrokenNames.{broken_file, broken_files}
 use Rattle.go_module.specs.Names.Tables.{occurrences_from}
 use Rattle.go_module.proofs.MemberLemmas.{cons_cases, contains_head, contains_none, contains_tail}
-use Rattle.go_laws.proofs.AskedLemmas.{flat_cases, map_cases}
-use Rattle.go_laws.proofs.EmptyLemmas.{left_is_empty, right_is_empty}
+use Rattle.go_laws.proofs.ListLemmas.{flat_cases, left_is_empty, map_cases, right_is_empty}
+
+-- the specs of a declaration are its parts
+pub spec_is : (file : ℕ) (declaration : Tree) (spec : Spec) → Contains (specs_in file declaration) spec → (node : Tree) × Contains (list_of (parts_of declaration)) node × (const_spec file node ≡ spec)
+spec_is file (branch id from to ConstDecl text parts) spec h = map_cases (const_spec file) (list_of parts) spec h
+spec_is file (branch id from to ConstGroup text parts) spec h = map_cases (const_spec file) (list_of parts) spec h
+spec_is file (branch id from to kind text parts) spec h = absurd (contains_none spec h)
 
 -- a spec has the place of its file
-declaration_file : (file : ℕ) (d : Tree) (spec : Spec) → Contains (specs_in file d) spec → spec.file ≡ file
-declaration_file file (branch id from to ConstDecl text parts) spec h = let made = map_cases (const_spec file) (list_of parts) spec h in ap (λ (s : Spec). s.file) (sym made.2)
-declaration_file file (branch id from to ConstGroup text parts) spec h = let made = map_cases (const_spec file) (list_of parts) spec h in ap (λ (s : Spec). s.file) (sym made.2)
-declaration_file file (branch id from to kind text parts) spec h = absurd (contains_none spec h)
-
 pub spec_file : (file : ℕ) (tree : Tree) (spec : Spec) → Contains (specs_in_file file tree) spec → spec.file ≡ file
-spec_file file tree spec h = let from = flat_cases (specs_in file) (list_of (parts_of tree)) spec h in declaration_file file from.0 spec from.2
+spec_file file tree spec h = let from = flat_cases (specs_in file) (list_of (parts_of tree)) spec h in ap (λ (s : Spec). s.file) (sym (spec_is file from.0 spec from.2).2)
+
+-- a spec of a package stands in one of its files
+pub file_of_spec : (first : ℕ) (files : List FileData) (spec : Spec) → Contains (specs_from first files) spec → (number : ℕ) × (file : FileData) × Contains files file × Contains (specs_in_file number file.tree) spec
+file_of_spec first [] spec h = absurd (contains_none spec h)
+file_of_spec first (f ∷ files) spec h = by_cases (Contains-append_cases (specs_in_file first f.tree) (specs_from (first + 1) files) spec h) (file_of_spec (first + 1) files spec)
+  where
+    by_cases : Contains (specs_in_file first f.tree) spec ⊎ Contains (specs_from (first + 1) files) spec
+        → (Contains (specs_from (first + 1) files) spec → (number : ℕ) × (file : FileData) × Contains files file × Contains (specs_in_file number file.tree) spec)
+        → (number : ℕ) × (file : FileData) × Contains (f ∷ files) file × Contains (specs_in_file number file.tree) spec
+    by_cases (inl here) later = (first, f, contains_head f files f refl, here)
+    by_cases (inr there) later = let from = later there in (from.0, from.1, contains_tail f files from.1 from.2, from.3)
 
 -- what is imported in a file is imported by the package
 in_take : (n : ℕ) (xs : List ℕ) (x : ℕ) → Contains (take n xs) x → Contains xs x

@@ -1,42 +1,35 @@
 -- The numbers of the nodes of a module: they ascend, so a number tells its node.
-use Rattle.std.proofs.Common.{◌≡◌, ℕ, zero, suc, ◌+◌, ◌<◌, ◌≤◌, Bool, true, false, not, cond, Option, Some, None, List, [], ◌∷◌, ◌++◌, ◌⊎◌, inl, inr, length, map, get_or, Contains, refl, sym, ap, ◌∙◌, subst, ⊎_elim, arith}
-use Rattle.std.specs.Prelude.{AllPairs, filter, slice_get, unwrap_or, if◌then◌else◌}
-use Rattle.std.specs.List.{cons_option, filter_map, list_any, range_with_len}
+use Rattle.std.proofs.Common.{◌≡◌, ℕ, zero, suc, ◌+◌, ◌<◌, ◌≤◌, true, Option, Some, None, List, [], ◌∷◌, ◌++◌, length, map, get_or, Contains, refl, sym, ap, ◌∙◌, subst, ⊎_elim, arith}
+use Rattle.std.specs.Prelude.{AllPairs, slice_get, unwrap_or}
+use Rattle.std.specs.List.{cons_option, filter_map, range_with_len}
 use Rattle.std.specs.List.Sorted.{IsStrictlySortedBy}
 use Rattle.std.specs.Cmp.Lexicographic.{slice_cmp}
 use Rattle.std.specs.Ordering.{nat_cmp}
 use Rattle.std.proofs.lemmas.Bool.{cases_eq, false≢true}
 use Rattle.std.proofs.lemmas.List.{map-append}
-use Rattle.std.proofs.lemmas.List.Elements.{Contains-append_cases, Contains-append_left, Contains-append_right, Contains-get_or, Contains-push}
+use Rattle.std.proofs.lemmas.List.Elements.{Contains-append_cases, Contains-append_right, Contains-get_or}
 use Rattle.std.proofs.lemmas.List.FromFn.{get_or-range_with_len, length-range_with_len}
 use Rattle.std.proofs.lemmas.List.Kept.{AllPairs-cons, AllPairs-filter}
 use Rattle.std.proofs.lemmas.Option.{none-some, same_Some}
-use Rattle.go_tree.specs.declared.node_kind.NodeKind.TheVariants.{ConstCopy, ConstDecl, ConstGroup}
-use Rattle.go_tree.specs.Tree.{Tree, Trees, branch, id_of, kind_of, list_of, more_trees, no_trees, node_count, node_count_of_all, parts_of}
+use Rattle.go_tree.specs.Tree.{Tree, Trees, branch, id_of, more_trees, no_trees, node_count, node_count_of_all}
 use Rattle.go_text.specs.Copies.{with_copies}
 use Rattle.go_text.specs.Files.{IsFileOf}
 use Rattle.go_text.specs.Numbers.{all_numbered, numbered}
 use Rattle.go_graph.specs.Graph.{row_at}
-use Rattle.go_module.specs.declared.inner.Inner.{Inner}
-use Rattle.go_module.specs.declared.inner.Inner.TheVariants.{All, BehindFirst, BehindKey, BehindNames, First, Last, Neither, TypesAlone}
 use Rattle.go_module.specs.Modules.Module.{AreTrees, FileData, IsLoaded, ModuleData, PackageData, files_from, first_number, in_order, package_at}
 use Rattle.go_module.specs.Modules.Packages.{files_of, is_home}
 use Rattle.go_module.specs.Modules.Paths.{homes, own_paths}
 use Rattle.go_module.specs.Modules.Texts.{SourceText}
-use Rattle.go_module.specs.Names.Declarations.{Spec, behind_names, const_spec, specs_from, specs_in, specs_in_file, specs_of, values_behind}
-use Rattle.go_module.specs.Names.Inner.{all_behind, behind_key, first_alone, inner_by, inner_of, is_name_kind, is_named_param, is_tag_kind, is_unnamed_param, last_alone}
-use Rattle.go_module.specs.Names.Occurrences.{found_in, nodes_in, nodes_of_each}
-use Rattle.go_module.specs.NodeParts.{all_but_first}
-use Rattle.go_module.proofs.MemberLemmas.{cons_cases, contains_head, contains_none, contains_tail, range_more}
+use Rattle.go_module.proofs.MemberLemmas.{contains_head, contains_none, contains_tail, range_more}
 use Rattle.go_mod.specs.Folders.{Folder}
 use Rattle.go_load.specs.Loading.{IsModule}
 use Rattle.go_load.proofs.AssemblyLemmas.{one_place, order_once}
 use Rattle.go_load.proofs.FrontLemmas.{one_place_of, result_at}
 use Rattle.go_load.proofs.PathSetLemmas.{same}
 use Rattle.go_load.proofs.SlotLemmas.{passes}
-use Rattle.go_laws.specs.Complete.{values_in}
 use Rattle.go_laws.specs.NodeNumbers.{NodeNumbersAscend, nodes_by_end, nodes_by_end_among, nodes_in_files, numbers_in_files}
-use Rattle.go_laws.proofs.AskedLemmas.{flat_cases, flat_contains, map_cases, map_contains}
+use Rattle.go_laws.proofs.ListLemmas.{flat_cases, flat_contains, found_from, map_cases, map_contains}
+use Rattle.go_laws.proofs.PickedLemmas.{one_numbered, pairs_ascend}
 
 -- LISTS OF NUMBERS THAT ASCEND: the first is below the others, and two such lists, one below the other, make one
 
@@ -92,25 +85,8 @@ range_append a (suc m) n =
     ∙ ap (λ xs. a ∷ xs) (range_append (a + 1) m n)
     ∙ ap (λ b. a ∷ (range_with_len (a + 1) m ++ range_with_len b n)) start
 
--- EACH STANDS ONCE: of things whose numbers ascend, two with one number are one, and stand at one place
+-- EACH STANDS ONCE: of things whose numbers ascend, two with one number stand at one place
 module _ {X : Type 0} (number : X → ℕ) where
-  same_by : (z : X) (zs : List X) (x y : X) → Ascends (map number (z ∷ zs)) → number x ≡ number y → (z ≡ x) ⊎ Contains zs x → (z ≡ y) ⊎ Contains zs y → (Contains zs x → Contains zs y → x ≡ y) → x ≡ y
-  same_by z zs x y up e (inl here) (inl there) later = sym here ∙ there
-  same_by z zs x y up e (inl here) (inr there) later =
-      let below = first_below (number z) (map number zs) up (number y) (map_contains number zs y there) in
-      let is = ap number here in
-      absurd (omega (arith, below, is, e))
-  same_by z zs x y up e (inr there) (inl here) later =
-      let below = first_below (number z) (map number zs) up (number x) (map_contains number zs x there) in
-      let is = ap number here in
-      absurd (omega (arith, below, is, e))
-  same_by z zs x y up e (inr here) (inr there) later = later here there
-
-  pub same_item : (xs : List X) → Ascends (map number xs) → (x y : X) → Contains xs x → Contains xs y → number x ≡ number y → x ≡ y
-  same_item [] up x y h i e = absurd (contains_none x h)
-  same_item (z ∷ zs) up x y h i e =
-      same_by z zs x y up e (cons_cases z zs x h) (cons_cases z zs y i) (λ here there. same_item zs (rest_ascends (number z) (map number zs) up) x y here there e)
-
   pub stands_once : (xs ys us vs : List X) (x y : X) → Ascends (map number (xs ++ x ∷ ys)) → xs ++ x ∷ ys ≡ us ++ y ∷ vs → number x ≡ number y → (xs ≡ us) × (x ≡ y) × (ys ≡ vs)
   stands_once [] ys [] vs x y up same e =
       let first : x ≡ y = cc in
@@ -229,17 +205,13 @@ module _ (files : List FileData) where
   abbrev From : List ℕ → ℕ → Type 0
   From places n = (i : ℕ) × Contains places i × HasNumber files n i
 
-  from_by : (i : ℕ) (places : List ℕ) (n : ℕ) (found : Option FileData) → slice_get files i ≡ found → (Contains (numbers_in_files (picked places)) n → From places n) → Contains (numbers_in_files (cons_option found (picked places))) n → From (i ∷ places) n
-  from_by i places n None e later h = let there = later h in (there.0, contains_tail i places there.0 there.1, there.2)
-  from_by i places n (Some f) e later h =
-      ⊎_elim
-      (λ (here : Contains (numbers_in f.tree) n). (i, contains_head i places i refl, record { file = f; at = e; number = here }))
-      (λ (behind : Contains (numbers_in_files (picked places)) n). let there = later behind in (there.0, contains_tail i places there.0 there.1, there.2))
-      (Contains-append_cases (numbers_in f.tree) (numbers_in_files (picked places)) n (subst (λ (ns : List ℕ). Contains ns n) (files_joined f (picked places)) h))
-
   number_from : (places : List ℕ) (n : ℕ) → Contains (numbers_in_files (picked places)) n → From places n
-  number_from [] n h = absurd (contains_none n h)
-  number_from (i ∷ places) n h = from_by i places n (slice_get files i) refl (number_from places n) h
+  number_from places n h =
+      let node = map_cases id_of (nodes_in_files (picked places)) n h in
+      let from = flat_cases (λ (f : FileData). nodes_by_end f.tree) (picked places) node.0 node.1 in
+      let place = found_from (slice_get files) places from.0 from.1 in
+      let own : Contains (numbers_in from.0.tree) n = subst (λ (x : ℕ). Contains (numbers_in from.0.tree) x) node.2 (map_contains id_of (nodes_by_end from.0.tree) node.0 from.2) in
+      (place.0, place.1, record { file = from.0; at = place.2; number = own })
 
   module _ (own : (i : ℕ) (f : FileData) → slice_get files i ≡ Some f → Ascends (numbers_in f.tree))
       (before : (i j : ℕ) (f g : FileData) → i < j → slice_get files i ≡ Some f → slice_get files j ≡ Some g → (a b : ℕ) → Contains (numbers_in f.tree) a → Contains (numbers_in g.tree) b → a < b) where
@@ -365,7 +337,7 @@ in_files files f t h i = flat_contains (λ (g : FileData). nodes_by_end g.tree) 
 pub one_node : (m : ModuleData) → NodeNumbersAscend m → (k : ℕ) (p : PackageData) → slice_get m.packages k ≡ Some p → (f g : FileData) → Contains p.files f → Contains p.files g
     → (s t : Tree) → Contains (nodes_by_end f.tree) s → Contains (nodes_by_end g.tree) t → id_of s ≡ id_of t → s ≡ t
 one_node m up k p at f g in_f in_g s t h i e =
-    same_item id_of (nodes_in_files p.files) (up.ascend k p at) s t (in_files p.files f s in_f h) (in_files p.files g t in_g i) e
+    one_numbered id_of (nodes_in_files p.files) s t (pairs_ascend (numbers_in_files p.files) (up.ascend k p at)) (in_files p.files f s in_f h) (in_files p.files g t in_g i) e
 
 -- so are two nodes of a module
 pub one_node_of_module : (m : ModuleData) → NodeNumbersAscend m → (j k : ℕ) (p q : PackageData) → slice_get m.packages j ≡ Some p → slice_get m.packages k ≡ Some q
@@ -375,163 +347,9 @@ one_node_of_module m up j k p q at_j at_k s t h i e =
     (λ (same_place : j ≡ k).
     let one : Some q ≡ Some p = sym at_k ∙ ap (slice_get m.packages) (sym same_place) ∙ at_j in
     let is : q ≡ p = cc in
-    (same_place, same_item id_of (nodes_in_files p.files) (up.ascend j p at_j) s t h (subst (λ (r : PackageData). Contains (nodes_in_files r.files) t) is i) e))
+    (same_place, one_numbered id_of (nodes_in_files p.files) s t (pairs_ascend (numbers_in_files p.files) (up.ascend j p at_j)) h (subst (λ (r : PackageData). Contains (nodes_in_files r.files) t) is i) e))
     (λ (ne : j ≡ k → ⊥).
     absurd (up.apart j k p q ne at_j at_k (id_of t)
     (subst (λ (n : ℕ). Contains (numbers_in_files p.files) n) e (map_contains id_of (nodes_in_files p.files) s h))
     (map_contains id_of (nodes_in_files q.files) t i)))
     (cases_eq j k)
-
--- THE NODES OF EXPRESSIONS: each is a node of the file in which the expression stands
-
-pub self_by_end : (t : Tree) → Contains (nodes_by_end t) t
-self_by_end (branch id from to kind text parts) = Contains-push (nodes_by_end_among parts) (branch id from to kind text parts)
-
-among_parts : (ts : Trees) (t s : Tree) → Contains (list_of ts) t → Contains (nodes_by_end t) s → Contains (nodes_by_end_among ts) s
-among_parts no_trees t s h i = absurd (contains_none t h)
-among_parts (more_trees u ts) t s h i = by_cases (cons_cases u (list_of ts) t h) (λ there. among_parts ts t s there i)
-  where
-    by_cases : (u ≡ t) ⊎ Contains (list_of ts) t → (Contains (list_of ts) t → Contains (nodes_by_end_among ts) s) → Contains (nodes_by_end u ++ nodes_by_end_among ts) s
-    by_cases (inl here) later = Contains-append_left (nodes_by_end u) (nodes_by_end_among ts) s (subst (λ (v : Tree). Contains (nodes_by_end v) s) (sym here) i)
-    by_cases (inr there) later = Contains-append_right (nodes_by_end u) (nodes_by_end_among ts) s (later there)
-
--- a tree all of whose nodes are nodes of another
-abbrev pub IsUnder : Tree → Tree → Type 0
-IsUnder top t = (s : Tree) → Contains (nodes_by_end t) s → Contains (nodes_by_end top) s
-
-pub part_under : (top t part : Tree) → IsUnder top t → Contains (list_of (parts_of t)) part → IsUnder top part
-part_under top (branch id from to kind text parts) part under h s i =
-    under s (Contains-append_left (nodes_by_end_among parts) (branch id from to kind text parts ∷ []) s (among_parts parts part s h i))
-
--- what is left of a list stands in it
-module _ {X : Type 0} (tree : X → Tree) where
-  filter_kept : (test : X → Bool) (xs : List X) (x : X) → Contains (filter test xs) x → Contains xs x
-  filter_kept test [] x h = h
-  filter_kept test (y ∷ ys) x h = by_test (test y) h (filter_kept test ys x)
-    where
-      by_test : (b : Bool) → Contains (cond b (y ∷ filter test ys) (filter test ys)) x → (Contains (filter test ys) x → Contains ys x) → Contains (y ∷ ys) x
-      by_test true h later = ⊎_elim (λ (here : y ≡ x). contains_head y ys x here) (λ (there : Contains (filter test ys) x). contains_tail y ys x (later there)) (cons_cases y (filter test ys) x h)
-      by_test false h later = contains_tail y ys x (later h)
-
-  first_kept : (xs : List X) (x : X) → Contains (first_alone tree xs) x → Contains xs x
-  first_kept [] x h = h
-  first_kept (y ∷ ys) x h = ⊎_elim (λ (here : y ≡ x). contains_head y ys x here) (λ (none : Contains [] x). absurd (contains_none x none)) (cons_cases y [] x h)
-
-  last_kept : (xs : List X) (x : X) → Contains (last_alone tree xs) x → Contains xs x
-  last_kept [] x h = h
-  last_kept (y ∷ []) x h = h
-  last_kept (y ∷ (z ∷ zs)) x h = contains_tail y (z ∷ zs) x (last_kept (z ∷ zs) x h)
-
-  behind_kept : (xs : List X) (x : X) → Contains (all_behind tree xs) x → Contains xs x
-  behind_kept [] x h = h
-  behind_kept (y ∷ ys) x h = contains_tail y ys x h
-
-  key_by : (y : X) (ys : List X) (x : X) (b : Bool) → Contains (if b then ys else y ∷ ys) x → Contains (y ∷ ys) x
-  key_by y ys x true h = contains_tail y ys x h
-  key_by y ys x false h = h
-
-  key_kept : (xs : List X) (x : X) → Contains (behind_key tree xs) x → Contains xs x
-  key_kept [] x h = h
-  key_kept (y ∷ ys) x h = key_by y ys x (is_name_kind (kind_of (tree y))) h
-
-  types_by : (xs ys : List X) (x : X) (b : Bool) → (Contains ys x → Contains xs x) → Contains (if b then ys else xs) x → Contains xs x
-  types_by xs ys x true fewer h = fewer h
-  types_by xs ys x false fewer h = h
-
-  inner_kept : (inner : Inner) (xs : List X) (x : X) → Contains (inner_by tree inner xs) x → Contains xs x
-  inner_kept All xs x h = h
-  inner_kept First xs x h = first_kept xs x h
-  inner_kept Last xs x h = last_kept xs x h
-  inner_kept BehindFirst xs x h = behind_kept xs x h
-  inner_kept BehindNames xs x h =
-      filter_kept (λ y. not (is_tag_kind (kind_of (tree y)))) xs x (last_kept (filter (λ y. not (is_tag_kind (kind_of (tree y)))) xs) x h)
-  inner_kept BehindKey xs x h = key_kept xs x h
-  inner_kept TypesAlone xs x h =
-      types_by xs (filter (λ y. not (is_unnamed_param (kind_of (tree y)))) xs) x (list_any (λ y. is_named_param (kind_of (tree y))) xs)
-      (filter_kept (λ y. not (is_unnamed_param (kind_of (tree y)))) xs x) h
-  inner_kept Neither xs x h = absurd (contains_none x h)
-
--- the nodes inside an expression are nodes of it
-mutual
-  pub inside : (t s : Tree) → Contains (nodes_in t) s → Contains (nodes_by_end t) s
-  inside (branch id from to kind text parts) s h =
-      ⊎_elim
-      (λ (here : branch id from to kind text parts ≡ s). subst (λ (u : Tree). Contains (nodes_by_end (branch id from to kind text parts)) u) here (self_by_end (branch id from to kind text parts)))
-      (λ (there : Contains (found_in kind (nodes_of_each parts)) s).
-      let from_part = flat_cases (λ (part : Tree × List Tree). part.1) (inner_by (λ (part : Tree × List Tree). part.0) (inner_of kind) (nodes_of_each parts)) s there in
-      let part = inner_kept (λ (part : Tree × List Tree). part.0) (inner_of kind) (nodes_of_each parts) from_part.0 from_part.1 in
-      Contains-append_left (nodes_by_end_among parts) (branch id from to kind text parts ∷ []) s (inside_each parts from_part.0 part s from_part.2))
-      (cons_cases (branch id from to kind text parts) (found_in kind (nodes_of_each parts)) s h)
-
-  inside_each : (ts : Trees) (part : Tree × List Tree) → Contains (nodes_of_each ts) part → (s : Tree) → Contains part.1 s → Contains (nodes_by_end_among ts) s
-  inside_each no_trees part h s i = absurd (contains_none part h)
-  inside_each (more_trees t ts) part h s i =
-      ⊎_elim
-      (λ (here : (t, nodes_in t) ≡ part).
-      Contains-append_left (nodes_by_end t) (nodes_by_end_among ts) s (inside t s (subst (λ (x : Tree × List Tree). Contains x.1 s) (sym here) i)))
-      (λ (there : Contains (nodes_of_each ts) part). Contains-append_right (nodes_by_end t) (nodes_by_end_among ts) s (inside_each ts part there s i))
-      (cons_cases (t, nodes_in t) (nodes_of_each ts) part h)
-
--- the expressions of a spec are under it
-module _ (top : Tree) where
-  abbrev AllUnder : List Tree → Type 0
-  AllUnder xs = (x : Tree) → Contains xs x → IsUnder top x
-
-  copied_under : (c : Tree) → AllUnder (c ∷ []) → AllUnder (list_of (parts_of c))
-  copied_under c under x h = part_under top c x (under c (contains_head c [] c refl)) h
-
-  behind_under : (xs : List Tree) → AllUnder xs → AllUnder (behind_names xs)
-  behind_under (branch id from to ConstCopy text parts ∷ []) under = copied_under (branch id from to ConstCopy text parts) under
-  behind_under xs under = under
-
-  values_under : (xs : List Tree) → AllUnder xs → AllUnder (values_behind xs)
-  values_under [] under x h = absurd (contains_none x h)
-  values_under (l ∷ []) under x h = part_under top l x (under l (contains_head l [] l refl)) h
-  values_under (t ∷ (l ∷ [])) under x h = part_under top l x (under l (contains_tail t (l ∷ []) l (contains_head l [] l refl))) h
-  values_under (t ∷ (l ∷ (u ∷ us))) under x h = absurd (contains_none x h)
-
-rest_there : (ts : Trees) (x : Tree) → Contains (all_but_first ts) x → Contains (list_of ts) x
-rest_there no_trees x h = h
-rest_there (more_trees t ts) x h = contains_tail t (list_of ts) x h
-
-spec_under : (top spec : Tree) → IsUnder top spec → (file : ℕ) (t : Tree) → Contains (const_spec file spec).values t → IsUnder top t
-spec_under top spec under file t h =
-    values_under top (behind_names (all_but_first (parts_of spec)))
-    (behind_under top (all_but_first (parts_of spec)) (λ x there. part_under top spec x under (rest_there (parts_of spec) x there))) t h
-
--- the specs of a declaration are its parts
-spec_is : (file : ℕ) (declaration : Tree) (spec : Spec) → Contains (specs_in file declaration) spec → (node : Tree) × Contains (list_of (parts_of declaration)) node × (const_spec file node ≡ spec)
-spec_is file (branch id from to ConstDecl text parts) spec h = map_cases (const_spec file) (list_of parts) spec h
-spec_is file (branch id from to ConstGroup text parts) spec h = map_cases (const_spec file) (list_of parts) spec h
-spec_is file (branch id from to kind text parts) spec h = absurd (contains_none spec h)
-
-in_file : (file : ℕ) (tree : Tree) (spec : Spec) → Contains (specs_in_file file tree) spec → (t : Tree) → Contains spec.values t → IsUnder tree t
-in_file file tree spec h t value =
-    let declaration = flat_cases (specs_in file) (list_of (parts_of tree)) spec h in
-    let node = spec_is file declaration.0 spec declaration.2 in
-    let under = part_under tree declaration.0 node.0 (part_under tree tree declaration.0 (λ s i. i) declaration.1) node.1 in
-    spec_under tree node.0 under file t (subst (λ (x : Spec). Contains x.values t) (sym node.2) value)
-
--- the file of an expression of a package
-pub record IsInFile (files : List FileData) (t : Tree) : Type 0 where
-  pub file : FileData
-  pub among : Contains files file
-  pub under : IsUnder file.tree t
-
-in_some_file : (place : ℕ) (files : List FileData) (spec : Spec) → Contains (specs_from place files) spec → (t : Tree) → Contains spec.values t → IsInFile files t
-in_some_file place [] spec h t value = absurd (contains_none spec h)
-in_some_file place (f ∷ files) spec h t value =
-    ⊎_elim
-    (λ (here : Contains (specs_in_file place f.tree) spec). record { file = f; among = contains_head f files f refl; under = in_file place f.tree spec here t value })
-    (λ (there : Contains (specs_from (place + 1) files) spec). let later = in_some_file (place + 1) files spec there t value in
-    record { file = later.file; among = contains_tail f files later.file later.among; under = later.under })
-    (Contains-append_cases (specs_in_file place f.tree) (specs_from (place + 1) files) spec h)
-
-pub file_of_value : (p : PackageData) (t : Tree) → Contains (values_in p) t → IsInFile p.files t
-file_of_value p t h =
-    let spec = flat_cases (λ (spec : Spec). spec.values) (specs_of p) t h in
-    in_some_file 0 p.files spec.0 spec.1 t spec.2
-
--- each node of an expression of a package is a node of one of its files
-pub nodes_are_there : (p : PackageData) (t : Tree) → Contains (values_in p) t → (s : Tree) → Contains (nodes_in t) s → (f : FileData) × Contains p.files f × Contains (nodes_by_end f.tree) s
-nodes_are_there p t h s i = let there = file_of_value p t h in (there.file, there.among, there.under s (inside t s i))

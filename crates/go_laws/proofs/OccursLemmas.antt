@@ -1,5 +1,5 @@
 -- An identifier that is asked for a record occurs: by itself, or before a `.` behind which no name of a package stands.
-use Rattle.std.proofs.Common.{◌≡◌, ℕ, Option, List, [], ◌∷◌, ◌++◌, ◌⊎◌, inl, inr, Contains, refl, sym, ap, ◌∙◌, subst}
+use Rattle.std.proofs.Common.{◌≡◌, ℕ, Option, List, [], ◌∷◌, ◌++◌, ◌⊎◌, inl, inr, Contains, refl, ap, ◌∙◌}
 use Rattle.std.specs.List.{flat_map}
 use Rattle.std.proofs.lemmas.List.Elements.{Contains-append_cases, Contains-append_left, Contains-append_right}
 use Rattle.go_graph.specs.Graph.{row_at}
@@ -7,27 +7,14 @@ use Rattle.go_tree.specs.declared.node_kind.NodeKind.TheVariants.{AddExpr, IntLi
 use Rattle.go_tree.specs.Tree.{Tree, branch, id_of, kind_of, more_trees, no_trees, start_of, text_of}
 use Rattle.go_module.specs.declared.block.Occurrence.{Occurrence}
 use Rattle.go_module.specs.Names.Occurrences.{names_in, occurrence, selecting, with_selected}
-use Rattle.go_module.proofs.MemberLemmas.{cons_cases, contains_head, contains_none}
+use Rattle.go_module.proofs.MemberLemmas.{cons_cases, contains_head}
 use Rattle.go_model.specs.declared.meaning.Meaning.{Meaning}
 use Rattle.go_model.specs.declared.meaning.Meaning.TheVariants.{Declared, Other, Predeclared}
 use Rattle.go_model.specs.Outcomes.Constructs.Name.{name as name_construct}
 use Rattle.go_model.specs.Outcomes.Constructs.Selector.{selector as selector_construct}
-use Rattle.go_laws.specs.BuiltTrees.{IsBuilt, IsNameLeaf, literal, name, parentheses, selector, sum}
+use Rattle.go_laws.specs.BuiltTrees.{IsBuilt, IsIdentifier, identifier, integer, name, parentheses, selector, sum}
 use Rattle.go_laws.specs.Complete.{asked_in, asked_in_each}
-
-only_is : {X : Type 0} (x y : X) → Contains (x ∷ []) y → x ≡ y
-only_is x y h = by_cases (cons_cases x [] y h)
-  where
-    by_cases : (x ≡ y) ⊎ Contains [] y → x ≡ y
-    by_cases (inl same) = same
-    by_cases (inr none) = absurd (contains_none y none)
-
-in_front : {X : Type 0} (xs : List X) (y : X) → Contains (xs ++ []) y → Contains xs y
-in_front xs y h = by_cases (Contains-append_cases xs [] y h)
-  where
-    by_cases : Contains xs y ⊎ Contains [] y → Contains xs y
-    by_cases (inl here) = here
-    by_cases (inr none) = absurd (contains_none y none)
+use Rattle.go_laws.proofs.ListLemmas.{in_front, only_is}
 
 module _ (means : ℕ → Meaning) (file : ℕ) (told_at : Option ℕ) where
   -- before a `.`, and what stands behind it denotes nothing
@@ -48,7 +35,7 @@ module _ (means : ℕ → Meaning) (file : ℕ) (told_at : Option ℕ) where
   occurs_right xs ys o (inr before) = inr (record { selected = before.selected; among = Contains-append_right xs ys (selecting file told_at before.selected o) before.among; other = before.other })
 
   -- an identifier asks for no other record
-  name_alone : (m : Meaning) (t s : Tree) (rows : List (List Tree)) → Contains (t ∷ flat_map (row_at rows) (name_construct m).operands) s → t ≡ s
+  pub name_alone : (m : Meaning) (t s : Tree) (rows : List (List Tree)) → Contains (t ∷ flat_map (row_at rows) (name_construct m).operands) s → t ≡ s
   name_alone (Declared d) t s rows h = only_is t s h
   name_alone Predeclared t s rows h = only_is t s h
   name_alone Other t s rows h = only_is t s h
@@ -57,7 +44,7 @@ module _ (means : ℕ → Meaning) (file : ℕ) (told_at : Option ℕ) where
   same_occurrence t s same = ap (λ r. occurrence file told_at (id_of r) (start_of r) (text_of r)) same
 
   -- what stands before a `.` is asked only where what stands behind it denotes nothing
-  selector_cases : (m meant : Meaning) → meant ≡ m → (t s : Tree) (xs ys : List Tree) → Contains (t ∷ flat_map (row_at (xs ∷ (ys ∷ []))) (selector_construct m).operands) s → (t ≡ s) ⊎ (Contains xs s × (meant ≡ Other))
+  pub selector_cases : (m meant : Meaning) → meant ≡ m → (t s : Tree) (xs ys : List Tree) → Contains (t ∷ flat_map (row_at (xs ∷ (ys ∷ []))) (selector_construct m).operands) s → (t ≡ s) ⊎ (Contains xs s × (meant ≡ Other))
   selector_cases (Declared d) meant e t s xs ys h = inl (only_is t s h)
   selector_cases Predeclared meant e t s xs ys h = inl (only_is t s h)
   selector_cases Other meant e t s xs ys h = by_cases (cons_cases t (xs ++ []) s h)
@@ -66,22 +53,17 @@ module _ (means : ℕ → Meaning) (file : ℕ) (told_at : Option ℕ) where
       by_cases (inl same) = inl same
       by_cases (inr there) = inr (in_front xs s there, e)
 
-  leaf_before : (own start end : ℕ) (letters : List ℕ) (f s : Tree) → Contains (asked_in means (branch own start end Name letters no_trees)) s
-      → Contains (with_selected file told_at (branch own start end Name letters no_trees) f (names_in file told_at (branch own start end Name letters no_trees))) (selecting file told_at f (occurrence file told_at (id_of s) (start_of s) (text_of s)))
-  leaf_before own start end letters f s h =
-      let same = name_alone (means own) (branch own start end Name letters no_trees) s (asked_in_each means no_trees) h in
-      contains_head (selecting file told_at f (occurrence file told_at own start letters)) [] (selecting file told_at f (occurrence file told_at (id_of s) (start_of s) (text_of s))) (ap (selecting file told_at f) (same_occurrence (branch own start end Name letters no_trees) s same))
-
-  before_it : (x f s : Tree) → IsNameLeaf x → Contains (asked_in means x) s → Contains (with_selected file told_at x f (names_in file told_at x)) (selecting file told_at f (occurrence file told_at (id_of s) (start_of s) (text_of s)))
-  before_it x f s leaf =
-      subst (λ (y : Tree). Contains (asked_in means y) s → Contains (with_selected file told_at y f (names_in file told_at y)) (selecting file told_at f (occurrence file told_at (id_of s) (start_of s) (text_of s)))) (sym leaf.is)
-      (leaf_before leaf.id leaf.from leaf.to leaf.text f s)
+  before_it : {x : Tree} → IsIdentifier x → (f s : Tree) → Contains (asked_in means x) s
+      → Contains (with_selected file told_at x f (names_in file told_at x)) (selecting file told_at f (occurrence file told_at (id_of s) (start_of s) (text_of s)))
+  before_it (identifier id from to text) f s h =
+      let same = name_alone (means id) (branch id from to Name text no_trees) s (asked_in_each means no_trees) h in
+      contains_head (selecting file told_at f (occurrence file told_at id from text)) [] (selecting file told_at f (occurrence file told_at (id_of s) (start_of s) (text_of s))) (ap (selecting file told_at f) (same_occurrence (branch id from to Name text no_trees) s same))
 
   abbrev occurring : Tree → Tree → Type 0
   occurring t s = Occurs (names_in file told_at t) (occurrence file told_at (id_of s) (start_of s) (text_of s))
 
   pub asked_occurs : {t : Tree} → IsBuilt t → (s : Tree) → kind_of s ≡ Name → Contains (asked_in means t) s → occurring t s
-  asked_occurs (literal id from to text) s is h =
+  asked_occurs (integer id from to text) s is h =
       let same = only_is (branch id from to IntLit text no_trees) s h in
       absurd (let never : IntLit ≡ Name = ap kind_of same ∙ is in cc)
   asked_occurs (name id from to text) s is h =
@@ -91,7 +73,7 @@ module _ (means : ℕ → Meaning) (file : ℕ) (told_at : Option ℕ) where
     where
       by_cases : (branch id from to SelectorExpr text (more_trees x (more_trees f no_trees)) ≡ s) ⊎ (Contains (asked_in means x) s × (means (id_of f) ≡ Other)) → occurring (branch id from to SelectorExpr text (more_trees x (more_trees f no_trees))) s
       by_cases (inl same) = absurd (let never : SelectorExpr ≡ Name = ap kind_of same ∙ is in cc)
-      by_cases (inr inside) = inr (record { selected = f; among = before_it x f s leaf inside.0; other = inside.1 })
+      by_cases (inr inside) = inr (record { selected = f; among = before_it leaf f s inside.0; other = inside.1 })
   asked_occurs (parentheses id from to text x built) s is h = by_cases (cons_cases (branch id from to ParenExpr text (more_trees x no_trees)) (asked_in means x ++ []) s h) (asked_occurs built s is)
     where
       by_cases : (branch id from to ParenExpr text (more_trees x no_trees) ≡ s) ⊎ Contains (asked_in means x ++ []) s → (Contains (asked_in means x) s → occurring x s) → occurring (branch id from to ParenExpr text (more_trees x no_trees)) s

@@ -16,7 +16,7 @@ use Rattle.go_module.specs.Names.Universe.{universe}
 use Rattle.go_module.proofs.MemberLemmas.{contains_head, contains_tail}
 use Rattle.go_scope.specs.Held.{innermost, only_of}
 use Rattle.go_scope.proofs.ResolutionLemmas.{declared_is, innermost_is}
-use Rattle.go_laws.proofs.EmptyLemmas.{none_of_each, not_told}
+use Rattle.go_laws.proofs.ListLemmas.{none_of_each, not_told}
 
 text_is : (a b : List ℕ) → same_text a b ≡ true → a ≡ b
 text_is a b e = (bytes_eq-Decides a b).0 e

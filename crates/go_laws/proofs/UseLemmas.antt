@@ -27,7 +27,7 @@ use Rattle.go_module.specs.Names.Tables.{Member, member_of, members_at, occurren
 use Rattle.go_module.specs.Scopes.{same_node}
 use Rattle.go_module.proofs.TableLemmas.{node_denotes, node_found}
 use Rattle.go_model.specs.Values.Meaning.{uses_table}
-use Rattle.go_laws.specs.NodeNumbers.{nodes_by_end, nodes_by_end_among, numbers_in_files}
+use Rattle.go_laws.specs.NodeNumbers.{nodes_by_end, nodes_by_end_among, nodes_in_files, numbers_in_files}
 use Rattle.go_laws.proofs.PickedLemmas.{Ascending, Picked, none, one_numbered, pairs_ascend, picked_ascend, picked_behind, picked_both, picked_flat, picked_front, picked_inner, picked_self, picked_through}
 
 -- the numbers of the nodes of a tree, a node behind its parts
@@ -137,9 +137,10 @@ file_numbers file (branch id from to kind text parts) = picked_front (id ∷ [])
 files_numbers : (file : ℕ) (files : List FileData) → Picked (numbers_in (occurrences_from file files)) (numbers_in_files files)
 files_numbers file [] = none
 files_numbers file (f ∷ files) =
-    both_numbers (occurrences_in_file file f.tree) (occurrences_from (file + 1) files) (map id_of (nodes_by_end f.tree)) (numbers_in_files files)
+    subst (λ (ns : List ℕ). Picked (numbers_in (occurrences_from file (f ∷ files))) ns) (sym (map-append id_of (nodes_by_end f.tree) (nodes_in_files files)))
+    (both_numbers (occurrences_in_file file f.tree) (occurrences_from (file + 1) files) (map id_of (nodes_by_end f.tree)) (numbers_in_files files)
     (subst (λ (ns : List ℕ). Picked (numbers_in (occurrences_in_file file f.tree)) ns) (sym (ends_are f.tree)) (file_numbers file f.tree))
-    (files_numbers (file + 1) files)
+    (files_numbers (file + 1) files))
 
 -- and those of uses from those of occurrences
 abbrev use_number : NodeId × ObjId → ℕ

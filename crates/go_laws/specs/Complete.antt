@@ -1,42 +1,62 @@
--- Constant declarations; Constant expressions (Go specification).
--- Says which nodes of an expression are asked for records, and what it is that a package is complete.
-use Rattle.std.specs.Prelude.{◌≡◌, ℕ, ℤ, ◌<◌, Some, List, [], ◌∷◌, Contains, IsSome, length}
+-- Constant declarations; Constant expressions; Packages; Package initialization (Go specification).
+-- Says which nodes of an expression are asked for records, what it is that a package is complete, and through which
+-- states the check of a module goes.
+use Rattle.std.specs.Prelude.{◌≡◌, ℕ, ◌+◌, Bool, true, false, Some, List, [], ◌∷◌, ◌++◌, Contains, IsSome, slice_get}
 use Rattle.std.specs.List.{flat_map}
 use Rattle.go_graph.specs.Graph.{row_at}
-use Rattle.go_tree.specs.Tree.{Tree, Trees, branch, list_of, more_trees, no_trees, parts_of}
-use Rattle.go_module.specs.Modules.Module.{PackageData}
+use Rattle.go_tree.specs.Tree.{Tree, Trees, branch, list_of, more_trees, no_trees}
+use Rattle.go_module.specs.Modules.Module.{ModuleData, PackageData}
 use Rattle.go_module.specs.Names.Declarations.{Declaration, declarations_of, number_of, specs_of}
 use Rattle.go_model.specs.declared.meaning.Meaning.{Meaning}
-use Rattle.go_model.specs.Outcomes.Judged.{Asks, Construct}
 use Rattle.go_model.specs.Outcomes.Walk.{Headers, construct}
+use Rattle.go_model.specs.Phases.{IsVerdict, imports_accepted, is_accepted, no_headers}
+use Rattle.go_model.specs.Report.{LineData, NamedData, VerdictData, accepted}
 use Rattle.go_model.specs.Values.Records.{record_of}
-
-abbrev pub construct_of : (ℕ → Meaning) → Tree → Construct ℤ ℤ
-construct_of means (branch id from to kind text parts) = construct means id kind text (list_of parts)
 
 -- the nodes of an expression that are asked for records: itself, and those of its operands
 abbrev mutual
   pub asked_in : (ℕ → Meaning) → Tree → List Tree
-  asked_in means (branch id from to kind text parts) = branch id from to kind text parts ∷ flat_map (row_at (asked_in_each means parts)) (construct means id kind text (list_of parts)).operands
+  asked_in means (branch id from to kind text parts) =
+      branch id from to kind text parts
+      ∷ flat_map (row_at (asked_in_each means parts)) (construct means id kind text (list_of parts)).operands
 
   pub asked_in_each : (ℕ → Meaning) → Trees → List (List Tree)
   asked_in_each means no_trees = []
   asked_in_each means (more_trees t ts) = asked_in means t ∷ asked_in_each means ts
 
--- a node's operands are parts of it, and with any records of these something is asked of it
-pub record IsAsked (means : ℕ → Meaning) (t : Tree) : Type 0 where
-  pub within : (n : ℕ) → Contains (construct_of means t).operands n → n < length (list_of (parts_of t))
-  pub asks : (records : List ℤ) → length records ≡ length (construct_of means t).operands → (a : Asks ℤ ℤ) × ((construct_of means t).asks records ≡ Some a)
-
--- so it is of each node of these expressions that is asked for a record
-abbrev pub AreAsked : (ℕ → Meaning) → List Tree → Type 0
-AreAsked means trees = (t : Tree) → Contains trees t → (s : Tree) → Contains (asked_in means t) s → IsAsked means s
-
--- the expressions of the declarations of a package
+-- the expressions of the declarations of a package, with the copies that stand for omitted lists; no types
 abbrev pub values_in : PackageData → List Tree
 values_in p = flat_map (λ spec. spec.values) (specs_of p)
 
--- each declaration has a header, and each node of these expressions that is asked for a record has one
+-- each declaration of the package has a header, and each node of these expressions that is asked for a record has one
 pub record IsComplete (means : ℕ → Meaning) (headers : Headers) (p : PackageData) : Type 0 where
   pub declared : (d : Declaration) → Contains (declarations_of p) d → IsSome (headers (number_of d).0)
-  pub recorded : (t : Tree) → Contains (values_in p) t → (s : Tree) → Contains (asked_in means t) s → IsSome (record_of means headers s)
+  pub recorded : (t : Tree) → Contains (values_in p) t → (s : Tree) → Contains (asked_in means t) s
+      → IsSome (record_of means headers s)
+
+-- STATES OF THE CHECK
+
+-- each package before a place is checked, or skipped since one that it imports is not accepted: the marks say which are
+-- accepted, and these headers are known
+pub data IsReached (m : ModuleData) : ℕ → List Bool → Headers → Type 0 where
+  first : IsReached m 0 [] no_headers
+  skips : (k : ℕ) (marks : List Bool) (before : Headers) (p : PackageData)
+      → IsReached m k marks before → slice_get m.packages k ≡ Some p → imports_accepted marks p ≡ false
+      → IsReached m (k + 1) (marks ++ false ∷ []) before
+  checks : (k : ℕ) (marks : List Bool) (before after : Headers) (verdict : VerdictData) (p : PackageData)
+      → IsReached m k marks before → slice_get m.packages k ≡ Some p → imports_accepted marks p ≡ true
+      → IsVerdict m k p before verdict after
+      → IsReached m (k + 1) (marks ++ is_accepted verdict ∷ []) after
+
+-- the check of a module comes to this place with marks by which the imports of this package are accepted, and the
+-- package is accepted there with this verdict; that it is the module's package at that place is not said
+pub record IsAcceptedAt (m : ModuleData) (k : ℕ) (p : PackageData) (verdict : VerdictData) : Type 0 where
+  pub marks : List Bool
+  pub before : Headers
+  pub after : Headers
+  pub lines : List LineData
+  pub named : List NamedData
+  pub is : verdict ≡ accepted lines named
+  pub reached : IsReached m k marks before
+  pub imports : imports_accepted marks p ≡ true
+  pub verdict_is : IsVerdict m k p before (accepted lines named) after

@@ -1,4 +1,3 @@
 pub mod Complete
 pub mod NodeNumbers
 pub mod BuiltTrees
-pub mod Denoting

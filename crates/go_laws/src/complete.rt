@@ -1,18 +1,30 @@
 // What an accepted package has (Go specification, "Constant declarations", "Constant expressions"). A law is the
 // contract of a function that does nothing.
-ghost use Rattle.std.specs.Prelude.{ℕ, List};
+ghost use Rattle.std.specs.Prelude.{◌≡◌, ℕ, Bool, Some, true, List, slice_get};
+ghost use Rattle.go_mod.specs.Folders.{Folder};
 ghost use Rattle.go_module.specs.Modules.Module.{ModuleData, PackageData};
+ghost use Rattle.go_load.specs.Loading.{IsModule};
 ghost use Rattle.go_model.specs.Outcomes.Walk.{Headers};
-ghost use Rattle.go_model.specs.Phases.{IsVerdict};
-ghost use Rattle.go_model.specs.Report.{LineData, NamedData, accepted};
+ghost use Rattle.go_model.specs.Phases.{IsVerdict, ReportOf, imports_accepted, is_accepted};
+ghost use Rattle.go_model.specs.Report.{LineData, NamedData, PackageReportData, ReportData, accepted};
 ghost use Rattle.go_model.specs.Values.Meaning.{meaning_in};
-ghost use Rattle.go_laws.specs.Complete.{AreAsked, IsComplete, values_in};
+ghost use Rattle.go_laws.specs.Complete.{IsAcceptedAt, IsComplete, IsReached};
 
-/// In an accepted package of which something is asked at each node that is asked for a record, each declaration has a
-/// header, and each of these nodes a record. Something is asked at what is built and, of identifiers, at those that
-/// denote what can have a header.
+/// Where the check of a module that is loaded comes to a package whose imports are accepted, and accepts it, each
+/// declaration of the package has a header, and each node of its expressions that is asked for a record has one.
 pub fn accepted_is_complete()
-    ensures { (m : ModuleData) (k : ℕ) (p : PackageData) (before after : Headers) (lines : List LineData) (named : List NamedData)
-        → IsVerdict m k p before (accepted lines named) after → AreAsked (meaning_in m k p before) (values_in p)
+    ensures { (own stubs : Folder) (m : ModuleData) → IsModule own stubs m
+        → (k : ℕ) (marks : List Bool) (p : PackageData) (before after : Headers)
+        → (lines : List LineData) (named : List NamedData)
+        → IsReached m k marks before → slice_get m.packages k ≡ Some p → imports_accepted marks p ≡ true
+        → IsVerdict m k p before (accepted lines named) after
         → IsComplete (meaning_in m k p before) after p }
+{}
+
+/// The check of a module comes so to each package that the report of the module calls accepted.
+pub fn reports_are_reached()
+    ensures { (m : ModuleData) (report : ReportData) → ReportOf m report
+        → (k : ℕ) (p : PackageData) (r : PackageReportData)
+        → slice_get m.packages k ≡ Some p → slice_get report.packages k ≡ Some r
+        → is_accepted r.verdict ≡ true → IsAcceptedAt m k p r.verdict }
 {}

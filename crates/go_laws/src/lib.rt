@@ -1,11 +1,16 @@
 //! Laws that join what the crates below define.
 //!
-//! `accepted_is_complete`: in an accepted package each declaration has a header, and each node of an expression that is
-//! asked for a record has one. `node_numbers_ascend`: each node of a module has a number of its own.
+//! `accepted_is_complete`: where the check of a module that is loaded accepts a package, each declaration of it has a
+//! header, and each node of an expression that is asked for a record has one.
+//! `reports_are_reached`: it comes so to each package that its report calls accepted.
+//! `node_numbers_ascend`: each node of a module that is loaded has a number of its own.
+//! `values_are_built`: in such a module each expression of a declaration is made of what is built.
 #![tactic(auto)]
 
+mod built;
 mod complete;
 mod numbers;
 
-pub use complete::accepted_is_complete;
+pub use built::values_are_built;
+pub use complete::{accepted_is_complete, reports_are_reached};
 pub use numbers::node_numbers_ascend;

@@ -1,5 +1,5 @@
-use Rattle.go_laws.proofs.CompleteLemmas.{complete}
+use Rattle.go_laws.proofs.ReachedLemmas.{accepted_complete}
 use Rattle.go_laws.proofs.complete.accepted_is_complete.Goals as goal
 
 pub returns : goal.returns
-returns c = complete
+returns c = accepted_complete

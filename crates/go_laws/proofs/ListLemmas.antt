@@ -1,0 +1,97 @@
+-- What stands in a list that is made of others; and what makes an empty list makes nothing.
+use Rattle.std.proofs.Common.{◌≡◌, Bool, true, false, Option, Some, None, List, [], ◌∷◌, ◌++◌, ◌⊎◌, inl, inr, map, Contains, refl, sym, ap, ◌∙◌, subst}
+use Rattle.std.specs.List.{cons_option, filter_map, flat_map}
+use Rattle.std.proofs.lemmas.List.Elements.{Contains-append_cases, Contains-append_left, Contains-append_right}
+use Rattle.go_base.specs.declared.rule.Broken.{Broken}
+use Rattle.go_module.specs.Broken.{told_if}
+use Rattle.go_module.proofs.MemberLemmas.{cons_cases, contains_head, contains_none, contains_tail}
+
+-- WHAT STANDS IN A LIST
+
+pub only_is : {X : Type 0} (x y : X) → Contains (x ∷ []) y → x ≡ y
+only_is x y h = by_cases (cons_cases x [] y h)
+  where
+    by_cases : (x ≡ y) ⊎ Contains [] y → x ≡ y
+    by_cases (inl same) = same
+    by_cases (inr none) = absurd (contains_none y none)
+
+pub in_front : {X : Type 0} (xs : List X) (y : X) → Contains (xs ++ []) y → Contains xs y
+in_front xs y h = by_cases (Contains-append_cases xs [] y h)
+  where
+    by_cases : Contains xs y ⊎ Contains [] y → Contains xs y
+    by_cases (inl here) = here
+    by_cases (inr none) = absurd (contains_none y none)
+
+-- what stands in a list that is made of several, or of another
+pub flat_cases : {X Y : Type 0} (f : X → List Y) (xs : List X) (y : Y) → Contains (flat_map f xs) y → (x : X) × Contains xs x × Contains (f x) y
+flat_cases {X = X} f [] y h = absurd (contains_none y h)
+flat_cases {X = X} f (x ∷ xs) y h = by_either (Contains-append_cases (f x) (flat_map f xs) y h) (flat_cases f xs y)
+  where
+    by_either : Contains (f x) y ⊎ Contains (flat_map f xs) y → (Contains (flat_map f xs) y → (z : X) × Contains xs z × Contains (f z) y) → (z : X) × Contains (x ∷ xs) z × Contains (f z) y
+    by_either (inl here) later = (x, contains_head x xs x refl, here)
+    by_either (inr there) later = let found = later there in (found.0, contains_tail x xs found.0 found.1, found.2)
+
+pub flat_contains : {X Y : Type 0} (f : X → List Y) (xs : List X) (x : X) (y : Y) → Contains xs x → Contains (f x) y → Contains (flat_map f xs) y
+flat_contains f [] x y h i = absurd (contains_none x h)
+flat_contains f (z ∷ xs) x y h i = by_cases (cons_cases z xs x h) (flat_contains f xs x y)
+  where
+    by_cases : (z ≡ x) ⊎ Contains xs x → (Contains xs x → Contains (f x) y → Contains (flat_map f xs) y) → Contains (flat_map f (z ∷ xs)) y
+    by_cases (inl same) later = Contains-append_left (f z) (flat_map f xs) y (subst (λ w. Contains (f w) y) (sym same) i)
+    by_cases (inr there) later = Contains-append_right (f z) (flat_map f xs) y (later there i)
+
+pub map_cases : {X Y : Type 0} (f : X → Y) (xs : List X) (y : Y) → Contains (map f xs) y → (x : X) × Contains xs x × (f x ≡ y)
+map_cases {X = X} f [] y h = absurd (contains_none y h)
+map_cases {X = X} f (x ∷ xs) y h = by_cases (cons_cases (f x) (map f xs) y h) (map_cases f xs y)
+  where
+    by_cases : (f x ≡ y) ⊎ Contains (map f xs) y → (Contains (map f xs) y → (z : X) × Contains xs z × (f z ≡ y)) → (z : X) × Contains (x ∷ xs) z × (f z ≡ y)
+    by_cases (inl here) later = (x, contains_head x xs x refl, here)
+    by_cases (inr there) later = let found = later there in (found.0, contains_tail x xs found.0 found.1, found.2)
+
+pub map_contains : {X Y : Type 0} (f : X → Y) (xs : List X) (x : X) → Contains xs x → Contains (map f xs) (f x)
+map_contains f [] x h = absurd (contains_none x h)
+map_contains f (z ∷ xs) x h = by_cases (cons_cases z xs x h) (map_contains f xs x)
+  where
+    by_cases : (z ≡ x) ⊎ Contains xs x → (Contains xs x → Contains (map f xs) (f x)) → Contains (map f (z ∷ xs)) (f x)
+    by_cases (inl same) later = contains_head (f z) (map f xs) (f x) (ap f same)
+    by_cases (inr there) later = contains_tail (f z) (map f xs) (f x) (later there)
+
+-- what is found for one of these
+found_by : {X Y : Type 0} (h : X → Option Y) (x : X) (xs : List X) (found : Option Y) (y : Y) → h x ≡ found → Contains (cons_option found (filter_map h xs)) y
+    → (Contains (filter_map h xs) y → (z : X) × Contains xs z × (h z ≡ Some y)) → (z : X) × Contains (x ∷ xs) z × (h z ≡ Some y)
+found_by h x xs None y e c later = let there = later c in (there.0, contains_tail x xs there.0 there.1, there.2)
+found_by {X = X} h x xs (Some w) y e c later = by_cases (cons_cases w (filter_map h xs) y c)
+  where
+    by_cases : (w ≡ y) ⊎ Contains (filter_map h xs) y → (z : X) × Contains (x ∷ xs) z × (h z ≡ Some y)
+    by_cases (inl same) = (x, contains_head x xs x refl, e ∙ ap Some same)
+    by_cases (inr inside) = let there = later inside in (there.0, contains_tail x xs there.0 there.1, there.2)
+
+pub found_from : {X Y : Type 0} (h : X → Option Y) (xs : List X) (y : Y) → Contains (filter_map h xs) y → (x : X) × Contains xs x × (h x ≡ Some y)
+found_from h [] y c = absurd (contains_none y c)
+found_from h (x ∷ xs) y c = found_by h x xs (h x) y refl c (found_from h xs y)
+
+-- EMPTY LISTS
+
+none_by : {X Y : Type 0} (f : X → List Y) (xs : List X) → flat_map f xs ≡ [] → (x : X) → Contains xs x → (l : List Y) → f x ≡ l → l ≡ []
+none_by f xs e x h [] is = refl
+none_by f xs e x h (y ∷ ys) is =
+    let here : Contains (f x) y = subst (λ l. Contains l y) (sym is) (contains_head y ys y refl) in
+    absurd (contains_none y (subst (λ l. Contains l y) e (flat_contains f xs x y h here)))
+
+pub none_of_each : {X Y : Type 0} (f : X → List Y) (xs : List X) → flat_map f xs ≡ [] → (x : X) → Contains xs x → f x ≡ []
+none_of_each f xs e x h = none_by f xs e x h (f x) refl
+
+pub left_is_empty : {X : Type 0} (xs ys : List X) → xs ++ ys ≡ [] → xs ≡ []
+left_is_empty [] ys e = refl
+left_is_empty (x ∷ xs) ys e = cc
+
+pub right_is_empty : {X : Type 0} (xs ys : List X) → xs ++ ys ≡ [] → ys ≡ []
+right_is_empty [] ys e = e
+right_is_empty (x ∷ xs) ys e = cc
+
+pub map_is_empty : {X Y : Type 0} (f : X → Y) (xs : List X) → map f xs ≡ [] → xs ≡ []
+map_is_empty f [] e = refl
+map_is_empty f (x ∷ xs) e = cc
+
+pub not_told : (holds : Bool) (broken : Broken) → told_if holds broken ≡ [] → holds ≡ false
+not_told true broken e = cc
+not_told false broken e = refl

@@ -1,0 +1,107 @@
+-- Each node of an expression of a package is a node of the file in which the expression stands.
+use Rattle.std.proofs.Common.{◌≡◌, ℕ, List, [], ◌∷◌, ◌++◌, ◌⊎◌, inl, inr, Contains, refl, sym, subst, ⊎_elim}
+use Rattle.std.proofs.lemmas.List.Elements.{Contains-append_left, Contains-append_right, Contains-push}
+use Rattle.go_tree.specs.declared.node_kind.NodeKind.TheVariants.{ConstCopy}
+use Rattle.go_tree.specs.Tree.{Tree, Trees, branch, list_of, more_trees, no_trees, parts_of}
+use Rattle.go_module.specs.Modules.Module.{FileData, PackageData}
+use Rattle.go_module.specs.Names.Declarations.{Spec, behind_names, const_spec, specs_in, specs_in_file, specs_of, values_behind}
+use Rattle.go_module.specs.Names.Inner.{inner_by, inner_of}
+use Rattle.go_module.specs.Names.Occurrences.{found_in, nodes_in, nodes_of_each}
+use Rattle.go_module.specs.NodeParts.{all_but_first}
+use Rattle.go_module.proofs.MemberLemmas.{cons_cases, contains_head, contains_none, contains_tail}
+use Rattle.go_laws.specs.Complete.{values_in}
+use Rattle.go_laws.specs.NodeNumbers.{nodes_by_end, nodes_by_end_among}
+use Rattle.go_laws.proofs.FileLemmas.{file_of_spec, spec_is}
+use Rattle.go_laws.proofs.ListLemmas.{flat_cases}
+use Rattle.go_laws.proofs.PickedLemmas.{picked_contains, picked_inner}
+
+pub self_by_end : (t : Tree) → Contains (nodes_by_end t) t
+self_by_end (branch id from to kind text parts) = Contains-push (nodes_by_end_among parts) (branch id from to kind text parts)
+
+among_parts : (ts : Trees) (t s : Tree) → Contains (list_of ts) t → Contains (nodes_by_end t) s → Contains (nodes_by_end_among ts) s
+among_parts no_trees t s h i = absurd (contains_none t h)
+among_parts (more_trees u ts) t s h i = by_cases (cons_cases u (list_of ts) t h) (λ there. among_parts ts t s there i)
+  where
+    by_cases : (u ≡ t) ⊎ Contains (list_of ts) t → (Contains (list_of ts) t → Contains (nodes_by_end_among ts) s) → Contains (nodes_by_end u ++ nodes_by_end_among ts) s
+    by_cases (inl here) later = Contains-append_left (nodes_by_end u) (nodes_by_end_among ts) s (subst (λ (v : Tree). Contains (nodes_by_end v) s) (sym here) i)
+    by_cases (inr there) later = Contains-append_right (nodes_by_end u) (nodes_by_end_among ts) s (later there)
+
+-- a tree all of whose nodes are nodes of another
+abbrev pub IsUnder : Tree → Tree → Type 0
+IsUnder top t = (s : Tree) → Contains (nodes_by_end t) s → Contains (nodes_by_end top) s
+
+pub part_under : (top t part : Tree) → IsUnder top t → Contains (list_of (parts_of t)) part → IsUnder top part
+part_under top (branch id from to kind text parts) part under h s i =
+    under s (Contains-append_left (nodes_by_end_among parts) (branch id from to kind text parts ∷ []) s (among_parts parts part s h i))
+
+-- the nodes inside an expression are nodes of it
+mutual
+  pub inside : (t s : Tree) → Contains (nodes_in t) s → Contains (nodes_by_end t) s
+  inside (branch id from to kind text parts) s h =
+      ⊎_elim
+      (λ (here : branch id from to kind text parts ≡ s). subst (λ (u : Tree). Contains (nodes_by_end (branch id from to kind text parts)) u) here (self_by_end (branch id from to kind text parts)))
+      (λ (there : Contains (found_in kind (nodes_of_each parts)) s).
+      let from_part = flat_cases (λ (part : Tree × List Tree). part.1) (inner_by (λ (part : Tree × List Tree). part.0) (inner_of kind) (nodes_of_each parts)) s there in
+      let part = picked_contains from_part.0 (picked_inner (λ (part : Tree × List Tree). part.0) (inner_of kind) (nodes_of_each parts)) from_part.1 in
+      Contains-append_left (nodes_by_end_among parts) (branch id from to kind text parts ∷ []) s (inside_each parts from_part.0 part s from_part.2))
+      (cons_cases (branch id from to kind text parts) (found_in kind (nodes_of_each parts)) s h)
+
+  inside_each : (ts : Trees) (part : Tree × List Tree) → Contains (nodes_of_each ts) part → (s : Tree) → Contains part.1 s → Contains (nodes_by_end_among ts) s
+  inside_each no_trees part h s i = absurd (contains_none part h)
+  inside_each (more_trees t ts) part h s i =
+      ⊎_elim
+      (λ (here : (t, nodes_in t) ≡ part).
+      Contains-append_left (nodes_by_end t) (nodes_by_end_among ts) s (inside t s (subst (λ (x : Tree × List Tree). Contains x.1 s) (sym here) i)))
+      (λ (there : Contains (nodes_of_each ts) part). Contains-append_right (nodes_by_end t) (nodes_by_end_among ts) s (inside_each ts part there s i))
+      (cons_cases (t, nodes_in t) (nodes_of_each ts) part h)
+
+-- the expressions of a spec are under it
+module _ (top : Tree) where
+  abbrev AllUnder : List Tree → Type 0
+  AllUnder xs = (x : Tree) → Contains xs x → IsUnder top x
+
+  copied_under : (c : Tree) → AllUnder (c ∷ []) → AllUnder (list_of (parts_of c))
+  copied_under c under x h = part_under top c x (under c (contains_head c [] c refl)) h
+
+  behind_under : (xs : List Tree) → AllUnder xs → AllUnder (behind_names xs)
+  behind_under (branch id from to ConstCopy text parts ∷ []) under = copied_under (branch id from to ConstCopy text parts) under
+  behind_under xs under = under
+
+  values_under : (xs : List Tree) → AllUnder xs → AllUnder (values_behind xs)
+  values_under [] under x h = absurd (contains_none x h)
+  values_under (l ∷ []) under x h = part_under top l x (under l (contains_head l [] l refl)) h
+  values_under (t ∷ (l ∷ [])) under x h = part_under top l x (under l (contains_tail t (l ∷ []) l (contains_head l [] l refl))) h
+  values_under (t ∷ (l ∷ (u ∷ us))) under x h = absurd (contains_none x h)
+
+rest_there : (ts : Trees) (x : Tree) → Contains (all_but_first ts) x → Contains (list_of ts) x
+rest_there no_trees x h = h
+rest_there (more_trees t ts) x h = contains_tail t (list_of ts) x h
+
+spec_under : (top spec : Tree) → IsUnder top spec → (file : ℕ) (t : Tree) → Contains (const_spec file spec).values t → IsUnder top t
+spec_under top spec under file t h =
+    values_under top (behind_names (all_but_first (parts_of spec)))
+    (behind_under top (all_but_first (parts_of spec)) (λ x there. part_under top spec x under (rest_there (parts_of spec) x there))) t h
+
+-- the expressions of a spec of a file are under its tree
+in_file : (file : ℕ) (tree : Tree) (spec : Spec) → Contains (specs_in_file file tree) spec → (t : Tree) → Contains spec.values t → IsUnder tree t
+in_file file tree spec h t value =
+    let declaration = flat_cases (specs_in file) (list_of (parts_of tree)) spec h in
+    let node = spec_is file declaration.0 spec declaration.2 in
+    let under = part_under tree declaration.0 node.0 (part_under tree tree declaration.0 (λ s i. i) declaration.1) node.1 in
+    spec_under tree node.0 under file t (subst (λ (x : Spec). Contains x.values t) (sym node.2) value)
+
+-- the file of an expression of a package
+pub record IsInFile (files : List FileData) (t : Tree) : Type 0 where
+  pub file : FileData
+  pub among : Contains files file
+  pub under : IsUnder file.tree t
+
+pub file_of_value : (p : PackageData) (t : Tree) → Contains (values_in p) t → IsInFile p.files t
+file_of_value p t h =
+    let spec = flat_cases (λ (spec : Spec). spec.values) (specs_of p) t h in
+    let from = file_of_spec 0 p.files spec.0 spec.1 in
+    record { file = from.1; among = from.2; under = in_file from.0 from.1.tree spec.0 from.3 t spec.2 }
+
+-- each node of an expression of a package is a node of one of its files
+pub nodes_are_there : (p : PackageData) (t : Tree) → Contains (values_in p) t → (s : Tree) → Contains (nodes_in t) s → (f : FileData) × Contains p.files f × Contains (nodes_by_end f.tree) s
+nodes_are_there p t h s i = let there = file_of_value p t h in (there.file, there.among, there.under s (inside t s i))

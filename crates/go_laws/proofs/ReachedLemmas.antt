@@ -1,0 +1,207 @@
+-- What is known in the states that the check of a module goes through; so each package that it accepts is complete, and
+-- it comes so to each that its report calls accepted.
+use Rattle.std.proofs.Common.{◌≡◌, ℕ, zero, suc, ◌+◌, Bool, true, false, Option, Some, None, List, [], ◌∷◌, ◌++◌, ◌⊎◌, inl, inr, length, Contains, refl, sym, ap, ◌∙◌, subst, arith}
+use Rattle.std.specs.Prelude.{IsSome, is_some, slice_get}
+use Rattle.std.proofs.lemmas.List.Elements.{All-contains}
+use Rattle.std.proofs.lemmas.List.Sums.{AllPass-from_list_all}
+use Rattle.std.proofs.lemmas.Option.{same_Some}
+use Rattle.go_graph.specs.Graph.{is_marked}
+use Rattle.go_module.specs.Modules.Module.{ModuleData, PackageData}
+use Rattle.go_module.specs.Names.Declarations.{Declaration, declarations_of, number_of}
+use Rattle.go_module.specs.Names.Imports.{known_in}
+use Rattle.go_module.specs.Names.Rules.BrokenNames.{broken_names}
+use Rattle.go_mod.specs.Folders.{Folder}
+use Rattle.go_load.specs.Loading.{IsModule}
+use Rattle.go_model.specs.Outcomes.Records.{HeaderData}
+use Rattle.go_model.specs.Outcomes.Walk.{Headers}
+use Rattle.go_model.specs.Phases.{AreReports, IsVerdict, ReportOf, all_told, by_names, by_values, checks as checks_report, imports_accepted, is_accepted, package_report, skips as skips_report, sound}
+use Rattle.go_model.specs.Report.{LineData, NamedData, PackageReportData, ReportData, VerdictData, accepted, refused, skipped}
+use Rattle.go_model.specs.Values.Meaning.{meaning_in}
+use Rattle.go_model.specs.Values.Quests.{IsPart}
+use Rattle.go_laws.specs.BuiltTrees.{ValuesAreBuilt}
+use Rattle.go_laws.specs.Complete.{IsAcceptedAt, IsComplete, IsReached, checks, first, skips, values_in}
+use Rattle.go_laws.specs.NodeNumbers.{NodeNumbersAscend}
+use Rattle.go_laws.proofs.Asked.{AreAsked}
+use Rattle.go_laws.proofs.BuiltLemmas.{built_asked}
+use Rattle.go_laws.proofs.BuiltModuleLemmas.{values_are_built}
+use Rattle.go_laws.proofs.CompleteLemmas.{complete_where_asked}
+use Rattle.go_laws.proofs.Denoting.{ImportsHaveHeaders}
+use Rattle.go_laws.proofs.DenotingLemmas.{names_denote}
+use Rattle.go_laws.proofs.IntegerLemmas.{HaveIntegers, known_integer}
+use Rattle.go_laws.proofs.NodeNumberLemmas.{node_numbers_ascend}
+
+-- MARKS
+
+-- one more mark
+marked_more : (marks : List Bool) (mark : Bool) (i : ℕ) → is_marked (marks ++ mark ∷ []) i ≡ true → (is_marked marks i ≡ true) ⊎ ((i ≡ length marks) × (mark ≡ true))
+marked_more [] mark zero is = inr (refl, is)
+marked_more [] mark (suc i) is = absurd (let never : false ≡ true = is in cc)
+marked_more (m ∷ marks) mark zero is = inl is
+marked_more (m ∷ marks) mark (suc i) is = by_cases (marked_more marks mark i is)
+  where
+    by_cases : (is_marked marks i ≡ true) ⊎ ((i ≡ length marks) × (mark ≡ true)) → (is_marked marks i ≡ true) ⊎ ((suc i ≡ suc (length marks)) × (mark ≡ true))
+    by_cases (inl there) = inl there
+    by_cases (inr here) = inr (ap suc here.0, here.1)
+
+more_marks : (marks : List Bool) (mark : Bool) → length (marks ++ mark ∷ []) ≡ length marks + 1
+more_marks [] mark = refl
+more_marks (m ∷ marks) mark = let rest = more_marks marks mark in omega (arith, rest)
+
+some_part : (before after : Headers) (d : ℕ) → IsPart before after → IsSome (before d) → IsSome (after d)
+some_part before after d part some = by_header (before d) refl some
+  where
+    by_header : (o : Option HeaderData) → before d ≡ o → IsSome o → IsSome (after d)
+    by_header None e is = absurd (let never : false ≡ true = is in cc)
+    by_header (Some h) e is = ap is_some (part d h e)
+
+-- STATES: as many marks as packages before the place; headers of integers; one of each declaration of an accepted
+-- package
+
+abbrev AreDeclared : PackageData → Headers → Type 0
+AreDeclared p headers = (d : Declaration) → Contains (declarations_of p) d → IsSome (headers (number_of d).0)
+
+module _ (m : ModuleData) where
+  record IsKnown (k : ℕ) (marks : List Bool) (before : Headers) : Type 0 where
+    pub many : length marks ≡ k
+    pub integers : HaveIntegers before
+    pub declared : (i : ℕ) (q : PackageData) → is_marked marks i ≡ true → slice_get m.packages i ≡ Some q → AreDeclared q before
+
+  -- a package that is not accepted changes nothing
+  not_accepted : (k : ℕ) (marks : List Bool) (before : Headers) → IsKnown k marks before → IsKnown (k + 1) (marks ++ false ∷ []) before
+  not_accepted k marks before is = record {
+    many = more_marks marks false ∙ ap (λ n. n + 1) is.many;
+    integers = is.integers;
+    declared = λ i q marked at. by_cases i q at (marked_more marks false i marked);
+  }
+    where
+      by_cases : (i : ℕ) (q : PackageData) → slice_get m.packages i ≡ Some q → (is_marked marks i ≡ true) ⊎ ((i ≡ length marks) × (false ≡ true)) → AreDeclared q before
+      by_cases i q at (inl marked) = is.declared i q marked at
+      by_cases i q at (inr never) = absurd (let not : false ≡ true = never.1 in cc)
+
+  -- of an accepted one more is known
+  known_more : (k : ℕ) (marks : List Bool) (p : PackageData) (before after : Headers) → IsKnown k marks before → slice_get m.packages k ≡ Some p
+      → IsPart before after → HaveIntegers after → AreDeclared p after → IsKnown (k + 1) (marks ++ true ∷ []) after
+  known_more k marks p before after is here part integers declared = record {
+    many = more_marks marks true ∙ ap (λ n. n + 1) is.many;
+    integers = integers;
+    declared = λ i q marked at. by_cases i q at (marked_more marks true i marked);
+  }
+    where
+      by_cases : (i : ℕ) (q : PackageData) → slice_get m.packages i ≡ Some q → (is_marked marks i ≡ true) ⊎ ((i ≡ length marks) × (true ≡ true)) → AreDeclared q after
+      by_cases i q at (inl marked) = λ d among. some_part before after (number_of d).0 part (is.declared i q marked at d among)
+      by_cases i q at (inr last) =
+          let same : p ≡ q = same_Some p q (sym here ∙ ap (slice_get m.packages) (sym (last.0 ∙ is.many)) ∙ at) in
+          subst (λ (x : PackageData). AreDeclared x after) same declared
+
+  imports_known : (k : ℕ) (marks : List Bool) (p : PackageData) (before : Headers) → IsKnown k marks before → imports_accepted marks p ≡ true → ImportsHaveHeaders m p before
+  imports_known k marks p before is imports i q among at = is.declared i q (All-contains (λ j. is_marked marks j ≡ true) p.imports i (AllPass-from_list_all (is_marked marks) p.imports imports) among) at
+
+  module _ (ascend : NodeNumbersAscend m) (built : ValuesAreBuilt m) where
+    all_asked : (k : ℕ) (p : PackageData) (before : Headers) → slice_get m.packages k ≡ Some p → broken_names (known_in m) k p ≡ [] → ImportsHaveHeaders m p before → AreAsked (meaning_in m k p before) (values_in p)
+    all_asked k p before at names headers t among s asked =
+        built_asked (meaning_in m k p before) (built k p at t among) s
+        (names_denote m k p before at names (ascend.ascend k p at) (ascend.from_first k p at) (built k p at) headers t among s asked)
+        asked
+
+    -- an accepted package is complete
+    complete_at : (k : ℕ) (marks : List Bool) (p : PackageData) (before after : Headers) (lines : List LineData) (named : List NamedData)
+        → IsKnown k marks before → slice_get m.packages k ≡ Some p → imports_accepted marks p ≡ true → IsVerdict m k p before (accepted lines named) after
+        → broken_names (known_in m) k p ≡ [] → IsComplete (meaning_in m k p before) after p
+    complete_at k marks p before after lines named is at imports verdict names =
+        complete_where_asked m k p before after lines named verdict is.integers (all_asked k p before at names (imports_known k marks p before is imports))
+
+    known_checked : (k : ℕ) (marks : List Bool) (p : PackageData) (before after : Headers) (verdict : VerdictData)
+        → IsKnown k marks before → slice_get m.packages k ≡ Some p → imports_accepted marks p ≡ true → IsVerdict m k p before verdict after
+        → IsKnown (k + 1) (marks ++ is_accepted verdict ∷ []) after
+    known_checked k marks p before after verdict is at imports (by_names b bs list) = not_accepted k marks before is
+    known_checked k marks p before after verdict is at imports (by_values headers b bs breaks) = not_accepted k marks before is
+    known_checked k marks p before after verdict is at imports (sound headers lines breaks told) =
+        let complete = complete_at k marks p before headers lines _ is at imports (sound headers lines breaks told) breaks.sound_names in
+        known_more k marks p before headers is at
+        (λ d h e. (breaks.has_headers.known d h).1 (record { list = []; justified = tt; has = e }))
+        (λ d h e. known_integer (meaning_in m k p before) before (declarations_of p) is.integers d h ((breaks.has_headers.known d h).0 e))
+        complete.declared
+
+    known_reached : {k : ℕ} {marks : List Bool} {before : Headers} → IsReached m k marks before → IsKnown k marks before
+    known_reached first = record {
+      many = refl;
+      integers = λ d h e. absurd (let never : None ≡ Some h = e in cc);
+      declared = λ i q marked at. absurd (let never : false ≡ true = marked in cc);
+    }
+    known_reached (skips k marks before p reached at imports) = not_accepted k marks before (known_reached reached)
+    known_reached (checks k marks before after verdict p reached at imports is) = known_checked k marks p before after verdict (known_reached reached) at imports is
+
+sound_names : (m : ModuleData) (k : ℕ) (p : PackageData) (before after : Headers) (lines : List LineData) (named : List NamedData) → IsVerdict m k p before (accepted lines named) after → broken_names (known_in m) k p ≡ []
+sound_names m k p before after lines named (sound _ _ breaks _) = breaks.sound_names
+
+pub accepted_complete : (own stubs : Folder) (m : ModuleData) → IsModule own stubs m
+    → (k : ℕ) (marks : List Bool) (p : PackageData) (before after : Headers) (lines : List LineData) (named : List NamedData)
+    → IsReached m k marks before → slice_get m.packages k ≡ Some p → imports_accepted marks p ≡ true
+    → IsVerdict m k p before (accepted lines named) after
+    → IsComplete (meaning_in m k p before) after p
+accepted_complete own stubs m is k marks p before after lines named reached at imports verdict =
+    let ascend = node_numbers_ascend own stubs m is in
+    let built = values_are_built own stubs m is in
+    complete_at m ascend built k marks p before after lines named (known_reached m ascend built reached) at imports verdict (sound_names m k p before after lines named verdict)
+
+-- REPORTS
+
+module _ (m : ModuleData) where
+  accepted_at : (k : ℕ) (marks : List Bool) (p : PackageData) (before after : Headers) (verdict : VerdictData)
+      → IsReached m k marks before → imports_accepted marks p ≡ true → IsVerdict m k p before verdict after → is_accepted verdict ≡ true → IsAcceptedAt m k p verdict
+  accepted_at k marks p before after (accepted lines named) reached imports is holds = record {
+    marks = marks;
+    before = before;
+    after = after;
+    lines = lines;
+    named = named;
+    is = refl;
+    reached = reached;
+    imports = imports;
+    verdict_is = is;
+  }
+  accepted_at k marks p before after (refused list) reached imports is holds = absurd (let never : false ≡ true = holds in cc)
+  accepted_at k marks p before after skipped reached imports is holds = absurd (let never : false ≡ true = holds in cc)
+
+  same_report : (k : ℕ) (p q : PackageData) (verdict : VerdictData) (r : PackageReportData) → p ≡ q → package_report p verdict ≡ r → (is_accepted verdict ≡ true → IsAcceptedAt m k p verdict) → is_accepted r.verdict ≡ true → IsAcceptedAt m k q r.verdict
+  same_report k p q verdict r same told go holds =
+      let is : verdict ≡ r.verdict = ap (λ (x : PackageReportData). x.verdict) told in
+      subst (λ (x : PackageData). IsAcceptedAt m k x r.verdict) same (subst (IsAcceptedAt m k p) is (go (ap is_accepted is ∙ holds)))
+
+  -- these packages stand from the place k on
+  abbrev StandFrom : ℕ → List PackageData → Type 0
+  StandFrom k ps = (j : ℕ) (p : PackageData) → slice_get ps j ≡ Some p → slice_get m.packages (k + j) ≡ Some p
+
+  next_stand : (k : ℕ) (p : PackageData) (ps : List PackageData) → StandFrom k (p ∷ ps) → StandFrom (k + 1) ps
+  next_stand k p ps stand j q at = let place : (k + 1) + j ≡ k + suc j = omega arith in ap (slice_get m.packages) place ∙ stand (suc j) q at
+
+  stands : (k : ℕ) (p : PackageData) (ps : List PackageData) → StandFrom k (p ∷ ps) → slice_get m.packages k ≡ Some p
+  stands k p ps stand = let place : k ≡ k + 0 = omega arith in ap (slice_get m.packages) place ∙ stand 0 p refl
+
+  reports_reached : {k : ℕ} {marks : List Bool} {before : Headers} {ps : List PackageData} {rs : List PackageReportData}
+      → AreReports m k marks before ps rs → IsReached m k marks before → StandFrom k ps
+      → (j : ℕ) (q : PackageData) (r : PackageReportData) → slice_get ps j ≡ Some q → slice_get rs j ≡ Some r → is_accepted r.verdict ≡ true → IsAcceptedAt m (k + j) q r.verdict
+  reports_reached (all_told k marks before) reached stand j q r at told holds = absurd (let never : None ≡ Some q = at in cc)
+  reports_reached (skips_report k marks before p ps rs imports rest) reached stand zero q r at told holds =
+      let is : skipped ≡ r.verdict = ap (λ (x : PackageReportData). x.verdict) (same_Some (package_report p skipped) r told) in
+      absurd (let never : false ≡ true = ap is_accepted is ∙ holds in cc)
+  reports_reached (skips_report k marks before p ps rs imports rest) reached stand (suc j) q r at told holds =
+      let place : (k + 1) + j ≡ k + suc j = omega arith in
+      subst (λ (n : ℕ). IsAcceptedAt m n q r.verdict) place
+      (reports_reached rest (skips k marks before p reached (stands k p ps stand) imports) (next_stand k p ps stand) j q r at told holds)
+  reports_reached (checks_report k marks before after verdict p ps rs imports is rest) reached stand zero q r at told holds =
+      let place : k ≡ k + 0 = omega arith in
+      subst (λ (n : ℕ). IsAcceptedAt m n q r.verdict) place
+      (same_report k p q verdict r (same_Some p q at) (same_Some (package_report p verdict) r told) (accepted_at k marks p before after verdict reached imports is) holds)
+  reports_reached (checks_report k marks before after verdict p ps rs imports is rest) reached stand (suc j) q r at told holds =
+      let place : (k + 1) + j ≡ k + suc j = omega arith in
+      subst (λ (n : ℕ). IsAcceptedAt m n q r.verdict) place
+      (reports_reached rest (checks k marks before after verdict p reached (stands k p ps stand) imports is) (next_stand k p ps stand) j q r at told holds)
+
+pub reports_are_reached : (m : ModuleData) (report : ReportData) → ReportOf m report
+    → (k : ℕ) (p : PackageData) (r : PackageReportData) → slice_get m.packages k ≡ Some p → slice_get report.packages k ≡ Some r
+    → is_accepted r.verdict ≡ true → IsAcceptedAt m k p r.verdict
+reports_are_reached m report is k p r at told holds =
+    let place : 0 + k ≡ k = omega arith in
+    subst (λ (n : ℕ). IsAcceptedAt m n p r.verdict) place
+    (reports_reached m is.packages first (λ j q there. ap (slice_get m.packages) (let same : 0 + j ≡ j = omega arith in same) ∙ there) k p r at told holds)
