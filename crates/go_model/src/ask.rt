@@ -1,6 +1,7 @@
 // Maps of headers that can be asked (Go specification, "Declarations and scope").
-ghost use Rattle.std.specs.Prelude.{◌≡◌, IfOk};
+ghost use Rattle.std.specs.Prelude.{◌≡◌, ℕ, IfOk};
 ghost use Rattle.std.specs.Option.{option_map};
+ghost use Rattle.go_model.specs.declared.meaning.Meaning.{Meaning};
 ghost use Rattle.go_model.specs.Outcomes.Records.{header_view};
 ghost use Rattle.go_model.specs.Outcomes.Walk as walk;
 
@@ -13,8 +14,12 @@ pub trait Ask {
     /// What the map has for each declaration, by its number.
     ghost headers: { Self → walk.Headers };
 
+    /// What identifiers mean, by the numbers of their nodes, in the package that is asked.
+    ghost means: { Self → ℕ → Meaning };
+
     /// The header of a declaration, None exactly where the map has none. An error is want of memory.
     fn ask(&mut self, d: ObjId) -> Result<Option<Header>, NoMemory>
         ensures answer { IfOk result (λ header. option_map header_view header ≡ headers self.old d.0) }
-        ensures same { headers self.new ≡ headers self.old };
+        ensures same { headers self.new ≡ headers self.old }
+        ensures means { means self.new ≡ means self.old };
 }

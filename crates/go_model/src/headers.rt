@@ -1,6 +1,7 @@
 // Maps of headers (Go specification, "Declarations and scope").
 ghost use Rattle.std.specs.Prelude.{◌≡◌, ℕ, [], ◌∷◌, None, OnErr, OnOk};
 ghost use Rattle.std.specs.Option.{option_map};
+ghost use Rattle.go_model.specs.declared.meaning.Meaning.TheVariants.{Other};
 ghost use Rattle.go_model.specs.Outcomes.Records.{header_view};
 ghost use Rattle.go_model.specs.Values.Headers.{headers_of};
 ghost use Rattle.go_model.specs.Values.HeadersView.{headers_view};
@@ -49,6 +50,9 @@ impl Headers {
 
 impl Ask for Headers {
     ghost headers = { headers_view };
+
+    // A map alone knows no identifiers.
+    ghost means = { λ _ _. Other };
 
     fn ask(&mut self, d: ObjId) -> Result<Option<Header>, NoMemory> {
         match self.table.get(&d) {

@@ -15,6 +15,7 @@ mod laws;
 mod ask;
 mod header;
 mod headers;
+mod judge;
 mod meaning;
 mod outcome;
 mod rec;
@@ -37,6 +38,7 @@ pub use go_module::{
 };
 pub use header::Header;
 pub use headers::Headers;
+pub use judge::{Finds, Forms, Judge, Same, Sets};
 pub use laws::{
     decided_stays, declared_everywhere, one_header, one_report, outcomes_exactly, outcomes_stay,
 };
