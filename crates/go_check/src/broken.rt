@@ -16,7 +16,7 @@ ghost use Rattle.go_expr.specs.View.{means_by};
 
 use crate::rules::UNEQUAL_SIDES;
 use go_base::{Broken, NoMemory, Rule};
-use go_expr::{Around, Evaluated, evaluate, record};
+use go_expr::{Around, Evaluated, TableJudge, evaluate, record};
 use go_model::{Header, Outcome, Spot};
 use go_module::{add_if, broken_at};
 use go_names::Spec;
@@ -87,7 +87,11 @@ fn has_record(
     ensures { IfOk result (λ has. has ≡ is_some
         (record_of (means_by around.now) (headers_by around.now table.now) (tree_of value.now))) }
 {
-    Ok(record(alloc, around, table, value)?.is_some())
+    let mut judge = TableJudge {
+        around: &*around,
+        table: &*table,
+    };
+    Ok(record(alloc, &mut judge, value)?.is_some())
 }
 
 // Pushes what the nodes of these parts of a spec break.
@@ -121,7 +125,11 @@ fn push_node(
     ensures { OnOk result (found.new.items ≡ found.old.items ++ rules.broken_in spec.now.file spec.now.told_at
         (means_by around.now) (headers_by around.now table.now) (tree_of node.now)) }
 {
-    let list = evaluate(alloc, around, table, node)?;
+    let mut judge = TableJudge {
+        around: &*around,
+        table: &*table,
+    };
+    let list = evaluate(alloc, &mut judge, node)?;
     push_each(spec.file, spec.told_at, &list, found)?;
     Ok(())
 }

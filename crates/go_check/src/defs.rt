@@ -18,7 +18,7 @@ ghost use Rattle.go_check.specs.View.{outline_view};
 use crate::outline::Outline;
 use crate::own_file::OwnFile;
 use go_base::NoMemory;
-use go_expr::{Around, header_over};
+use go_expr::{Around, TableJudge, header_over};
 use go_model::{DefKind, Header, Line, What};
 use go_module::text_name;
 use go_names::{Declaration, declarations_in};
@@ -145,7 +145,11 @@ fn push_declaration(
         ++ spec.declaration_defs file.now.stub (file_view file.now.file.now) (means_by around.now)
         (headers_by around.now table.now) (declaration_view declaration.now)) }
 {
-    if let Some(header) = header_over(alloc, around, table, declaration)? {
+    let mut judge = TableJudge {
+        around: &*around,
+        table: &*table,
+    };
+    if let Some(header) = header_over(alloc, &mut judge, declaration)? {
         lines.push(def_line(alloc, file, declaration.name, told_as(header))?)?;
     }
     Ok(())

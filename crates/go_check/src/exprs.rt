@@ -18,7 +18,7 @@ ghost use Rattle.go_expr.specs.View.{means_by};
 use crate::own_file::OwnFile;
 use crate::uses::written;
 use go_base::NoMemory;
-use go_expr::{Around, Evaluated, evaluate};
+use go_expr::{Around, Evaluated, TableJudge, evaluate};
 use go_model::{Header, Line, Outcome, Rec, What};
 use go_names::Spec;
 use go_tree::Node;
@@ -74,7 +74,11 @@ fn push_nodes(
         (flat_map nodes_in (map tree_of nodes.now))) }
 {
     for node in nodes {
-        push_each(file, &evaluate(alloc, around, table, node)?, lines)?;
+        let mut judge = TableJudge {
+            around: &*around,
+            table: &*table,
+        };
+        push_each(file, &evaluate(alloc, &mut judge, node)?, lines)?;
     }
     Ok(())
 }

@@ -9,7 +9,7 @@ ghost use Rattle.go_expr.specs.View.{IsAround, before_by, means_by, places_by};
 ghost use Rattle.go_names.specs.Views.{declarations_view};
 
 use go_base::NoMemory;
-use go_expr::{Around, header_over};
+use go_expr::{Around, TableJudge, header_over};
 use go_model::Header;
 use go_module::ObjId;
 use go_names::Declaration;
@@ -83,7 +83,11 @@ fn add_one(
     if table[place].is_some() {
         return Ok(false);
     }
-    match header_over(alloc, around, table, declaration)? {
+    let mut judge = TableJudge {
+        around: &*around,
+        table: &*table,
+    };
+    match header_over(alloc, &mut judge, declaration)? {
         Some(header) => {
             if !stands_at(around, declaration.number(), place) {
                 return Ok(false);

@@ -11,7 +11,7 @@ ghost use Rattle.go_expr.specs.Table.{headers_by};
 ghost use Rattle.go_expr.specs.View.{IsAround, means_by, places_by};
 
 use go_base::NoMemory;
-use go_expr::{Around, Evaluated, evaluate};
+use go_expr::{Around, Evaluated, TableJudge, evaluate};
 use go_graph::{Numbers, cyclic_vertices, is_marked};
 use go_model::{Header, Outcome};
 use go_module::ObjId;
@@ -143,7 +143,11 @@ fn push_awaited_in(
     ensures { OnOk result (numbers.new
         ≡ numbers.old ++ awaited_by_nodes (means_by around.now) (headers_by around.now table.now) (tree_of node.now)) }
 {
-    let list = evaluate(alloc, around, table, node)?;
+    let mut judge = TableJudge {
+        around: &*around,
+        table: &*table,
+    };
+    let list = evaluate(alloc, &mut judge, node)?;
     push_each(&list, numbers)?;
     Ok(())
 }

@@ -8,17 +8,14 @@ ghost use Rattle.go_model.specs.Outcomes.Walk.{Headers as Known, outcome};
 ghost use Rattle.go_expr.specs.Evaluated.{all_evaluated, evaluated_views};
 ghost use Rattle.go_expr.specs.Outcomes.{both_of, only_of, outcome_by_parts};
 ghost use Rattle.go_expr.specs.Outcomes.{parentheses_by_parts, selector_by_parts, sum_by_parts};
-ghost use Rattle.go_expr.specs.Table.{headers_by};
-ghost use Rattle.go_expr.specs.View.{means_by};
 
-use crate::around::Around;
 use crate::literal::literal;
 use crate::name::name;
 use crate::parentheses::parentheses;
 use crate::selector::selector;
 use crate::sum::sum;
 use go_base::NoMemory;
-use go_model::{Header, Meaning, Outcome};
+use go_model::{Judge, Meaning, Outcome};
 use go_names::inner_parts;
 use go_tree::{Node, NodeKind};
 use std::alloc::Global;
@@ -31,81 +28,89 @@ pub struct Evaluated<'a> {
 }
 
 /// The nodes of an expression or a type with their outcomes, a node before its parts. An error is want of memory.
-pub fn evaluate<'a>(
+pub fn evaluate<'a, J: Judge>(
     alloc: Global,
-    around: &Around,
-    table: &[Option<Header>],
+    judge: &mut J,
     node: &'a Node,
 ) -> Result<Vec<Evaluated<'a>>, NoMemory>
-    ensures { IfOk result (λ list. evaluated_views list.items
-        ≡ all_evaluated (means_by around.now) (headers_by around.now table.now) (tree_of node.now)) }
+    ensures list { IfOk result (λ list. evaluated_views list.items
+        ≡ all_evaluated (J.means judge.old) (J.headers judge.old) (tree_of node.now)) }
+    ensures same { J.headers judge.new ≡ J.headers judge.old }
+    ensures means { J.means judge.new ≡ J.means judge.old }
 {
     let mut list = Vec::new(alloc);
-    push_evaluated(alloc, around, table, node, &mut list)?;
+    push_evaluated(alloc, judge, node, &mut list)?;
     list.reverse();
     Ok(list)
 }
 
 // Pushes the nodes of an expression or a type, the last first, so that each outcome is found once, from those of the
 // parts; and gives the outcome of the whole.
-fn push_evaluated<'a>(
+fn push_evaluated<'a, J: Judge>(
     alloc: Global,
-    around: &Around,
-    table: &[Option<Header>],
+    judge: &mut J,
     node: &'a Node,
     list: &mut Vec<Evaluated<'a>>,
 ) -> Result<Outcome, NoMemory>
     ensures outcome { IfOk result (λ found.
-        outcome_view found ≡ outcome (means_by around.now) (headers_by around.now table.now) (tree_of node.now)) }
+        outcome_view found ≡ outcome (J.means judge.old) (J.headers judge.old) (tree_of node.now)) }
     ensures list { OnOk result (evaluated_views list.new.items ≡ evaluated_views list.old.items
-        ++ reverse (all_evaluated (means_by around.now) (headers_by around.now table.now) (tree_of node.now))) }
+        ++ reverse (all_evaluated (J.means judge.old) (J.headers judge.old) (tree_of node.now))) }
+    ensures same { J.headers judge.new ≡ J.headers judge.old }
+    ensures means { J.means judge.new ≡ J.means judge.old }
 {
     let inner = inner_parts(alloc, node)?;
     let mut outcomes = Vec::new(alloc);
     for place in (0..inner.len()).rev() {
-        outcomes.push(push_evaluated(alloc, around, table, inner[place], list)?)?;
+        outcomes.push(push_evaluated(alloc, judge, inner[place], list)?)?;
     }
     outcomes.reverse();
-    let made = with_outcomes(alloc, around, table, node, &outcomes)?;
+    let made = with_outcomes(alloc, judge, node, &outcomes)?;
     let outcome = made.clone()?;
     list.push(Evaluated { node, outcome })?;
     Ok(made)
 }
 
 // The outcome of a node whose inner parts have these outcomes.
-fn with_outcomes(
+fn with_outcomes<J: Judge>(
     alloc: Global,
-    around: &Around,
-    table: &[Option<Header>],
+    judge: &mut J,
     node: &Node,
     outcomes: &[Outcome],
 ) -> Result<Outcome, NoMemory>
     requires { map outcome_view outcomes.now
-        ≡ map (outcome (means_by around.now) (headers_by around.now table.now)) (inner_parts (tree_of node.now)) }
-    ensures { IfOk result (λ found.
-        outcome_view found ≡ outcome (means_by around.now) (headers_by around.now table.now) (tree_of node.now)) }
+        ≡ map (outcome (J.means judge.old) (J.headers judge.old)) (inner_parts (tree_of node.now)) }
+    ensures outcome { IfOk result (λ found.
+        outcome_view found ≡ outcome (J.means judge.old) (J.headers judge.old) (tree_of node.now)) }
+    ensures same { J.headers judge.new ≡ J.headers judge.old }
+    ensures means { J.means judge.new ≡ J.means judge.old }
 {
-    found_by_parts(alloc, around, table, node, outcomes)
+    found_by_parts(alloc, judge, node, outcomes)
 }
 
 // The outcome of a node, by its kind, from those of its inner parts.
-fn found_by_parts(
+fn found_by_parts<J: Judge>(
     alloc: Global,
-    around: &Around,
-    table: &[Option<Header>],
+    judge: &mut J,
     node: &Node,
     outcomes: &[Outcome],
 ) -> Result<Outcome, NoMemory>
-    ensures { IfOk result (λ found. outcome_view found
-        ≡ outcome_by_parts (means_by around.now) (headers_by around.now table.now) (tree_of node.now)
+    ensures outcome { IfOk result (λ found. outcome_view found
+        ≡ outcome_by_parts (J.means judge.old) (J.headers judge.old) (tree_of node.now)
         (map outcome_view outcomes.now)) }
+    ensures same { J.headers judge.new ≡ J.headers judge.old }
+    ensures means { J.means judge.new ≡ J.means judge.old }
 {
     match node.kind() {
         NodeKind::IntLit => literal(alloc, node.text()),
-        NodeKind::Name => name(alloc, around, table, around.meaning(node.id())),
+        NodeKind::Name => {
+            let meaning = judge.meaning(node.id());
+            name(alloc, judge, meaning)
+        }
         NodeKind::SelectorExpr => match node.both_parts() {
             Some((_, f)) => {
-                selector_by_parts(alloc, around, table, around.meaning(f.id()), outcomes)
+                let meaning = judge.meaning(f.id());
+                selector_by_parts(alloc, judge, meaning, outcomes)
             }
             None => Ok(Outcome::Nothing),
         },
@@ -115,18 +120,19 @@ fn found_by_parts(
     }
 }
 
-fn selector_by_parts(
+fn selector_by_parts<J: Judge>(
     alloc: Global,
-    around: &Around,
-    table: &[Option<Header>],
+    judge: &mut J,
     meaning: Meaning,
     outcomes: &[Outcome],
 ) -> Result<Outcome, NoMemory>
-    ensures { IfOk result (λ found. outcome_view found
-        ≡ selector_by_parts (headers_by around.now table.now) meaning (map outcome_view outcomes.now)) }
+    ensures outcome { IfOk result (λ found. outcome_view found
+        ≡ selector_by_parts (J.headers judge.old) meaning (map outcome_view outcomes.now)) }
+    ensures same { J.headers judge.new ≡ J.headers judge.old }
+    ensures means { J.means judge.new ≡ J.means judge.old }
 {
     match only(outcomes) {
-        Some(operand) => selector(alloc, around, table, meaning, operand),
+        Some(operand) => selector(alloc, judge, meaning, operand),
         None => Ok(Outcome::Nothing),
     }
 }

@@ -11,63 +11,59 @@ ghost use Rattle.go_model.specs.Outcomes.View.{outcome_view};
 ghost use Rattle.go_model.specs.Values.Records as records;
 ghost use Rattle.go_names.specs.Views.{declaration_view};
 ghost use Rattle.go_expr.specs.Outcomes.{outcome_by_operands};
-ghost use Rattle.go_expr.specs.Table.{headers_by};
-ghost use Rattle.go_expr.specs.View.{means_by};
 
-use crate::around::Around;
 use crate::literal::literal;
 use crate::name::name;
 use crate::parentheses::parentheses;
 use crate::selector::selector;
 use crate::sum::sum;
 use go_base::NoMemory;
-use go_model::{Header, Outcome, Rec};
+use go_model::{Header, Judge, Outcome, Rec};
 use go_module::Built;
 use go_names::Declaration;
 use go_tree::{Node, NodeKind};
 use std::alloc::Global;
 
 /// The outcome of a node of an expression over the headers that the table has. An error is want of memory.
-pub fn outcome(
-    alloc: Global,
-    around: &Around,
-    table: &[Option<Header>],
-    node: &Node,
-) -> Result<Outcome, NoMemory>
-    ensures { IfOk result (λ found. outcome_view found
-        ≡ walk.outcome (means_by around.now) (headers_by around.now table.now) (tree_of node.now)) }
+pub fn outcome<J: Judge>(alloc: Global, judge: &mut J, node: &Node) -> Result<Outcome, NoMemory>
+    ensures outcome { IfOk result (λ found. outcome_view found
+        ≡ walk.outcome (J.means judge.old) (J.headers judge.old) (tree_of node.now)) }
+    ensures same { J.headers judge.new ≡ J.headers judge.old }
+    ensures means { J.means judge.new ≡ J.means judge.old }
 {
-    found(alloc, around, table, node)
+    found(alloc, judge, node)
 }
 
 // The outcome as it is found, by the kind of the node, from those of its operands.
-fn found(
-    alloc: Global,
-    around: &Around,
-    table: &[Option<Header>],
-    node: &Node,
-) -> Result<Outcome, NoMemory>
-    ensures { IfOk result (λ found. outcome_view found
-        ≡ outcome_by_operands (means_by around.now) (headers_by around.now table.now) (tree_of node.now)) }
+fn found<J: Judge>(alloc: Global, judge: &mut J, node: &Node) -> Result<Outcome, NoMemory>
+    ensures outcome { IfOk result (λ found. outcome_view found
+        ≡ outcome_by_operands (J.means judge.old) (J.headers judge.old) (tree_of node.now)) }
+    ensures same { J.headers judge.new ≡ J.headers judge.old }
+    ensures means { J.means judge.new ≡ J.means judge.old }
 {
     match node.kind() {
         NodeKind::IntLit => literal(alloc, node.text()),
-        NodeKind::Name => name(alloc, around, table, around.meaning(node.id())),
+        NodeKind::Name => {
+            let meaning = judge.meaning(node.id());
+            name(alloc, judge, meaning)
+        }
         NodeKind::SelectorExpr => match node.both_parts() {
             Some((x, f)) => {
-                let operand = found(alloc, around, table, x)?;
-                selector(alloc, around, table, around.meaning(f.id()), &operand)
+                let meaning = judge.meaning(f.id());
+                let operand = found(alloc, judge, x)?;
+                selector(alloc, judge, meaning, &operand)
             }
             None => Ok(Outcome::Nothing),
         },
         NodeKind::ParenExpr => match node.only_part() {
-            Some(x) => parentheses(&found(alloc, around, table, x)?),
+            Some(x) => parentheses(&found(alloc, judge, x)?),
             None => Ok(Outcome::Nothing),
         },
         NodeKind::AddExpr => match node.both_parts() {
             Some((x, y)) => {
-                let left = found(alloc, around, table, x)?;
-                sum(alloc, &left, &found(alloc, around, table, y)?)
+                let left = found(alloc, judge, x)?;
+                let right = found(alloc, judge, y)?;
+                sum(alloc, &left, &right)
             }
             None => Ok(Outcome::Nothing),
         },
@@ -77,16 +73,13 @@ fn found(
 
 /// The record of an expression over the headers that the table has; None where its outcome is another. An error is want
 /// of memory.
-pub fn record(
-    alloc: Global,
-    around: &Around,
-    table: &[Option<Header>],
-    node: &Node,
-) -> Result<Option<Rec>, NoMemory>
-    ensures { IfOk result (λ found. option_map rec_view found
-        ≡ records.record_of (means_by around.now) (headers_by around.now table.now) (tree_of node.now)) }
+pub fn record<J: Judge>(alloc: Global, judge: &mut J, node: &Node) -> Result<Option<Rec>, NoMemory>
+    ensures record { IfOk result (λ found. option_map rec_view found
+        ≡ records.record_of (J.means judge.old) (J.headers judge.old) (tree_of node.now)) }
+    ensures same { J.headers judge.new ≡ J.headers judge.old }
+    ensures means { J.means judge.new ≡ J.means judge.old }
 {
-    Ok(record_in(outcome(alloc, around, table, node)?))
+    Ok(record_in(outcome(alloc, judge, node)?))
 }
 
 // The record, where the node has one.
@@ -102,17 +95,18 @@ fn record_in(outcome: Outcome) -> Option<Rec>
 }
 
 /// The header of a declaration over those that the table has. An error is want of memory.
-pub fn header_over(
+pub fn header_over<J: Judge>(
     alloc: Global,
-    around: &Around,
-    table: &[Option<Header>],
+    judge: &mut J,
     declaration: &Declaration,
 ) -> Result<Option<Header>, NoMemory>
-    ensures { IfOk result (λ header. option_map header_view header ≡ records.header_over (means_by around.now)
-        (headers_by around.now table.now) (declaration_view declaration.now)) }
+    ensures header { IfOk result (λ header. option_map header_view header ≡ records.header_over (J.means judge.old)
+        (J.headers judge.old) (declaration_view declaration.now)) }
+    ensures same { J.headers judge.new ≡ J.headers judge.old }
+    ensures means { J.means judge.new ≡ J.means judge.old }
 {
     match bound_value(declaration) {
-        Some(value) => Ok(declared_header(record(alloc, around, table, value)?)),
+        Some(value) => Ok(declared_header(record(alloc, judge, value)?)),
         None => Ok(None),
     }
 }

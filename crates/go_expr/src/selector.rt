@@ -6,32 +6,31 @@ ghost use Rattle.go_model.specs.Outcomes.Judged.{OutcomeData, judged};
 ghost use Rattle.go_model.specs.Outcomes.Records.{RecData};
 ghost use Rattle.go_model.specs.Outcomes.View.{outcome_view};
 ghost use Rattle.go_model.specs.Outcomes.Walk as walk;
-ghost use Rattle.go_expr.specs.Table.{headers_by};
 
-use crate::around::Around;
 use crate::broken::broken;
 use crate::name::name;
 use go_base::NoMemory;
-use go_model::{Header, Meaning, Outcome};
+use go_model::{Judge, Meaning, Outcome};
 use go_module::UNBUILT_FORM;
 use std::alloc::Global;
 
 /// `x.f`, by what f means and by the outcome of x: a name of a package is as that name; a selector of a value breaks
 /// U0. An error is want of memory.
-pub fn selector(
+pub fn selector<J: Judge>(
     alloc: Global,
-    around: &Around,
-    table: &[Option<Header>],
+    judge: &mut J,
     meaning: Meaning,
     operand: &Outcome,
 ) -> Result<Outcome, NoMemory>
-    ensures { IfOk result (λ outcome. (parts : List (OutcomeData RecData)) → outcome_view outcome
-        ≡ judged (headers_by around.now table.now) (spec.selector meaning) (outcome_view operand.now ∷ parts)) }
+    ensures outcome { IfOk result (λ outcome. (parts : List (OutcomeData RecData)) → outcome_view outcome
+        ≡ judged (J.headers judge.old) (spec.selector meaning) (outcome_view operand.now ∷ parts)) }
+    ensures same { J.headers judge.new ≡ J.headers judge.old }
+    ensures means { J.means judge.new ≡ J.means judge.old }
 {
     match meaning {
         Meaning::Other => of_value(alloc, operand),
-        Meaning::Declared(_) => name(alloc, around, table, meaning),
-        Meaning::Predeclared => name(alloc, around, table, meaning),
+        Meaning::Declared(_) => name(alloc, judge, meaning),
+        Meaning::Predeclared => name(alloc, judge, meaning),
     }
 }
 

@@ -13,5 +13,5 @@ pub returns : goal.returns
 returns c =
     let told = broken_by c.args.spec.now.file c.args.spec.now.told_at in
     c.in_ok-push_each.ensures
-    ∙ ap (λ l. c.args.found.now.items ++ flat_map told l) (ap evaluated_views c.deref.ensures.value ∙ c.in_ok-list.ensures)
+    ∙ ap (λ l. c.args.found.now.items ++ flat_map told l) (ap evaluated_views c.deref.ensures.value ∙ c.in_ok-list.ensures.list)
     ∙ ap (λ l. c.args.found.now.items ++ l) (flat_map-map told (evaluated (means_by c.args.around.now) (headers_by c.args.around.now c.args.table.now)) (nodes_in (tree_of c.args.node.now)))

@@ -15,4 +15,4 @@ loop-node-preserved c =
     nodes_more c.args.file.now.stub (file_view c.args.file.now.file.now) (means_by c.args.around.now) (headers_by c.args.around.now c.args.table.now) (tree_of c.node-item.result)
     (map tree_of (drop i nodes)) (map tree_of (drop (i + 1) nodes)) c.in_ok-evaluate.field-0.items c.deref.result.now
     (map line_view c.loop-node.lines.items) (map line_view c.push_each.new.lines.items) _
-    (ap (map tree_of) (drop-step nodes i c.node-item.result (omega arith) c.node-item.is)) c.deref.ensures.value c.in_ok-evaluate.ensures c.in_ok-push_each.ensures c.loop-node.invariant
+    (ap (map tree_of) (drop-step nodes i c.node-item.result (omega arith) c.node-item.is)) c.deref.ensures.value c.in_ok-evaluate.ensures.list c.in_ok-push_each.ensures c.loop-node.invariant

@@ -12,5 +12,5 @@ use Rattle.go_decl.proofs.waits.push_awaited_in.Goals as goal
 pub returns : goal.returns
 returns c =
     c.in_ok-push_each.ensures
-    ∙ ap (λ l. c.args.numbers.now ++ flat_map (λ (e : EvaluatedData). awaited_in e.outcome) l) (ap evaluated_views c.deref.ensures.value ∙ c.in_ok-list.ensures)
+    ∙ ap (λ l. c.args.numbers.now ++ flat_map (λ (e : EvaluatedData). awaited_in e.outcome) l) (ap evaluated_views c.deref.ensures.value ∙ c.in_ok-list.ensures.list)
     ∙ ap (λ l. c.args.numbers.now ++ l) (flat_map-map (λ (e : EvaluatedData). awaited_in e.outcome) (evaluated (means_by c.args.around.now) (headers_by c.args.around.now c.args.table.now)) (nodes_in (tree_of c.args.node.now)))

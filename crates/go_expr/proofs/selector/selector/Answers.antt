@@ -3,30 +3,29 @@ use Rattle.go_model.specs.declared.meaning.Meaning.TheVariants.{Declared, Other,
 use Rattle.go_model.specs.Outcomes.Constructs.Selector as spec
 use Rattle.go_model.specs.Outcomes.Judged.{judged}
 use Rattle.go_model.specs.Outcomes.View.{outcome_view}
-use Rattle.go_expr.specs.Table.{headers_by}
 use Rattle.go_expr.proofs.NodeOutcomeLemmas.{name_selector}
 use Rattle.go_expr.proofs.ResultLemmas.{if_ok}
 use Rattle.go_expr.proofs.selector.selector.Goals as goal
 
-pub returns-in-Other : goal.returns-in-Other
-returns-in-Other c =
-    let headers = headers_by c.args.around.now c.args.table.now in
+pub returns-in-Other-clause-outcome : goal.returns-in-Other-clause-outcome
+returns-in-Other-clause-outcome g c =
+    let headers = g.J.Ask.headers c.args.judge.now in
     if_ok c.of_value.result _ _
     (λ outcome is parts. is headers parts ∙ ap (λ m. judged headers (spec.selector m) (outcome_view c.args.operand.now ∷ parts)) (sym c.in-Other.is))
     c.of_value.ensures
 
-pub returns-in-Declared : goal.returns-in-Declared
-returns-in-Declared c =
-    let headers = headers_by c.args.around.now c.args.table.now in
+pub returns-in-Declared-clause-outcome : goal.returns-in-Declared-clause-outcome
+returns-in-Declared-clause-outcome g c =
+    let headers = g.J.Ask.headers c.args.judge.now in
     let x = outcome_view c.args.operand.now in
     if_ok c.name.result _ _
     (λ outcome is parts. is (x ∷ parts) ∙ name_selector headers c.args.meaning x parts (λ e. (let never : Declared c.in-Declared.field-0 ≡ Other = sym c.in-Declared.is ∙ e in cc)))
-    c.name.ensures
+    c.name.ensures.outcome
 
-pub returns-in-Predeclared : goal.returns-in-Predeclared
-returns-in-Predeclared c =
-    let headers = headers_by c.args.around.now c.args.table.now in
+pub returns-in-Predeclared-clause-outcome : goal.returns-in-Predeclared-clause-outcome
+returns-in-Predeclared-clause-outcome g c =
+    let headers = g.J.Ask.headers c.args.judge.now in
     let x = outcome_view c.args.operand.now in
     if_ok c.name-in-Predeclared.result _ _
     (λ outcome is parts. is (x ∷ parts) ∙ name_selector headers c.args.meaning x parts (λ e. (let never : Predeclared ≡ Other = sym c.in-Predeclared.is ∙ e in cc)))
-    c.name-in-Predeclared.ensures
+    c.name-in-Predeclared.ensures.outcome
