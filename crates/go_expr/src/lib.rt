@@ -1,10 +1,9 @@
 //! What expressions come to over the headers that are known.
 //!
-//! `outcome` gives the outcome of an expression, from which `record` and `header_over` read its record and the header of
-//! a declaration; `evaluate` gives each node of an expression or a type with its outcome. Each construct has a file of
-//! its own. They ask a judge for headers and meanings; `TableJudge` is one over a table of headers, `Around` says what
-//! identifiers mean there. How headers are found is left to go_decl, which rules are told where
-//! to go_check.
+//! `outcome` gives the outcome of an expression, from which `record` and `header_over` read its record and the header
+//! of a declaration; `evaluate` gives each node of an expression or a type with its outcome. Each construct has a file
+//! of its own. They ask a judge for headers and meanings; `TableJudge` is one over a table of headers, `Around` says
+//! what identifiers mean there. How headers are found is left to go_decl, which rules are told where to go_check.
 #![tactic(auto)]
 
 mod rules;
