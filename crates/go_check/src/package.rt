@@ -39,7 +39,8 @@ use indexmap::IndexMap;
 use std::alloc::Global;
 
 /// The verdict on the package at a place of the module, whose imports are accepted. `before` has the headers of the
-/// declarations of accepted packages, and gets those of the package where it is accepted. An error is want of memory.
+/// declarations of accepted packages, and gets those of the package where it is accepted. An error is want of memory;
+/// `before` may then have some of these.
 pub fn check_package(
     alloc: Global,
     module: &Module,
@@ -88,34 +89,41 @@ fn check_values(
         places: &places,
         before,
     };
-    let Judged { verdict, headers } = judge(alloc, own, outline, &around, &files, &declarations)?;
+    let Checked { verdict, headers } = verdict_by_values(
+        alloc,
+        own,
+        outline,
+        &around,
+        &files,
+        &declarations,
+    )?;
     add_headers(before, &headers)?;
     Ok(verdict)
 }
 
 // A verdict, and the headers of declarations that are known behind it.
 #[derive(Drop)]
-struct Judged {
+struct Checked {
     verdict: Verdict,
     headers: Vec<(ObjId, Header)>,
 }
 
 // The verdict by the values of declarations.
-fn judge(
+fn verdict_by_values(
     alloc: Global,
     own: &Package,
     outline: &Outline,
     around: &Around,
     files: &[OwnFile],
     declarations: &[Declaration],
-) -> Result<Judged, NoMemory>
+) -> Result<Checked, NoMemory>
     requires files { own_files_view files.now ≡ own_files_in (package_view own.now) }
     requires declarations { declarations_view declarations.now ≡ names.declarations_of (package_view own.now) }
     requires around { IsAround (declarations_view declarations.now) around.now }
-    ensures { IfOk result (λ judged. (m : ModuleData) (k : ℕ) → slice_get m.packages k ≡ Some (package_view own.now)
+    ensures { IfOk result (λ checked. (m : ModuleData) (k : ℕ) → slice_get m.packages k ≡ Some (package_view own.now)
         → outline_view outline.now ≡ outline_of m → AreUses m k around.now.uses.now.entries → phases.IsVerdict m k
-        (package_view own.now) (before_by around.now) (verdict_view judged.verdict)
-        (known_with (before_by around.now) (pairs_view judged.headers.items))) }
+        (package_view own.now) (before_by around.now) (verdict_view checked.verdict)
+        (known_with (before_by around.now) (pairs_view checked.headers.items))) }
 {
     let table = headers(alloc, around, declarations)?;
     let cyclic = cyclic_declarations(alloc, around, &table, declarations)?;
@@ -124,7 +132,7 @@ fn judge(
         accept(alloc, outline, around, &table, files, declarations)
     } else {
         let verdict = Verdict::Refused(placed_list(alloc, own, &list)?);
-        Ok(Judged {
+        Ok(Checked {
             verdict,
             headers: Vec::new(alloc),
         })
@@ -139,17 +147,17 @@ fn accept(
     table: &[Option<Header>],
     files: &[OwnFile],
     declarations: &[Declaration],
-) -> Result<Judged, NoMemory>
-    ensures verdict { IfOk result (λ judged. (k : ℕ) (p : PackageData) → own_files_view files.now ≡ own_files_in p
+) -> Result<Checked, NoMemory>
+    ensures verdict { IfOk result (λ checked. (k : ℕ) (p : PackageData) → own_files_view files.now ≡ own_files_in p
         → IsAccepting (outline_view outline.now) k p (denotes_by around.now) (means_by around.now)
-        (headers_by around.now table.now) (verdict_view judged.verdict)) }
-    ensures headers { IfOk result (λ judged. pairs_view judged.headers.items
+        (headers_by around.now table.now) (verdict_view checked.verdict)) }
+    ensures headers { IfOk result (λ checked. pairs_view checked.headers.items
         ≡ headers_in (headers_by around.now table.now) (declarations_view declarations.now)) }
 {
     let lines = lines_of(alloc, outline, files, around, table)?;
     let named = named_in(alloc, outline, &lines)?;
     let headers = headers_in(alloc, around, table, declarations)?;
-    Ok(Judged {
+    Ok(Checked {
         verdict: Verdict::Accepted(Records { lines, named }),
         headers,
     })

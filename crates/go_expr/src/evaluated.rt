@@ -4,7 +4,8 @@ ghost use Rattle.std.specs.Option.{option_map};
 ghost use Rattle.go_tree.specs.Tree.{tree_of};
 ghost use Rattle.go_module.specs.Names.Inner.{inner_parts};
 ghost use Rattle.go_model.specs.Outcomes.View.{outcome_view};
-ghost use Rattle.go_model.specs.Outcomes.Walk.{Headers as Known, outcome};
+ghost use Rattle.go_model.specs.Outcomes.Walk as walk;
+ghost use Rattle.go_model.specs.Outcomes.Walk.{outcome};
 ghost use Rattle.go_expr.specs.Evaluated.{all_evaluated, evaluated_views};
 ghost use Rattle.go_expr.specs.Outcomes.{both_of, only_of, outcome_by_parts};
 ghost use Rattle.go_expr.specs.Outcomes.{parentheses_by_parts, selector_by_parts, sum_by_parts};
@@ -27,7 +28,8 @@ pub struct Evaluated<'a> {
     pub outcome: Outcome,
 }
 
-/// The nodes of an expression or a type with their outcomes, a node before its parts. An error is want of memory.
+/// The nodes of an expression or a type with their outcomes over the headers of the judge, which stays as it is, a node
+/// before its parts. An error is want of memory.
 pub fn evaluate<'a, J: Judge>(
     alloc: Global,
     judge: &mut J,
@@ -138,7 +140,7 @@ fn selector_by_parts<J: Judge>(
 }
 
 fn parentheses_by_parts(outcomes: &[Outcome]) -> Result<Outcome, NoMemory>
-    ensures { IfOk result (λ found. (headers : Known)
+    ensures { IfOk result (λ found. (headers : walk.Headers)
         → outcome_view found ≡ parentheses_by_parts headers (map outcome_view outcomes.now)) }
 {
     match only(outcomes) {
@@ -148,7 +150,7 @@ fn parentheses_by_parts(outcomes: &[Outcome]) -> Result<Outcome, NoMemory>
 }
 
 fn sum_by_parts(alloc: Global, outcomes: &[Outcome]) -> Result<Outcome, NoMemory>
-    ensures { IfOk result (λ found. (headers : Known)
+    ensures { IfOk result (λ found. (headers : walk.Headers)
         → outcome_view found ≡ sum_by_parts headers (map outcome_view outcomes.now)) }
 {
     match both(outcomes) {

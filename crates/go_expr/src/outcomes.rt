@@ -5,7 +5,7 @@ ghost use Rattle.std.specs.Option.{option_map};
 ghost use Rattle.go_tree.specs.Tree.{tree_of};
 ghost use Rattle.go_model.specs.Outcomes.Walk as walk;
 ghost use Rattle.go_model.specs.Outcomes.Readings as readings;
-ghost use Rattle.go_model.specs.Outcomes.Records as known;
+ghost use Rattle.go_model.specs.Outcomes.Records as parts;
 ghost use Rattle.go_model.specs.Outcomes.Records.{header_view, rec_view};
 ghost use Rattle.go_model.specs.Outcomes.View.{outcome_view};
 ghost use Rattle.go_model.specs.Values.Records as records;
@@ -24,7 +24,8 @@ use go_names::Declaration;
 use go_tree::{Node, NodeKind};
 use std::alloc::Global;
 
-/// The outcome of a node of an expression over the headers that the table has. An error is want of memory.
+/// The outcome of a node of an expression over the headers of the judge, which stays as it is, also on an error. An error
+/// is want of memory.
 pub fn outcome<J: Judge>(alloc: Global, judge: &mut J, node: &Node) -> Result<Outcome, NoMemory>
     ensures outcome { IfOk result (λ found. outcome_view found
         ≡ walk.outcome (J.means judge.old) (J.headers judge.old) (tree_of node.now)) }
@@ -71,8 +72,8 @@ fn found<J: Judge>(alloc: Global, judge: &mut J, node: &Node) -> Result<Outcome,
     }
 }
 
-/// The record of an expression over the headers that the table has; None where its outcome is another. An error is want
-/// of memory.
+/// The record of an expression over the headers of the judge, which stays as it is; None where its outcome is another. An
+/// error is want of memory.
 pub fn record<J: Judge>(alloc: Global, judge: &mut J, node: &Node) -> Result<Option<Rec>, NoMemory>
     ensures record { IfOk result (λ found. option_map rec_view found
         ≡ records.record_of (J.means judge.old) (J.headers judge.old) (tree_of node.now)) }
@@ -94,7 +95,7 @@ fn record_in(outcome: Outcome) -> Option<Rec>
     }
 }
 
-/// The header of a declaration over those that the table has. An error is want of memory.
+/// The header of a declaration over those of the judge, which stays as it is. An error is want of memory.
 pub fn header_over<J: Judge>(
     alloc: Global,
     judge: &mut J,
@@ -114,7 +115,7 @@ pub fn header_over<J: Judge>(
 // The header of a constant that is declared with this record.
 fn declared_header(found: Option<Rec>) -> Option<Header>
     ensures { option_map header_view result
-        ≡ option_and_then known.declared_header (option_map rec_view found) }
+        ≡ option_and_then parts.declared_header (option_map rec_view found) }
 {
     let Rec { ty, value, .. } = found?;
     Some(Header::Const(ty?, value?))

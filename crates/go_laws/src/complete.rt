@@ -11,7 +11,8 @@ ghost use Rattle.go_model.specs.Values.Meaning.{meaning_in};
 ghost use Rattle.go_laws.specs.Complete.{IsAcceptedAt, IsComplete, IsReached};
 
 /// Where the check of a module that is loaded comes to a package whose imports are accepted, and accepts it, each
-/// declaration of the package has a header, and each node of its expressions that is asked for a record has one.
+/// declaration of the package has a header, and each node of its expressions that is asked for a record has one, over
+/// the headers that are known behind it.
 pub fn accepted_is_complete()
     ensures { (own stubs : Folder) (m : ModuleData) → IsModule own stubs m
         → (k : ℕ) (marks : List Bool) (p : PackageData) (before after : Headers)
@@ -21,7 +22,8 @@ pub fn accepted_is_complete()
         → IsComplete (meaning_in m k p before) after p }
 {}
 
-/// The check of a module comes so to each package that the report of the module calls accepted.
+/// To each package that the report of a module calls accepted the check comes with its imports accepted, and accepts it
+/// with the verdict of the report.
 pub fn reports_are_reached()
     ensures { (m : ModuleData) (report : ReportData) → ReportOf m report
         → (k : ℕ) (p : PackageData) (r : PackageReportData)

@@ -1,8 +1,8 @@
 //! Laws that join what the crates below define.
 //!
-//! `accepted_is_complete`: where the check of a module that is loaded accepts a package, each declaration of it has a
-//! header, and each node of an expression that is asked for a record has one.
-//! `reports_are_reached`: it comes so to each package that its report calls accepted.
+//! `accepted_is_complete`: where the check of a module that is loaded accepts a package whose imports are accepted, each
+//! declaration of it has a header, and each node of its expressions that is asked for a record has one.
+//! `reports_are_reached`: the check of a module comes to each package that its report calls accepted, and accepts it.
 //! `node_numbers_ascend`: each node of a module that is loaded has a number of its own.
 //! `values_are_built`: in such a module each expression of a declaration is made of what is built.
 #![tactic(auto)]

@@ -5,9 +5,9 @@ ghost use Rattle.go_module.specs.Modules.Module.{ModuleData};
 ghost use Rattle.go_load.specs.Loading.{IsModule};
 ghost use Rattle.go_laws.specs.NodeNumbers.{NodeNumbersAscend};
 
-/// In a module that is loaded each node of each file has a number of its own: in a package the numbers ascend, from the
-/// first number on, file after file and in each in the order in which its nodes end; and no node of one package has the
-/// number of a node of another.
+/// In a module that is loaded each node of each file has a number of its own: in a package the numbers ascend, file after
+/// file and in each in the order in which its nodes end; none is below the first number of a module; and no node of one
+/// package has the number of a node of another.
 pub fn node_numbers_ascend()
     ensures { (own stubs : Folder) (m : ModuleData) → IsModule own stubs m → NodeNumbersAscend m }
 {}

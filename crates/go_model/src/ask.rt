@@ -14,10 +14,12 @@ pub trait Ask {
     /// What the map has for each declaration, by its number.
     ghost headers: { Self → walk.Headers };
 
-    /// What identifiers mean, by the numbers of their nodes, in the package that is asked.
+    /// What identifiers mean, by the numbers of their nodes, in the package whose expressions are judged; nothing where
+    /// the map knows no identifiers. It stands here, since a call of `ask` keeps it.
     ghost means: { Self → ℕ → Meaning };
 
-    /// The header of a declaration, None exactly where the map has none. An error is want of memory.
+    /// The header of a declaration, None exactly where the map has none. An error is want of memory. The map and the
+    /// meanings stay, also on an error.
     fn ask(&mut self, d: ObjId) -> Result<Option<Header>, NoMemory>
         ensures answer { IfOk result (λ header. option_map header_view header ≡ headers self.old d.0) }
         ensures same { headers self.new ≡ headers self.old }

@@ -16,6 +16,7 @@ pub enum Header {
 impl Clone for Header {
     ghost is_clone = { λ header copy. copy ≡ header };
 
+    /// The header once more. An error is want of memory.
     fn clone(&self) -> Result<Header, AllocError> {
         match self {
             Header::Const(ty, value) => Ok(Header::Const(*ty, copy_of(value)?)),

@@ -5,7 +5,7 @@ use crate::ask::Ask;
 use crate::meaning::Meaning;
 use go_tree::NodeId;
 
-/// What is known of identifiers and types (Go specification, "Declarations and scope", "Types").
+/// What is known of identifiers (Go specification, "Declarations and scope"). Of types nothing is asked yet.
 pub trait Forms: Ask {
     /// What an identifier means, by its node.
     fn meaning(&self, id: NodeId) -> Meaning

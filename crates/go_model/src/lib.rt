@@ -1,10 +1,11 @@
 //! What the checker is held against: headers, records, outcomes, the rules on values, reports and their text.
 //!
-//! The definitions stand in specs/: which headers the declarations of a package have (`Records`,
-//! `Headers`), which outcome each node of an expression has (`Outcomes`), which rules the declarations
+//! The definitions stand in specs/: which headers the declarations of a package have (`Values/Records`,
+//! `Values/Headers`), which outcome each node of an expression has (`Outcomes`), which rules the declarations
 //! break (`Waiting`, `Rules`), where objects are declared (`Outline`), which report a module has
 //! (`Phases`, `PackageLines`, `LineOrder`, `Report`), its status (`Status`) and how it reads (`Text`). A law
-//! is the contract of a function that does nothing. What modules, declarations and scopes are stands in
+//! is the contract of a function that does nothing. Maps of headers can be asked (`Headers`, `Ask`), and judges
+//! of expressions stand in levels above (`Forms` to `Judge`). What modules, declarations and scopes are stands in
 //! go_module, whose types are named here again.
 #![tactic(auto)]
 

@@ -28,6 +28,7 @@ pub enum Outcome {
 impl Clone for Outcome {
     ghost is_clone = { λ outcome copy. outcome_view copy ≡ outcome_view outcome };
 
+    /// The outcome once more. An error is want of memory.
     fn clone(&self) -> Result<Outcome, AllocError> {
         match self {
             Outcome::Found(rec) => Ok(Outcome::Found(rec.clone()?)),
@@ -45,8 +46,7 @@ fn copied(spots: &Vec<Spot>) -> Result<Vec<Spot>, AllocError>
     spots.clone()
 }
 
-/// Where in a node a rule is broken: at the node, at the name after its `.`, or at an operand, counted
-/// from 0.
+/// Where in a node a rule is broken: at the node, at the name after its `.`, or at a part, counted from 0.
 #[derive(Clone, Copy, Debug, PartialEq, Eq)]
 pub enum Spot {
     Whole,

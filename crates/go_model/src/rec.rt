@@ -27,6 +27,7 @@ pub struct Rec {
 impl Clone for Rec {
     ghost is_clone = { λ rec copy. copy ≡ rec };
 
+    /// The record once more. An error is want of memory.
     fn clone(&self) -> Result<Rec, AllocError> {
         Ok(Rec {
             mode: self.mode,

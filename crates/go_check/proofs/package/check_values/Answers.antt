@@ -13,8 +13,8 @@ use Rattle.go_check.specs.Packages.Known.{known_with, pairs_view}
 use Rattle.go_check.proofs.ValueLemmas.{specs_are}
 use Rattle.go_check.proofs.package.check_values.Goals as goal
 
-pub judge-requires-clause-declarations : goal.judge-requires-clause-declarations
-judge-requires-clause-declarations c =
+pub verdict_by_values-requires-clause-declarations : goal.verdict_by_values-requires-clause-declarations
+verdict_by_values-requires-clause-declarations c =
     let p = package_view c.args.own.now in
     ap declarations_view c.deref-4.ensures.value
     ∙ c.in_ok-declarations.ensures

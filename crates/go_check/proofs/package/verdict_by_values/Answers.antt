@@ -18,7 +18,7 @@ use Rattle.go_check.specs.View.{outline_view}
 use Rattle.go_check.proofs.KnownLemmas.{known_after, known_alone}
 use Rattle.go_check.proofs.ResultLemmas.{both_if_ok}
 use Rattle.go_check.proofs.VerdictLemmas.{breaks, denotes_are, means_are, refused_values, sound_names, sound_verdict}
-use Rattle.go_check.proofs.package.judge.Goals as goal
+use Rattle.go_check.proofs.package.verdict_by_values.Goals as goal
 
 pub returns-then-breaks_none : goal.returns-then-breaks_none
 returns-then-breaks_none c =
@@ -35,15 +35,15 @@ returns-then-breaks_none c =
     let listed = subst (λ t. IsListOf (broken_values means (headers_by around table) (marked_by (places_by around) t) p) list) c.deref-3.ensures.value over_table in
     let none : list ≡ [] = sym c.deref-4.ensures.value ∙ c.breaks_none.ensures.none c.if-breaks_none.true in
     both_if_ok c.accept.result _ _ _
-    (λ judged verdict headers m k at outline uses.
+    (λ checked verdict headers m k at outline uses.
     let same = means_are m k p at declarations around c.requires.declarations c.requires.around uses in
     let found = breaks m k p before means declarations same c.requires.declarations (headers_by around table) cyclic list (sound_names m k p at around.uses.now.entries uses) c.in_ok-table.ensures.exact chains listed in
-    let accepting = subst (λ o. IsAccepting o k p (denotes_by around) means (headers_by around table) (verdict_view judged.verdict)) outline
-    (subst (λ t. IsAccepting (outline_view c.args.outline.now) k p (denotes_by around) means (headers_by around t) (verdict_view judged.verdict)) c.deref-then-breaks_none.ensures.value (verdict k p c.requires.files)) in
-    let after : known_with before (pairs_view judged.headers.items) ≡ headers_by around table =
+    let accepting = subst (λ o. IsAccepting o k p (denotes_by around) means (headers_by around table) (verdict_view checked.verdict)) outline
+    (subst (λ t. IsAccepting (outline_view c.args.outline.now) k p (denotes_by around) means (headers_by around t) (verdict_view checked.verdict)) c.deref-then-breaks_none.ensures.value (verdict k p c.requires.files)) in
+    let after : known_with before (pairs_view checked.headers.items) ≡ headers_by around table =
     ap (known_with before) (headers ∙ ap (λ t. headers_in (headers_by around t) declarations) c.deref-then-breaks_none.ensures.value)
     ∙ known_after around table declarations c.requires.around in
-    sound_verdict m k p before means declarations same c.requires.declarations (headers_by around table) (known_with before (pairs_view judged.headers.items)) (denotes_by around) list (verdict_view judged.verdict) found none
+    sound_verdict m k p before means declarations same c.requires.declarations (headers_by around table) (known_with before (pairs_view checked.headers.items)) (denotes_by around) list (verdict_view checked.verdict) found none
     (denotes_are m k p at declarations around c.requires.declarations c.requires.around uses)
     accepting after)
     c.accept.ensures.verdict c.accept.ensures.headers
