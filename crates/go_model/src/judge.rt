@@ -1,8 +1,13 @@
 // Who judges expressions, level above level: a call of one level is answered by those below alone.
-ghost use Rattle.std.specs.Prelude.{◌≡◌};
+ghost use Rattle.std.specs.Prelude.{◌≡◌, ℕ, [], ◌∷◌, None, OnErr, OnOk};
+ghost use Rattle.go_model.specs.Outcomes.Records.{header_view};
+ghost use Rattle.go_model.specs.Values.Headers.{headers_of};
 
 use crate::ask::Ask;
+use crate::header::Header;
 use crate::meaning::Meaning;
+use go_base::NoMemory;
+use go_module::ObjId;
 use go_tree::NodeId;
 
 /// What is known of identifiers (Go specification, "Declarations and scope"). Of types nothing is asked yet.
@@ -24,3 +29,14 @@ pub trait Sets: Finds {}
 /// Assignability, conversion and inference (Go specification, "Assignability", "Conversions", "Type inference"). None is
 /// judged yet.
 pub trait Judge: Sets {}
+
+/// A judge that is told headers.
+pub trait Rules: Judge {
+    /// Adds the header of a declaration that has none. An error is want of memory, and leaves the headers as they were.
+    fn learn(&mut self, d: ObjId, header: &Header) -> Result<(), NoMemory>
+        requires { Self.headers self.old d.0 ≡ None }
+        ensures learned { OnOk result ((e : ℕ) → Self.headers self.new e
+            ≡ headers_of (Self.headers self.old) ((d.0, header_view header.now) ∷ []) e) }
+        ensures err { OnErr result ((e : ℕ) → Self.headers self.new e ≡ Self.headers self.old e) }
+        ensures means { Self.means self.new ≡ Self.means self.old };
+}

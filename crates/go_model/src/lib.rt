@@ -39,7 +39,7 @@ pub use go_module::{
 };
 pub use header::Header;
 pub use headers::Headers;
-pub use judge::{Finds, Forms, Judge, Same, Sets};
+pub use judge::{Finds, Forms, Judge, Rules, Same, Sets};
 pub use laws::{
     decided_stays, declared_everywhere, one_header, one_report, outcomes_exactly, outcomes_stay,
 };
