@@ -1,21 +1,21 @@
 -- The headers that are known behind a package are those before and its own.
-use Rattle.std.proofs.Common.{◌≡◌, ℕ, zero, suc, Bool, true, false, cond, Option, Some, None, List, [], ◌∷◌, ◌++◌, refl, sym, ap, ◌∙◌}
-use Rattle.std.specs.Prelude.{◌||◌, slice_get}
+use Rattle.std.proofs.Common.{◌≡◌, ℕ, Bool, true, false, cond, Option, Some, None, List, [], ◌∷◌, ◌++◌, ◌⊎◌, inl, inr, refl, sym, ap, ◌∙◌, arith}
+use Rattle.std.specs.Prelude.{◌||◌, ◌==◌, ◌↔◌}
 use Rattle.std.specs.List.{list_any}
 use Rattle.std.specs.Map.{lookup}
 use Rattle.std.specs.Option.{option_map_or, option_or}
 use Rattle.std.proofs.Math.Path.{fun_ext}
+use Rattle.std.proofs.lemmas.Bool.Decides.{nat_tests}
 use Rattle.go_base.specs.declared.ids.ObjId.{ObjId}
 use Rattle.go_module.specs.Names.Declarations.{Declaration, number_of}
 use Rattle.go_module.specs.Scopes.{same_object}
-use Rattle.go_model.specs.declared.header.Header.{Header}
 use Rattle.go_model.specs.Outcomes.Records.{HeaderData}
 use Rattle.go_model.specs.Outcomes.Walk.{Headers}
-use Rattle.go_model.proofs.EntryLemmas.{is_same, same_is}
-use Rattle.go_expr.specs.declared.around.Around.{Around}
-use Rattle.go_expr.specs.Table.{header_at, headers_by}
-use Rattle.go_expr.specs.View.{IsAround, before_by, places_by}
-use Rattle.go_decl.proofs.PlaceLemmas.{open_is}
+use Rattle.go_model.specs.declared.meaning.Meaning.{Meaning}
+use Rattle.go_model.specs.Values.Declared.{declared_as}
+use Rattle.go_model.specs.Values.Headers.{Follows, Known, headers_of}
+use Rattle.go_model.proofs.EntryLemmas.{same_is}
+use Rattle.go_model.proofs.HeaderLemmas.{stays}
 use Rattle.go_check.specs.Packages.Known.{headers_in, known_with}
 
 -- with no more headers the same are known
@@ -61,39 +61,36 @@ module _ (headers : Headers) (q : ObjId) where
           ∙ chosen (same_object q (number_of d)) (is_among ds) h (at (headers_in headers ds)) later
           (λ same. sym e ∙ ap (λ (x : ObjId). headers x.0) (sym (same_is q (number_of d) same)))
 
-  -- it is one of them where it stands at a place
-  among_at : (ds : List Declaration) (place : ℕ) (declaration : Declaration) → slice_get ds place ≡ Some declaration → number_of declaration ≡ q → is_among ds ≡ true
-  among_at [] place declaration there is = absurd (let never : None ≡ Some declaration = there in cc)
-  among_at (d ∷ ds) zero declaration there is =
-      let same : d ≡ declaration = (let both : Some d ≡ Some declaration = there in cc) in
-      ap (λ b. b || is_among ds) (is_same q (number_of d) (sym is ∙ ap number_of (sym same)))
-  among_at (d ∷ ds) (suc place) declaration there is = behind (same_object q (number_of d)) (among_at ds place declaration there is)
+-- what a number names is among the declarations
+named_among : (ds : List Declaration) (q : ObjId) (declaration : Declaration) → declared_as ds q.0 ≡ Some declaration → list_any (λ d. same_object q (number_of d)) ds ≡ true
+named_among [] q declaration e = absurd (let never : None ≡ Some declaration = e in cc)
+named_among (d ∷ ds) q declaration e = by_test ((number_of d).0 == q.0) refl (named_among ds q declaration) e
+  where
+    by_test : (b : Bool) → ((number_of d).0 == q.0) ≡ b → (declared_as ds q.0 ≡ Some declaration → list_any (λ x. same_object q (number_of x)) ds ≡ true)
+        → cond b (Some d) (declared_as ds q.0) ≡ Some declaration → (same_object q (number_of d) || list_any (λ x. same_object q (number_of x)) ds) ≡ true
+    by_test true at later found = let same : same_object q (number_of d) ≡ true = grind (arith, nat_tests) in ap (λ b. b || list_any (λ x. same_object q (number_of x)) ds) same
+    by_test false at later found = let other : same_object q (number_of d) ≡ false = grind (arith, nat_tests) in ap (λ b. b || list_any (λ x. same_object q (number_of x)) ds) other ∙ later found
+
+module _ (before : Headers) (means : ℕ → Meaning) (declarations : List Declaration) (headers : Headers) (exact : (d : ℕ) (h : HeaderData) → (headers d ≡ Some h) ↔ Known before means declarations d h) where
+  -- what no declaration has is known before, if at all
+  outside : (q : ObjId) → before q.0 ≡ None → is_among headers q declarations ≡ false → (o : Option HeaderData) → headers q.0 ≡ o → o ≡ None
+  outside q fresh none None e = refl
+  outside q fresh none (Some h) e = absurd (by_either (stays before means declarations known.list known.justified q.0 h known.has))
     where
-      behind : (b : Bool) → is_among ds ≡ true → (b || is_among ds) ≡ true
-      behind true e = refl
-      behind false e = e
+      known : Known before means declarations q.0 h
+      known = (exact q.0 h).0 e
 
-module _ (around : Around) (table : List (Option Header)) (declarations : List Declaration) (is_around : IsAround declarations around) where
-  -- what an object without a place has is known before
-  outside : (before : Option HeaderData) (b : Bool) → option_or before (cond b before None) ≡ before
-  outside None true = refl
-  outside None false = refl
-  outside (Some h) b = refl
+      by_either : (before q.0 ≡ Some h) ⊎ Follows before means declarations (headers_of before known.list) q.0 h → ⊥
+      by_either (inl was) = let never : None ≡ Some h = sym fresh ∙ was in cc
+      by_either (inr follows) = let never : true ≡ false = sym (named_among declarations q follows.declaration follows.declared) ∙ none in cc
 
-  inside : (before own : Option HeaderData) (b : Bool) → before ≡ None → b ≡ true → option_or before (cond b own None) ≡ own
-  inside before own b fresh among = (λ i. option_or (fresh i) (cond (among i) own None))
+  header_after : (q : ObjId) (o : Option HeaderData) → before q.0 ≡ o → option_or o (lookup (same_object q) (headers_in headers declarations)) ≡ headers q.0
+  header_after q (Some b) e = sym ((exact q.0 b).1 (record { list = []; justified = tt; has = e }))
+  header_after q None e = found_in headers q declarations ∙ by_test (is_among headers q declarations) refl
+    where
+      by_test : (b : Bool) → is_among headers q declarations ≡ b → cond b (headers q.0) None ≡ headers q.0
+      by_test true is = refl
+      by_test false is = sym (outside q e is (headers q.0) refl)
 
-  header_after : (q : ObjId) (o : Option ℕ) → places_by around q ≡ o → known_with (before_by around) (headers_in (headers_by around table) declarations) q.0 ≡ headers_by around table q.0
-  header_after q None e =
-      let own : headers_by around table q.0 ≡ before_by around q.0 = ap (header_at table (before_by around q.0)) e in
-      ap (option_or (before_by around q.0)) (found_in (headers_by around table) q declarations ∙ ap (λ h. cond (is_among (headers_by around table) q declarations) h None) own)
-      ∙ outside (before_by around q.0) (is_among (headers_by around table) q declarations)
-      ∙ sym own
-  header_after q (Some place) e =
-      let is = open_is (before_by around) declarations q place (sym (is_around q) ∙ e) in
-      ap (option_or (before_by around q.0)) (found_in (headers_by around table) q declarations)
-      ∙ inside (before_by around q.0) (headers_by around table q.0) (is_among (headers_by around table) q declarations) is.fresh
-      (among_at (headers_by around table) q declarations place is.placed.declaration is.placed.at is.placed.number)
-
-  pub known_after : known_with (before_by around) (headers_in (headers_by around table) declarations) ≡ headers_by around table
-  known_after = fun_ext (λ d. header_after (record { 0 = d }) (places_by around (record { 0 = d })) refl)
+  pub known_after : known_with before (headers_in headers declarations) ≡ headers
+  known_after = fun_ext (λ d. header_after (record { 0 = d }) (before d) refl)

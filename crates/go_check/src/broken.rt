@@ -11,13 +11,13 @@ ghost use Rattle.go_model.specs.Values.Rules as rules;
 ghost use Rattle.go_names.specs.Views.{spec_view};
 ghost use Rattle.go_expr.specs.Evaluated.{evaluated_view, evaluated_views};
 ghost use Rattle.go_check.specs.Lines.Nodes.{broken_by};
-ghost use Rattle.go_expr.specs.Table.{headers_by};
+ghost use Rattle.go_expr.specs.OwnHeaders.{headers_by};
 ghost use Rattle.go_expr.specs.View.{means_by};
 
 use crate::rules::UNEQUAL_SIDES;
 use go_base::{Broken, NoMemory, Rule};
-use go_expr::{Around, Evaluated, TableJudge, evaluate, record};
-use go_model::{Header, Outcome, Spot};
+use go_expr::{Around, Evaluated, PackageJudge, evaluate, record};
+use go_model::{Headers, Outcome, Spot};
 use go_module::{add_if, broken_at};
 use go_names::Spec;
 use go_tree::Node;
@@ -28,50 +28,50 @@ use std::alloc::Global;
 pub fn push_spec(
     alloc: Global,
     around: &Around,
-    table: &[Option<Header>],
+    known: &Headers,
     spec: &Spec,
     found: &mut Vec<Broken>,
 ) -> Result<(), NoMemory>
     ensures { OnOk result (found.new.items ≡ found.old.items
-        ++ rules.broken_spec (means_by around.now) (headers_by around.now table.now) (spec_view spec.now)) }
+        ++ rules.broken_spec (means_by around.now) (headers_by around.now known.now) (spec_view spec.now)) }
 {
-    let unequal = are_unequal(alloc, around, table, spec.names, spec.values)?;
+    let unequal = are_unequal(alloc, around, known, spec.names, spec.values)?;
     let start = spec.node.start();
     add_if(found, unequal, broken_at(spec.file, start, UNEQUAL_SIDES))?;
-    push_nodes(alloc, around, table, spec, spec.types, found)?;
-    push_nodes(alloc, around, table, spec, spec.values, found)
+    push_nodes(alloc, around, known, spec, spec.types, found)?;
+    push_nodes(alloc, around, known, spec, spec.values, found)
 }
 
 // Whether the numbers of names and of expressions differ, and all expressions have records.
 fn are_unequal(
     alloc: Global,
     around: &Around,
-    table: &[Option<Header>],
+    known: &Headers,
     names: &[Node],
     values: &[Node],
 ) -> Result<bool, NoMemory>
     ensures { IfOk result (λ unequal. unequal ≡ rules.are_unequal (means_by around.now)
-        (headers_by around.now table.now) (map tree_of names.now) (map tree_of values.now)) }
+        (headers_by around.now known.now) (map tree_of names.now) (map tree_of values.now)) }
 {
     if names.len() == values.len() {
         return Ok(false);
     }
-    have_records(alloc, around, table, values)
+    have_records(alloc, around, known, values)
 }
 
 // Whether all of these expressions have records.
 fn have_records(
     alloc: Global,
     around: &Around,
-    table: &[Option<Header>],
+    known: &Headers,
     values: &[Node],
 ) -> Result<bool, NoMemory>
     ensures { IfOk result (λ each. each ≡ list_all
-        (λ value. is_some (record_of (means_by around.now) (headers_by around.now table.now) value))
+        (λ value. is_some (record_of (means_by around.now) (headers_by around.now known.now) value))
         (map tree_of values.now)) }
 {
     for value in values {
-        if !has_record(alloc, around, table, value)? {
+        if !has_record(alloc, around, known, value)? {
             return Ok(false);
         }
     }
@@ -81,15 +81,15 @@ fn have_records(
 fn has_record(
     alloc: Global,
     around: &Around,
-    table: &[Option<Header>],
+    known: &Headers,
     value: &Node,
 ) -> Result<bool, NoMemory>
     ensures { IfOk result (λ has. has ≡ is_some
-        (record_of (means_by around.now) (headers_by around.now table.now) (tree_of value.now))) }
+        (record_of (means_by around.now) (headers_by around.now known.now) (tree_of value.now))) }
 {
-    let mut judge = TableJudge {
+    let mut judge = PackageJudge {
         around: &*around,
-        table: &*table,
+        known: &*known,
     };
     Ok(record(alloc, &mut judge, value)?.is_some())
 }
@@ -98,17 +98,17 @@ fn has_record(
 fn push_nodes(
     alloc: Global,
     around: &Around,
-    table: &[Option<Header>],
+    known: &Headers,
     spec: &Spec,
     nodes: &[Node],
     found: &mut Vec<Broken>,
 ) -> Result<(), NoMemory>
     ensures { OnOk result (found.new.items ≡ found.old.items ++ flat_map
-        (rules.broken_in spec.now.file spec.now.told_at (means_by around.now) (headers_by around.now table.now))
+        (rules.broken_in spec.now.file spec.now.told_at (means_by around.now) (headers_by around.now known.now))
         (map tree_of nodes.now)) }
 {
     for node in nodes {
-        push_node(alloc, around, table, spec, node, found)?;
+        push_node(alloc, around, known, spec, node, found)?;
     }
     Ok(())
 }
@@ -117,17 +117,17 @@ fn push_nodes(
 fn push_node(
     alloc: Global,
     around: &Around,
-    table: &[Option<Header>],
+    known: &Headers,
     spec: &Spec,
     node: &Node,
     found: &mut Vec<Broken>,
 ) -> Result<(), NoMemory>
     ensures { OnOk result (found.new.items ≡ found.old.items ++ rules.broken_in spec.now.file spec.now.told_at
-        (means_by around.now) (headers_by around.now table.now) (tree_of node.now)) }
+        (means_by around.now) (headers_by around.now known.now) (tree_of node.now)) }
 {
-    let mut judge = TableJudge {
+    let mut judge = PackageJudge {
         around: &*around,
-        table: &*table,
+        known: &*known,
     };
     let list = evaluate(alloc, &mut judge, node)?;
     push_each(spec.file, spec.told_at, &list, found)?;

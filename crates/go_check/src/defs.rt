@@ -11,15 +11,15 @@ ghost use Rattle.go_model.specs.PackageLines as spec;
 ghost use Rattle.go_model.specs.Report.{defined, defined_view, line_view};
 ghost use Rattle.go_names.specs.Views.{declaration_view, declarations_view, trees_at};
 ghost use Rattle.go_check.specs.Lines.Found.{def_lines, import_lines, own_file_view};
-ghost use Rattle.go_expr.specs.Table.{headers_by};
+ghost use Rattle.go_expr.specs.OwnHeaders.{headers_by};
 ghost use Rattle.go_expr.specs.View.{means_by};
 ghost use Rattle.go_check.specs.View.{outline_view};
 
 use crate::outline::Outline;
 use crate::own_file::OwnFile;
 use go_base::NoMemory;
-use go_expr::{Around, TableJudge, header_over};
-use go_model::{DefKind, Header, Line, What};
+use go_expr::{Around, PackageJudge, header_over};
+use go_model::{DefKind, Header, Headers, Line, What};
 use go_module::text_name;
 use go_names::{Declaration, declarations_in};
 use go_tree::{Node, NodeKind};
@@ -31,10 +31,10 @@ pub fn found_defs(
     outline: &Outline,
     file: &OwnFile,
     around: &Around,
-    table: &[Option<Header>],
+    known: &Headers,
 ) -> Result<Vec<Line>, NoMemory>
     ensures { IfOk result (λ lines. map line_view lines.items ≡ def_lines (outline_view outline.now)
-        (means_by around.now) (headers_by around.now table.now) (own_file_view file.now)) }
+        (means_by around.now) (headers_by around.now known.now) (own_file_view file.now)) }
 {
     let mut lines = Vec::new(alloc);
     push_imports(
@@ -46,7 +46,7 @@ pub fn found_defs(
         &mut lines,
     )?;
     let declarations = declarations_in(alloc, &file.specs)?;
-    push_declarations(alloc, file, around, table, &declarations, &mut lines)?;
+    push_declarations(alloc, file, around, known, &declarations, &mut lines)?;
     Ok(lines)
 }
 
@@ -117,17 +117,17 @@ fn push_declarations(
     alloc: Global,
     file: &OwnFile,
     around: &Around,
-    table: &[Option<Header>],
+    known: &Headers,
     declarations: &[Declaration],
     lines: &mut Vec<Line>,
 ) -> Result<(), NoMemory>
     ensures { OnOk result (map line_view lines.new.items ≡ map line_view lines.old.items ++ flat_map
         (spec.declaration_defs file.now.stub (file_view file.now.file.now) (means_by around.now)
-        (headers_by around.now table.now))
+        (headers_by around.now known.now))
         (declarations_view declarations.now)) }
 {
     for declaration in declarations {
-        push_declaration(alloc, file, around, table, declaration, lines)?;
+        push_declaration(alloc, file, around, known, declaration, lines)?;
     }
     Ok(())
 }
@@ -137,17 +137,17 @@ fn push_declaration(
     alloc: Global,
     file: &OwnFile,
     around: &Around,
-    table: &[Option<Header>],
+    known: &Headers,
     declaration: &Declaration,
     lines: &mut Vec<Line>,
 ) -> Result<(), NoMemory>
     ensures { OnOk result (map line_view lines.new.items ≡ map line_view lines.old.items
         ++ spec.declaration_defs file.now.stub (file_view file.now.file.now) (means_by around.now)
-        (headers_by around.now table.now) (declaration_view declaration.now)) }
+        (headers_by around.now known.now) (declaration_view declaration.now)) }
 {
-    let mut judge = TableJudge {
+    let mut judge = PackageJudge {
         around: &*around,
-        table: &*table,
+        known: &*known,
     };
     if let Some(header) = header_over(alloc, &mut judge, declaration)? {
         lines.push(def_line(alloc, file, declaration.name, told_as(header))?)?;

@@ -12,14 +12,14 @@ ghost use Rattle.go_names.specs.Views.{spec_view, specs_view};
 ghost use Rattle.go_expr.specs.Evaluated.{evaluated_view, evaluated_views};
 ghost use Rattle.go_check.specs.Lines.Nodes.{line_by};
 ghost use Rattle.go_check.specs.Lines.Found.{expr_lines, own_file_view};
-ghost use Rattle.go_expr.specs.Table.{headers_by};
+ghost use Rattle.go_expr.specs.OwnHeaders.{headers_by};
 ghost use Rattle.go_expr.specs.View.{means_by};
 
 use crate::own_file::OwnFile;
 use crate::uses::written;
 use go_base::NoMemory;
-use go_expr::{Around, Evaluated, TableJudge, evaluate};
-use go_model::{Header, Line, Outcome, Rec, What};
+use go_expr::{Around, Evaluated, PackageJudge, evaluate};
+use go_model::{Headers, Line, Outcome, Rec, What};
 use go_names::Spec;
 use go_tree::Node;
 use std::alloc::Global;
@@ -29,14 +29,14 @@ pub fn found_exprs(
     alloc: Global,
     file: &OwnFile,
     around: &Around,
-    table: &[Option<Header>],
+    known: &Headers,
 ) -> Result<Vec<Line>, NoMemory>
     ensures { IfOk result (λ lines. map line_view lines.items
-        ≡ expr_lines (means_by around.now) (headers_by around.now table.now) (own_file_view file.now)) }
+        ≡ expr_lines (means_by around.now) (headers_by around.now known.now) (own_file_view file.now)) }
 {
     let mut lines = Vec::new(alloc);
     for spec in &written(alloc, &file.specs)? {
-        push_spec(alloc, file, around, table, spec, &mut lines)?;
+        push_spec(alloc, file, around, known, spec, &mut lines)?;
     }
     Ok(lines)
 }
@@ -46,17 +46,17 @@ fn push_spec(
     alloc: Global,
     file: &OwnFile,
     around: &Around,
-    table: &[Option<Header>],
+    known: &Headers,
     spec: &Spec,
     lines: &mut Vec<Line>,
 ) -> Result<(), NoMemory>
     ensures { OnOk result (map line_view lines.new.items ≡ map line_view lines.old.items ++ flat_map
         (rule.expr_at file.now.stub (file_view file.now.file.now) (means_by around.now)
-        (headers_by around.now table.now))
+        (headers_by around.now known.now))
         (nodes_in_parts (spec_view spec.now))) }
 {
-    push_nodes(alloc, file, around, table, spec.types, lines)?;
-    push_nodes(alloc, file, around, table, spec.values, lines)
+    push_nodes(alloc, file, around, known, spec.types, lines)?;
+    push_nodes(alloc, file, around, known, spec.values, lines)
 }
 
 // Pushes the lines of the expressions in these.
@@ -64,19 +64,19 @@ fn push_nodes(
     alloc: Global,
     file: &OwnFile,
     around: &Around,
-    table: &[Option<Header>],
+    known: &Headers,
     nodes: &[Node],
     lines: &mut Vec<Line>,
 ) -> Result<(), NoMemory>
     ensures { OnOk result (map line_view lines.new.items ≡ map line_view lines.old.items ++ flat_map
         (rule.expr_at file.now.stub (file_view file.now.file.now) (means_by around.now)
-        (headers_by around.now table.now))
+        (headers_by around.now known.now))
         (flat_map nodes_in (map tree_of nodes.now))) }
 {
     for node in nodes {
-        let mut judge = TableJudge {
+        let mut judge = PackageJudge {
             around: &*around,
-            table: &*table,
+            known: &*known,
         };
         push_each(file, &evaluate(alloc, &mut judge, node)?, lines)?;
     }

@@ -6,7 +6,7 @@ ghost use Rattle.go_model.specs.PackageLines as spec;
 ghost use Rattle.go_model.specs.Report.{line_view};
 ghost use Rattle.go_check.specs.Lines.Found.{def_lines, expr_lines, own_files_in, own_files_view, use_lines};
 ghost use Rattle.go_check.specs.Lines.Ordered.{AddsInOrder};
-ghost use Rattle.go_expr.specs.Table.{headers_by};
+ghost use Rattle.go_expr.specs.OwnHeaders.{headers_by};
 ghost use Rattle.go_expr.specs.View.{denotes_by, means_by};
 ghost use Rattle.go_check.specs.View.{outline_view};
 
@@ -18,7 +18,7 @@ use crate::own_file::OwnFile;
 use crate::uses::found_uses;
 use go_base::NoMemory;
 use go_expr::Around;
-use go_model::{Header, Line};
+use go_model::{Headers, Line};
 use std::alloc::Global;
 
 /// The lines of a package with these files: one for each declared name, then one for each use, then one for each
@@ -28,15 +28,15 @@ pub fn lines_of(
     outline: &Outline,
     files: &[OwnFile],
     around: &Around,
-    table: &[Option<Header>],
+    known: &Headers,
 ) -> Result<Vec<Line>, NoMemory>
     ensures { IfOk result (λ lines. (k : ℕ) (p : PackageData) → own_files_view files.now ≡ own_files_in p
         → spec.AreLines (outline_view outline.now) k p (denotes_by around.now) (means_by around.now)
-        (headers_by around.now table.now) (map line_view lines.items)) }
+        (headers_by around.now known.now) (map line_view lines.items)) }
 {
-    let defs = all_defs(alloc, outline, files, around, table)?;
+    let defs = all_defs(alloc, outline, files, around, known)?;
     let uses = all_uses(alloc, outline, files, around)?;
-    let exprs = all_exprs(alloc, files, around, table)?;
+    let exprs = all_exprs(alloc, files, around, known)?;
     joined(alloc, defs, uses, exprs)
 }
 
@@ -75,14 +75,14 @@ fn all_defs(
     outline: &Outline,
     files: &[OwnFile],
     around: &Around,
-    table: &[Option<Header>],
+    known: &Headers,
 ) -> Result<Vec<Line>, NoMemory>
     ensures { IfOk result (λ lines. AreInOrder (map (def_lines (outline_view outline.now) (means_by around.now)
-        (headers_by around.now table.now)) (own_files_view files.now)) (map line_view lines.items)) }
+        (headers_by around.now known.now)) (own_files_view files.now)) (map line_view lines.items)) }
 {
     let mut lines = Vec::new(alloc);
     for file in files {
-        add_in_order(found_defs(alloc, outline, file, around, table)?, &mut lines)?;
+        add_in_order(found_defs(alloc, outline, file, around, known)?, &mut lines)?;
     }
     Ok(lines)
 }
@@ -109,14 +109,14 @@ fn all_exprs(
     alloc: Global,
     files: &[OwnFile],
     around: &Around,
-    table: &[Option<Header>],
+    known: &Headers,
 ) -> Result<Vec<Line>, NoMemory>
-    ensures { IfOk result (λ lines. AreInOrder (map (expr_lines (means_by around.now) (headers_by around.now table.now))
+    ensures { IfOk result (λ lines. AreInOrder (map (expr_lines (means_by around.now) (headers_by around.now known.now))
         (own_files_view files.now)) (map line_view lines.items)) }
 {
     let mut lines = Vec::new(alloc);
     for file in files {
-        add_in_order(found_exprs(alloc, file, around, table)?, &mut lines)?;
+        add_in_order(found_exprs(alloc, file, around, known)?, &mut lines)?;
     }
     Ok(lines)
 }

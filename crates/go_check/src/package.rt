@@ -15,7 +15,7 @@ ghost use Rattle.go_check.specs.Lines.Found.{own_files_in, own_files_view};
 ghost use Rattle.go_check.specs.Packages.Denoted.{AreDenoted, AreUses};
 ghost use Rattle.go_check.specs.Packages.Known.{headers_in, known_with, pairs_view};
 ghost use Rattle.go_check.specs.Packages.Names.{ImportsSound, sound_at};
-ghost use Rattle.go_expr.specs.Table.{headers_by};
+ghost use Rattle.go_expr.specs.OwnHeaders.{headers_by};
 ghost use Rattle.go_check.specs.Packages.Verdicts.{IsAccepting};
 ghost use Rattle.go_expr.specs.View.{IsAround, before_by, denotes_by, means_by};
 ghost use Rattle.go_check.specs.View.{outline_view};
@@ -125,11 +125,11 @@ fn verdict_by_values(
         (package_view own.now) (before_by around.now) (verdict_view checked.verdict)
         (known_with (before_by around.now) (pairs_view checked.headers.items))) }
 {
-    let table = headers(alloc, around, declarations)?;
-    let cyclic = cyclic_declarations(alloc, around, &table, declarations)?;
-    let list = broken_values(alloc, around, &table, &cyclic, files, declarations, own)?;
+    let known = headers(alloc, around, declarations)?;
+    let cyclic = cyclic_declarations(alloc, around, &known, declarations)?;
+    let list = broken_values(alloc, around, &known, &cyclic, files, declarations, own)?;
     if breaks_none(&list) {
-        accept(alloc, outline, around, &table, files, declarations)
+        accept(alloc, outline, around, &known, files, declarations)
     } else {
         let verdict = Verdict::Refused(placed_list(alloc, own, &list)?);
         Ok(Checked {
@@ -144,19 +144,19 @@ fn accept(
     alloc: Global,
     outline: &Outline,
     around: &Around,
-    table: &[Option<Header>],
+    known: &Headers,
     files: &[OwnFile],
     declarations: &[Declaration],
 ) -> Result<Checked, NoMemory>
     ensures verdict { IfOk result (λ checked. (k : ℕ) (p : PackageData) → own_files_view files.now ≡ own_files_in p
         → IsAccepting (outline_view outline.now) k p (denotes_by around.now) (means_by around.now)
-        (headers_by around.now table.now) (verdict_view checked.verdict)) }
+        (headers_by around.now known.now) (verdict_view checked.verdict)) }
     ensures headers { IfOk result (λ checked. pairs_view checked.headers.items
-        ≡ headers_in (headers_by around.now table.now) (declarations_view declarations.now)) }
+        ≡ headers_in (headers_by around.now known.now) (declarations_view declarations.now)) }
 {
-    let lines = lines_of(alloc, outline, files, around, table)?;
+    let lines = lines_of(alloc, outline, files, around, known)?;
     let named = named_in(alloc, outline, &lines)?;
-    let headers = headers_in(alloc, around, table, declarations)?;
+    let headers = headers_in(alloc, around, known, declarations)?;
     Ok(Checked {
         verdict: Verdict::Accepted(Records { lines, named }),
         headers,
@@ -167,15 +167,15 @@ fn accept(
 fn headers_in(
     alloc: Global,
     around: &Around,
-    table: &[Option<Header>],
+    known: &Headers,
     declarations: &[Declaration],
 ) -> Result<Vec<(ObjId, Header)>, NoMemory>
     ensures { IfOk result (λ headers. pairs_view headers.items
-        ≡ headers_in (headers_by around.now table.now) (declarations_view declarations.now)) }
+        ≡ headers_in (headers_by around.now known.now) (declarations_view declarations.now)) }
 {
     let mut headers = Vec::new(alloc);
     for declaration in declarations {
-        push_header(around, table, declaration.number(), &mut headers)?;
+        push_header(around, known, declaration.number(), &mut headers)?;
     }
     Ok(headers)
 }
@@ -183,14 +183,14 @@ fn headers_in(
 // Pushes the header of a declaration, if there is one.
 fn push_header(
     around: &Around,
-    table: &[Option<Header>],
+    known: &Headers,
     number: ObjId,
     headers: &mut Vec<(ObjId, Header)>,
 ) -> Result<(), NoMemory>
     ensures { OnOk result (pairs_view headers.new.items ≡ pairs_view headers.old.items
-        ++ option_map_or (λ h. (number, h) ∷ []) (headers_by around.now table.now number.0) []) }
+        ++ option_map_or (λ h. (number, h) ∷ []) (headers_by around.now known.now number.0) []) }
 {
-    if let Some(header) = around.header(table, number) {
+    if let Some(header) = around.header(known, number) {
         headers.push((number, header.clone()?))?;
     }
     Ok(())

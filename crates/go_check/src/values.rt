@@ -8,7 +8,7 @@ ghost use Rattle.go_module.specs.Names.Declarations.{declarations_of};
 ghost use Rattle.go_model.specs.Values.Rules as rules;
 ghost use Rattle.go_names.specs.Views.{declaration_view, declarations_view, specs_view};
 ghost use Rattle.go_check.specs.Lines.Found.{all_specs_in, own_files_in, own_files_view};
-ghost use Rattle.go_expr.specs.Table.{headers_by};
+ghost use Rattle.go_expr.specs.OwnHeaders.{headers_by};
 ghost use Rattle.go_expr.specs.View.{means_by, places_by};
 ghost use Rattle.go_decl.specs.Waits.{marked_by};
 
@@ -18,7 +18,7 @@ use crate::rules::CYCLIC_DECLARATION;
 use go_base::{Broken, NoMemory};
 use go_decl::is_cyclic;
 use go_expr::Around;
-use go_model::Header;
+use go_model::Headers;
 use go_module::{Package, add_if, broken_at, ordered, with_numbers};
 use go_names::{Declaration, Spec};
 use std::alloc::Global;
@@ -29,7 +29,7 @@ use std::alloc::Global;
 pub fn broken_values(
     alloc: Global,
     around: &Around,
-    table: &[Option<Header>],
+    known: &Headers,
     cyclic: &[bool],
     files: &[OwnFile],
     declarations: &[Declaration],
@@ -37,12 +37,12 @@ pub fn broken_values(
 ) -> Result<Vec<Broken>, NoMemory>
     requires files { own_files_view files.now ≡ own_files_in (package_view own.now) }
     requires declarations { declarations_view declarations.now ≡ declarations_of (package_view own.now) }
-    ensures { IfOk result (λ list. IsListOf (rules.broken_values (means_by around.now) (headers_by around.now table.now)
+    ensures { IfOk result (λ list. IsListOf (rules.broken_values (means_by around.now) (headers_by around.now known.now)
         (marked_by (places_by around.now) cyclic.now) (package_view own.now)) list.items) }
 {
     let mut found = Vec::new(alloc);
     push_cycles(around, cyclic, declarations, &mut found)?;
-    push_files(alloc, around, table, files, &mut found)?;
+    push_files(alloc, around, known, files, &mut found)?;
     Ok(ordered(with_numbers(alloc, &own.files, &found)?))
 }
 
@@ -84,16 +84,16 @@ fn push_cyclic(
 fn push_files(
     alloc: Global,
     around: &Around,
-    table: &[Option<Header>],
+    known: &Headers,
     files: &[OwnFile],
     found: &mut Vec<Broken>,
 ) -> Result<(), NoMemory>
     ensures { OnOk result (found.new.items ≡ found.old.items
-        ++ flat_map (rules.broken_spec (means_by around.now) (headers_by around.now table.now))
+        ++ flat_map (rules.broken_spec (means_by around.now) (headers_by around.now known.now))
         (all_specs_in (own_files_view files.now))) }
 {
     for file in files {
-        push_specs(alloc, around, table, &file.specs, found)?;
+        push_specs(alloc, around, known, &file.specs, found)?;
     }
     Ok(())
 }
@@ -102,16 +102,16 @@ fn push_files(
 fn push_specs(
     alloc: Global,
     around: &Around,
-    table: &[Option<Header>],
+    known: &Headers,
     specs: &[Spec],
     found: &mut Vec<Broken>,
 ) -> Result<(), NoMemory>
     ensures { OnOk result (found.new.items ≡ found.old.items
-        ++ flat_map (rules.broken_spec (means_by around.now) (headers_by around.now table.now))
+        ++ flat_map (rules.broken_spec (means_by around.now) (headers_by around.now known.now))
         (specs_view specs.now)) }
 {
     for spec in specs {
-        push_spec(alloc, around, table, spec, found)?;
+        push_spec(alloc, around, known, spec, found)?;
     }
     Ok(())
 }

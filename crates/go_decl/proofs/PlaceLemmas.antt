@@ -15,7 +15,7 @@ use Rattle.go_model.specs.Outcomes.Walk.{Headers}
 use Rattle.go_model.specs.Values.Declared.{declared_as}
 use Rattle.go_expr.specs.Places.{place_among}
 use Rattle.go_expr.specs.View.{open_place}
-use Rattle.go_model.proofs.EntryLemmas.{found_behind, is_same, same_is}
+use Rattle.go_model.proofs.EntryLemmas.{found_behind, same_is}
 
 -- the first place at which a test passes, element by element
 later : (c : Bool) (n : ℕ) → cond c (Some (suc n)) None ≡ option_map suc (cond c (Some n) None)

@@ -1,26 +1,25 @@
--- What the rounds keep, and why the table that they end with is exact.
-use Rattle.std.proofs.Common.{◌≡◌, ℕ, zero, suc, ◌<◌, ℤ, false, Option, Some, None, List, [], ◌∷◌, length, get_or, is_some, take, drop, ◌++◌, ◌⊎◌, refl, sym, ap, ◌∙◌, subst, inl, inr, ⊎_elim, arith}
-use Rattle.std.specs.Prelude.{◌↔◌, replicate, slice_get, slice_set}
+-- What rounds keep that tell headers to rules, and why they end.
+use Rattle.std.proofs.Common.{◌≡◌, ℕ, zero, suc, ◌<◌, ◌≤◌, Option, Some, None, List, [], ◌∷◌, length, get_or, ◌++◌, ◌⊎◌, refl, sym, ap, ◌∙◌, subst, inl, inr, ⊎_elim, arith}
+use Rattle.std.specs.Prelude.{◌==◌, ◌↔◌, true, false, is_some, slice_get, if◌then◌else◌}
+use Rattle.std.specs.Map.{lookup}
 use Rattle.std.specs.Option.{option_map}
-use Rattle.std.proofs.lemmas.Bool.{cases_eq}
-use Rattle.std.proofs.lemmas.List.{take_at}
 use Rattle.go_base.specs.declared.ids.ObjId.{ObjId}
-use Rattle.go_model.specs.declared.meaning.Meaning.{Meaning}
-use Rattle.go_model.specs.Names.Declarations.{Declaration, number_of}
+use Rattle.go_module.specs.Scopes.{same_object}
 use Rattle.go_model.specs.declared.header.Header.{Header}
+use Rattle.std.proofs.lemmas.Bool.{cases_eq, ne_eqb}
+use Rattle.go_model.specs.declared.meaning.Meaning.{Meaning}
+use Rattle.go_module.specs.Names.Declarations.{Declaration, number_of}
 use Rattle.go_model.specs.Outcomes.Records.{HeaderData, header_view}
 use Rattle.go_model.specs.Outcomes.Walk.{Headers}
 use Rattle.go_model.specs.Values.Declared.{declared_as}
 use Rattle.go_model.specs.Values.Records.{header_over}
-use Rattle.go_model.specs.Values.Headers.{headers_of, Follows, Known}
+use Rattle.go_model.specs.Values.Headers.{headers_of, Justified, Follows, Known}
 use Rattle.go_model.specs.Values.Quests.{IsPart}
-use Rattle.go_model.proofs.HeaderLemmas.{header_over-part, Follows-part, Follows-same, has_all, headers_of-here, headers_of-there, kept, stays}
+use Rattle.go_model.proofs.HeaderLemmas.{Follows-part, Follows-same, has_all, headers_of-here, headers_of-there, kept, stays}
+use Rattle.go_decl.specs.Rounds.{ArePlaces, IsBacked, IsSettled, and_open, open_in}
+use Rattle.go_decl.proofs.PlaceLemmas.{place_declared}
 use Rattle.go_names.specs.declared.declaration.Declaration.{Declaration as OwnDeclaration}
-use Rattle.go_decl.specs.Rounds.{IsBacked, IsSettled, open_count}
-use Rattle.go_expr.specs.Table.{header_at, headers_at, slot_of}
-use Rattle.go_expr.specs.View.{open_place}
 use Rattle.go_names.specs.Views.{declaration_view, declarations_view}
-use Rattle.go_decl.proofs.PlaceLemmas.{open_is}
 
 module _ (before : Headers) (means : ℕ → Meaning) (declarations : List Declaration) (headers : Headers) (b : IsBacked before means declarations headers) where
   -- what these headers have where a header follows from them
@@ -39,110 +38,140 @@ module _ (before : Headers) (means : ℕ → Meaning) (declarations : List Decla
       by_header (Some v) e = e ∙ ap Some (by_either v (stays before means declarations b.list b.justified d v (sym (b.same d) ∙ e)))
 
   -- the rounds are exact
-  pub exact : ((d : ℕ) → IsSettled before means declarations headers d) → (d : ℕ) (h : HeaderData) → (headers d ≡ Some h) ↔ Known before means declarations d h
+  exact : ((d : ℕ) → IsSettled before means declarations headers d) → (d : ℕ) (h : HeaderData) → (headers d ≡ Some h) ↔ Known before means declarations d h
   exact s d h = (
     λ e. record { list = b.list; justified = b.justified; has = sym (b.same d) ∙ e },
     λ k. has_all before means declarations headers (λ d' h' e. b.same d' ∙ kept before means declarations b.list b.justified d' h' e) (settled_header s) k.list k.justified d h k.has,
   )
 
--- a table with one more header
-slot_of-here : (table : List (Option Header)) (d : ℕ) (h : Header) → d < length table → slot_of (slice_set table d (Some h)) d ≡ Some h
-slot_of-here [] d h lt = absurd (omega arith)
-slot_of-here (x ∷ table) zero h lt = refl
-slot_of-here (x ∷ table) (suc d) h lt = slot_of-here table d h (omega arith)
+-- headers that are equal one by one are equal
+pub all_equal : (a b : Headers) → ((d : ℕ) → a d ≡ b d) → a ≡ b
+all_equal a b same = λ i d. same d i
 
-slot_of-there : (table : List (Option Header)) (d n : ℕ) (h : Header) → (d ≡ n → ⊥) → slot_of (slice_set table d (Some h)) n ≡ slot_of table n
-slot_of-there [] d n h ne = refl
-slot_of-there (x ∷ table) zero zero h ne = absurd (ne refl)
-slot_of-there (x ∷ table) zero (suc n) h ne = refl
-slot_of-there (x ∷ table) (suc d) zero h ne = refl
-slot_of-there (x ∷ table) (suc d) (suc n) h ne = slot_of-there table d n h (λ e. ne (ap suc e))
+-- one list of pairs after another
+headers_of-both : (before : Headers) (list other : List (ℕ × HeaderData)) (d : ℕ) → headers_of (headers_of before list) other d ≡ headers_of before (other ++ list) d
+headers_of-both before list [] d = refl
+headers_of-both before list (p ∷ other) d = ap (λ (o : Option HeaderData). if p.0 == d then Some p.1 else o) (headers_of-both before list other d)
 
--- a table without headers
-pub vacant_slots : (k n : ℕ) → slot_of (replicate k None) n ≡ None
-vacant_slots zero n = refl
-vacant_slots (suc k) zero = refl
-vacant_slots (suc k) (suc n) = vacant_slots k n
-
--- with no header found, the headers are those before
-pub empty_backed : (before : Headers) (means : ℕ → Meaning) (declarations : List Declaration) (headers : Headers) → ((d : ℕ) → headers d ≡ before d) → IsBacked before means declarations headers
-empty_backed before means declarations headers same = record { list = []; justified = tt; same = same }
-
-module _ (before : Headers) (means : ℕ → Meaning) (declarations : List Declaration) (places : ObjId → Option ℕ) (around : (d : ObjId) → places d ≡ open_place before declarations d) where
-  -- an empty table has what is known before
-  pub empty_table : (table : List (Option Header)) → ((n : ℕ) → slot_of table n ≡ None) → (d : ℕ) → headers_at before places table d ≡ before d
-  empty_table table vacant d = by_place (places (record { 0 = d })) refl
+module _ (before : Headers) (means : ℕ → Meaning) (declarations : List Declaration) where
+  none_before : (list : List (ℕ × HeaderData)) → Justified before means declarations list → (d : ℕ) → headers_of before list d ≡ None → before d ≡ None
+  none_before list j d vacant = by_header (before d) refl
     where
-      by_place : (o : Option ℕ) → places (record { 0 = d }) ≡ o → header_at table (before d) o ≡ before d
-      by_place None e = refl
-      by_place (Some n) e = ap (option_map header_view) (vacant n) ∙ sym (open_is before declarations (record { 0 = d }) n (sym (around (record { 0 = d })) ∙ e)).fresh
+      by_header : (o : Option HeaderData) → before d ≡ o → before d ≡ None
+      by_header None e = e
+      by_header (Some h) e = absurd (let never : Some h ≡ None = sym (kept before means declarations list j d h e) ∙ vacant in cc)
 
-  -- the header of a declaration stands at its place
-  pub header_there : (table : List (Option Header)) (d : ObjId) (place : ℕ) → places d ≡ Some place → headers_at before places table d.0 ≡ option_map header_view (slot_of table place)
-  header_there table d place e = ap (header_at table (before d.0)) e
+  both_justified : (list : List (ℕ × HeaderData)) → Justified before means declarations list → (other : List (ℕ × HeaderData)) → Justified (headers_of before list) means declarations other → Justified before means declarations (other ++ list)
+  both_justified list j [] k = j
+  both_justified list j (p ∷ other) k =
+      let same = all_equal (headers_of (headers_of before list) other) (headers_of before (other ++ list)) (headers_of-both before list other) in (
+        both_justified list j other k.0,
+        record {
+          declaration = k.1.declaration;
+          declared = k.1.declared;
+          fresh = none_before list j p.0 k.1.fresh;
+          tells = subst (λ (m : Headers). header_over means m k.1.declaration ≡ Some p.1) same k.1.tells;
+        },
+      )
 
-  -- with one more header, for the object at a place
-  set_here : (table : List (Option Header)) (d : ObjId) (place : ℕ) (h : Header) → places d ≡ Some place → place < length table → headers_at before places (slice_set table place (Some h)) d.0 ≡ Some (header_view h)
-  set_here table d place h e lt = header_there (slice_set table place (Some h)) d place e ∙ ap (option_map header_view) (slot_of-here table place h lt)
-
-  set_there : (table : List (Option Header)) (d : ObjId) (place : ℕ) (h : Header) → places d ≡ Some place → (n : ℕ) → (d.0 ≡ n → ⊥) → headers_at before places (slice_set table place (Some h)) n ≡ headers_at before places table n
-  set_there table d place h e n ne = by_place (places (record { 0 = n })) refl
-    where
-      by_place : (o : Option ℕ) → places (record { 0 = n }) ≡ o → header_at (slice_set table place (Some h)) (before n) o ≡ header_at table (before n) o
-      by_place None at = refl
-      by_place (Some other) at = ap (option_map header_view) (slot_of-there table place other h (λ same. ne (one_number same)))
-        where
-          -- one place is that of one object
-          one_number : place ≡ other → d.0 ≡ n
-          one_number same =
-              let here = (open_is before declarations d place (sym (around d) ∙ e)).placed in
-              let there = (open_is before declarations (record { 0 = n }) other (sym (around (record { 0 = n })) ∙ at)).placed in
-              let one : here.declaration ≡ there.declaration = cc (here.at, there.at, same) in
-              ap (λ (k : ObjId). k.0) (sym here.number ∙ ap number_of one ∙ there.number)
-
-  -- the declaration at the place of an object is the one that its number names, and has that number
-  pub one_declaration : (d : ObjId) (place : ℕ) → places d ≡ Some place → (named : Declaration) → declared_as declarations d.0 ≡ Some named → (there : Declaration) → slice_get declarations place ≡ Some there → named ≡ there
-  one_declaration d place e named at there is =
-      let here = (open_is before declarations d place (sym (around d) ∙ e)).placed in
-      cc (here.declared, at, here.at, is)
-
-  pub own_number : (d : ObjId) (place : ℕ) → places d ≡ Some place → (there : Declaration) → slice_get declarations place ≡ Some there → number_of there ≡ d
-  own_number d place e there is =
-      let here = (open_is before declarations d place (sym (around d) ∙ e)).placed in
-      let one : here.declaration ≡ there = cc (here.at, is) in
-      ap number_of (sym one) ∙ here.number
-
-  -- a header that follows from the table may be put into it
-  pub IsBacked-set : (table : List (Option Header)) (d : ObjId) (place : ℕ) (h : Header) (declaration : Declaration) → IsBacked before means declarations (headers_at before places table) → place < length table
-      → places d ≡ Some place → slice_get declarations place ≡ Some declaration → header_over means (headers_at before places table) declaration ≡ Some (header_view h)
-      → IsBacked before means declarations (headers_at before places (slice_set table place (Some h)))
-  IsBacked-set table d place h declaration b lt e at v =
-      let is = open_is before declarations d place (sym (around d) ∙ e) in
-      let one : is.placed.declaration ≡ declaration = cc (is.placed.at, at) in
-      let part : IsPart (headers_at before places table) (headers_of before b.list) = λ d' h' q. sym (b.same d') ∙ q in
+  -- what is backed by backed headers, with the same meanings, is backed
+  pub backed_twice : (mid headers : Headers) (k : ℕ → Meaning) → k ≡ means → IsBacked before means declarations mid → IsBacked mid k declarations headers → IsBacked before means declarations headers
+  backed_twice mid headers k is b c =
+      let same = all_equal mid (headers_of before b.list) b.same in
+      let d : IsBacked (headers_of before b.list) means declarations headers = subst (λ (m : Headers). IsBacked m means declarations headers) same (subst (λ (j : ℕ → Meaning). IsBacked mid j declarations headers) is c) in
       record {
-        list = (d.0, header_view h) ∷ b.list;
-        justified = (
-          b.justified,
-          record {
-            declaration = declaration;
-            declared = is.placed.declared ∙ ap Some one;
-            fresh = is.fresh;
-            tells = header_over-part means (headers_at before places table) (headers_of before b.list) part declaration (header_view h) v;
-          },
-        );
-        same = λ n. ⊎_elim
-            (λ here. subst (λ m. headers_at before places (slice_set table place (Some h)) m ≡ headers_of before ((d.0, header_view h) ∷ b.list) m) here (set_here table d place h e lt ∙ sym (headers_of-here before (d.0, header_view h) b.list d.0 refl)))
-            (λ ne. set_there table d place h e n ne ∙ b.same n ∙ sym (headers_of-there before (d.0, header_view h) b.list n ne))
-            (cases_eq d.0 n);
+        list = d.list ++ b.list;
+        justified = both_justified b.list b.justified d.list d.justified;
+        same = λ n. d.same n ∙ headers_of-both before b.list d.list n;
       }
 
-pub open_count-set : (table : List (Option Header)) (d : ℕ) (h : Header) → d < length table → slot_of table d ≡ None → open_count (slice_set table d (Some h)) < open_count table
-open_count-set [] d h lt e = absurd (omega arith)
-open_count-set (None ∷ table) zero h lt e = omega arith
-open_count-set (Some x ∷ table) zero h lt e = cc
-open_count-set (None ∷ table) (suc d) h lt e = let r = open_count-set table d h (omega arith) e in omega arith
-open_count-set (Some x ∷ table) (suc d) h lt e = open_count-set table d h (omega arith) e
+  -- headers are backed by themselves
+  pub backed_same : (headers : Headers) → headers ≡ before → IsBacked before means declarations headers
+  backed_same headers same = record { list = []; justified = tt; same = λ d i. same i d }
+
+  -- a header that follows may be learnt
+  pub backed_one : (headers : Headers) (d : ℕ) (h : HeaderData) (declaration : Declaration) → declared_as declarations d ≡ Some declaration → before d ≡ None → header_over means before declaration ≡ Some h
+      → ((e : ℕ) → headers e ≡ headers_of before ((d, h) ∷ []) e) → IsBacked before means declarations headers
+  backed_one headers d h declaration declared fresh tells same = record {
+    list = (d, h) ∷ [];
+    justified = (tt, record { declaration = declaration; declared = declared; fresh = fresh; tells = tells });
+    same = same;
+  }
+
+  -- settled headers are settled whatever was known before
+  pub settled_after : (headers : Headers) (d : ℕ) → IsSettled headers means declarations headers d → IsSettled before means declarations headers d
+  settled_after headers d s = λ h vacant f. s h vacant (record { declaration = f.declaration; declared = f.declared; fresh = vacant; tells = f.tells })
+
+  pub exact_after : (headers : Headers) → IsBacked before means declarations headers → ((d : ℕ) → IsSettled headers means declarations headers d) → (d : ℕ) (h : HeaderData) → (headers d ≡ Some h) ↔ Known before means declarations d h
+  exact_after headers b s = exact before means declarations headers b (λ d. settled_after headers d (s d))
+
+-- a declaration whose header does not follow is settled
+pub settled_none : (headers : Headers) (means : ℕ → Meaning) (declarations : List Declaration) (d : ℕ) (declaration : Declaration) → declared_as declarations d ≡ Some declaration → header_over means headers declaration ≡ None → IsSettled headers means declarations headers d
+settled_none headers means declarations d declaration declared none = λ h vacant f.
+    let same : f.declaration ≡ declaration = cc (f.declared, declared) in
+    let tells : header_over means headers declaration ≡ Some h = subst (λ (x : Declaration). header_over means headers x ≡ Some h) same f.tells in
+    cc
+
+-- the count goes down when a header is learnt
+open_same : (o : Option HeaderData) (n m : ℕ) → n ≤ m → and_open o n ≤ and_open o m
+open_same None n m le = omega arith
+open_same (Some h) n m le = le
+
+open_less : (o : Option HeaderData) (n m : ℕ) → n < m → and_open o n < and_open o m
+open_less None n m lt = omega arith
+open_less (Some h) n m lt = lt
+
+open_more : (o : Option HeaderData) (n m : ℕ) → n ≤ m → n ≤ and_open o m
+open_more None n m le = omega arith
+open_more (Some h) n m le = le
+
+module _ (before after : Headers) (d : ℕ) (h : HeaderData) (same : (e : ℕ) → after e ≡ headers_of before ((d, h) ∷ []) e) where
+  here : (e : ℕ) → d ≡ e → after e ≡ Some h
+  here e is = same e ∙ headers_of-here before (d, h) [] e is
+
+  there : (e : ℕ) → (d ≡ e → ⊥) → after e ≡ before e
+  there e ne = same e ∙ headers_of-there before (d, h) [] e ne
+
+  no_more_open : (declarations : List Declaration) → open_in after declarations ≤ open_in before declarations
+  no_more_open [] = omega arith
+  no_more_open (x ∷ xs) =
+      let rest = no_more_open xs in
+      let n = open_in after xs in
+      let m = open_in before xs in
+      ⊎_elim
+      (λ is. subst (λ (o : Option HeaderData). and_open o n ≤ and_open (before (number_of x).0) m) (sym (here (number_of x).0 is)) (open_more (before (number_of x).0) n m rest))
+      (λ ne. subst (λ (o : Option HeaderData). and_open o n ≤ and_open (before (number_of x).0) m) (sym (there (number_of x).0 ne)) (open_same (before (number_of x).0) n m rest))
+      (cases_eq d (number_of x).0)
+
+  pub fewer_open : (declarations : List Declaration) (declaration : Declaration) → declared_as declarations d ≡ Some declaration → before d ≡ None → open_in after declarations < open_in before declarations
+  fewer_open [] declaration e fresh = absurd (let never : None ≡ Some declaration = e in cc)
+  fewer_open (x ∷ xs) declaration e fresh =
+      let n = open_in after xs in
+      let m = open_in before xs in
+      ⊎_elim
+      (λ is. let le : n ≤ m = no_more_open xs in
+      let lt : n < suc m = omega (arith, le) in
+      let vacant : before (number_of x).0 ≡ None = ap before (sym is) ∙ fresh in
+      subst (λ (o : Option HeaderData). and_open o n < and_open (before (number_of x).0) m) (sym (here (number_of x).0 is))
+      (subst (λ (o : Option HeaderData). n < and_open o m) (sym vacant) lt))
+      (λ ne. let later : declared_as xs d ≡ Some declaration = sym (declared_later x xs ne) ∙ e in
+      subst (λ (o : Option HeaderData). and_open o n < and_open (before (number_of x).0) m) (sym (there (number_of x).0 ne)) (open_less (before (number_of x).0) n m (fewer_open xs declaration later fresh)))
+      (cases_eq d (number_of x).0)
+    where
+      declared_later : (x : Declaration) (xs : List Declaration) → (d ≡ (number_of x).0 → ⊥) → declared_as (x ∷ xs) d ≡ declared_as xs d
+      declared_later x xs ne = rw (ne_eqb (number_of x).0 d (λ is. ne (sym is))) refl
+
+-- the declaration at the place of a number is the one that the number names
+pub record IsAt (declarations : List Declaration) (d : ObjId) (declaration : Declaration) : Type 0 where
+  pub number : number_of declaration ≡ d
+  pub declared : declared_as declarations d.0 ≡ Some declaration
+
+pub at_place : (declarations : List Declaration) (entries : List (ObjId × ℕ)) → ArePlaces declarations entries → (d : ObjId) (place : ℕ) → lookup (same_object d) entries ≡ Some place
+    → (declaration : Declaration) → slice_get declarations place ≡ Some declaration → IsAt declarations d declaration
+at_place declarations entries places d place e declaration at =
+    let placed = place_declared declarations d place (sym (places d) ∙ e) in
+    let one : placed.declaration ≡ declaration = cc (placed.at, at) in
+    record { number = ap number_of (sym one) ∙ placed.number; declared = placed.declared ∙ ap Some one }
 
 -- the constant at a place
 pub declared_at : (list : List OwnDeclaration) (d : ℕ) (c : OwnDeclaration) → d < length list → c ≡ get_or list d c → slice_get (declarations_view list) d ≡ Some (declaration_view c)
@@ -150,16 +179,18 @@ declared_at [] d c lt e = absurd (omega arith)
 declared_at (x ∷ list) zero c lt e = ap (λ (y : OwnDeclaration). Some (declaration_view y)) (sym e)
 declared_at (x ∷ list) (suc d) c lt e = declared_at list d c (omega arith) e
 
-none_if : (o : Option Header) → false ≡ is_some o → o ≡ None
-none_if None e = refl
-none_if (Some v) e = cc
+-- what an answer of a map says
+pub is_known : (o : Option Header) (x : Option HeaderData) → true ≡ is_some o → option_map header_view o ≡ x → x ≡ None → ⊥
+is_known None x some e none = cc
+is_known (Some h) x some e none = let never : Some (header_view h) ≡ None = e ∙ none in cc
 
--- a slot without a header
-pub was_open : (table : List (Option Header)) (d : ℕ) (x : Option Header) → d < length table → false ≡ is_some (get_or table d x) → slot_of table d ≡ None
-was_open [] d x lt e = absurd (omega arith)
-was_open (o ∷ table) zero x lt e = none_if o e
-was_open (o ∷ table) (suc d) x lt e = was_open table d x (omega arith) e
+pub is_vacant : (o : Option Header) (x : Option HeaderData) → false ≡ is_some o → option_map header_view o ≡ x → x ≡ None
+is_vacant None x none e = sym e
+is_vacant (Some h) x none e = cc
 
--- a slice that was written whole
-pub written_whole : (old new : List (Option Header)) (n : ℕ) → length new ≡ length old → n ≡ length old → take n (new ++ drop (length new) old) ≡ new
-written_whole old new n same is = take_at new (drop (length new) old) n (same ∙ sym is)
+-- what is found of a declaration over the same headers with the same meanings is found over these
+pub found_over : (means k : ℕ → Meaning) (headers m : Headers) (declaration : Declaration) (o x : Option Header) → k ≡ means → m ≡ headers → option_map header_view o ≡ header_over k m declaration → o ≡ x → header_over means headers declaration ≡ option_map header_view x
+found_over means k headers m declaration o x same kept found is = (λ i. header_over (sym same i) (sym kept i) declaration) ∙ sym found ∙ ap (option_map header_view) is
+
+pub learnt_over : (headers m after : Headers) (d : ℕ) (h : HeaderData) → m ≡ headers → ((e : ℕ) → after e ≡ headers_of m ((d, h) ∷ []) e) → (e : ℕ) → after e ≡ headers_of headers ((d, h) ∷ []) e
+learnt_over headers m after d h kept learnt e = learnt e ∙ ap (λ (k : Headers). headers_of k ((d, h) ∷ []) e) kept

@@ -1,8 +1,8 @@
 -- What nodes wait for, and the graph of the waits.
-use Rattle.std.proofs.Common.{◌≡◌, ℕ, ℤ, ◌<◌, Bool, Option, Some, None, List, [], ◌∷◌, ◌⊎◌, inl, inr, length, map, refl, sym, ap, ◌∙◌, subst, Contains, arith}
+use Rattle.std.proofs.Common.{◌≡◌, ℕ, ◌<◌, Bool, Option, Some, None, List, [], ◌∷◌, ◌⊎◌, inl, inr, length, map, refl, sym, ap, ◌∙◌, subst, Contains, arith}
 use Rattle.std.specs.Prelude.{◌↔◌, ◌||◌, All, is_some, slice_get, unwrap_or, option_to_list, if◌then◌else◌, true, false}
 use Rattle.std.specs.List.{flat_map}
-use Rattle.std.specs.Option.{option_map}
+use Rattle.std.specs.Option.{option_map, option_or}
 use Rattle.std.proofs.lemmas.List.{length-map}
 use Rattle.std.proofs.lemmas.Option.{slice_get-map, slice_get_within}
 use Rattle.std.proofs.lemmas.List.Elements.{All-nil, All-cons, All-append, All-contains, Contains-append_cases, Contains-append_left, Contains-append_right}
@@ -14,18 +14,19 @@ use Rattle.go_model.specs.Names.Occurrences.{nodes_in}
 use Rattle.go_module.proofs.MemberLemmas.{cons_cases, contains_head, contains_none, contains_tail}
 use Rattle.go_model.specs.declared.meaning.Meaning.TheVariants.{Declared, Other, Predeclared}
 use Rattle.go_model.specs.Outline.{is_predeclared}
+use Rattle.go_model.specs.Values.HeadersView.{headers_view}
 use Rattle.go_model.specs.Values.Meaning.{denoted_meaning}
 use Rattle.go_model.specs.Outcomes.Judged.{Broken, Found, Nothing, OutcomeData}
 use Rattle.go_model.specs.Outcomes.Judged as outcomes
 use Rattle.go_model.specs.Outcomes.Readings.{awaited_in}
-use Rattle.go_model.specs.declared.header.Header.{Header}
+use Rattle.go_model.specs.declared.headers.Headers.{Headers as HeaderMap}
 use Rattle.go_model.specs.Outcomes.Records.{HeaderData, RecData}
 use Rattle.go_model.specs.Outcomes.Walk.{outcome}
 use Rattle.go_model.specs.Values.Waiting.{Chain, Waits, awaited_by, awaited_by_nodes, more, one}
 use Rattle.go_model.proofs.OutcomeLemmas.{outcome_stays}
 use Rattle.go_expr.specs.declared.around.Around.{Around}
 use Rattle.go_expr.proofs.AwaitedLemmas.{awaited_means}
-use Rattle.go_expr.specs.Table.{header_at, headers_by}
+use Rattle.go_expr.specs.OwnHeaders.{headers_by}
 use Rattle.go_expr.specs.View.{IsAround, before_by, may_have_by, denotes_by, means_by, places_by}
 use Rattle.go_decl.specs.Waits.{awaited_places, mark_at, marked_by, place_list, waits_of}
 use Rattle.go_decl.proofs.PlaceLemmas.{IsOpen, open_is}
@@ -47,31 +48,31 @@ pub record HasPlace (places : ObjId → Option ℕ) (d : ℕ) : Type 0 where
   pub place : ℕ
   pub is : places (record { 0 = d }) ≡ Some place
 
-module _ (around : Around) (table : List (Option Header)) where
+module _ (around : Around) (own : HeaderMap) where
   -- what has no header, and is declared, has a place
-  lacking_place : (object : ObjId) → may_have_by around object ≡ true → headers_by around table object.0 ≡ None → HasPlace (places_by around) object.0
+  lacking_place : (object : ObjId) → may_have_by around object ≡ true → headers_by around own object.0 ≡ None → HasPlace (places_by around) object.0
   lacking_place object declares lacks = by_place (places_by around object) refl
     where
-      none_before : (o : Option HeaderData) → before_by around object.0 ≡ o → header_at table (before_by around object.0) None ≡ None → (is_some (before_by around object.0) ≡ true) → ⊥
-      none_before None at none some = let never : false ≡ true = sym (ap is_some at) ∙ some in cc
-      none_before (Some v) at none some = let never : Some v ≡ None = sym at ∙ none in cc
+      none_before : (o p : Option HeaderData) → option_or o p ≡ None → (is_some p ≡ true) → ⊥
+      none_before None None none some = let never : false ≡ true = some in cc
+      none_before None (Some v) none some = let never : Some v ≡ None = none in cc
+      none_before (Some v) p none some = let never : Some v ≡ None = none in cc
 
       by_place : (o : Option ℕ) → places_by around object ≡ o → HasPlace (places_by around) object.0
       by_place (Some place) at = record { place = place; is = at }
       by_place None at =
           let some : is_some (before_by around object.0) ≡ true = ap (λ (o : Option ℕ). is_some o || is_some (before_by around object.0)) (sym at) ∙ declares in
-          let none : header_at table (before_by around object.0) None ≡ None = ap (header_at table (before_by around object.0)) (sym at) ∙ lacks in
-          absurd (none_before (before_by around object.0) refl none some)
+          absurd (none_before (headers_view own object.0) (before_by around object.0) lacks some)
 
   -- what a node waits for has a place
-  awaited_place : (t : Tree) (d : ℕ) → outcome (means_by around) (headers_by around table) t ≡ outcomes.Waits d → HasPlace (places_by around) d
+  awaited_place : (t : Tree) (d : ℕ) → outcome (means_by around) (headers_by around own) t ≡ outcomes.Waits d → HasPlace (places_by around) d
   awaited_place t d e =
-      let lacks = (outcome_stays (means_by around) (headers_by around table) (headers_by around table) (λ _ _ q. q) t).lacks d e in
-      awaited_means (λ n. headers_by around table n ≡ None → HasPlace (places_by around) n) (means_by around) (headers_by around table)
+      let lacks = (outcome_stays (means_by around) (headers_by around own) (headers_by around own) (λ _ _ q. q) t).lacks d e in
+      awaited_means (λ n. headers_by around own n ≡ None → HasPlace (places_by around) n) (means_by around) (headers_by around own)
       (λ id object m. lacking_place object (denoted_may_have (may_have_by around) (denotes_by around (record { 0 = id })) object m))
       t d e lacks
 
-  placed : (t : Tree) (x : OutcomeData RecData) → outcome (means_by around) (headers_by around table) t ≡ x → All (HasPlace (places_by around)) (awaited_in x)
+  placed : (t : Tree) (x : OutcomeData RecData) → outcome (means_by around) (headers_by around own) t ≡ x → All (HasPlace (places_by around)) (awaited_in x)
   placed t (Found v) e = All-nil (HasPlace (places_by around))
   placed t (Broken rule spots) e = All-nil (HasPlace (places_by around))
   placed t (outcomes.Waits d) e = All-cons (HasPlace (places_by around)) d [] (awaited_place t d e) (All-nil (HasPlace (places_by around)))
@@ -81,11 +82,11 @@ module _ (around : Around) (table : List (Option Header)) where
   flat_placed f each [] = All-nil (HasPlace (places_by around))
   flat_placed f each (x ∷ xs) = All-append (HasPlace (places_by around)) (f x) (flat_map f xs) (each x) (flat_placed f each xs)
 
-  nodes_placed : (t : Tree) → All (HasPlace (places_by around)) (awaited_by_nodes (means_by around) (headers_by around table) t)
-  nodes_placed t = flat_placed (λ node. awaited_in (outcome (means_by around) (headers_by around table) node)) (λ node. placed node (outcome (means_by around) (headers_by around table) node) refl) (nodes_in t)
+  nodes_placed : (t : Tree) → All (HasPlace (places_by around)) (awaited_by_nodes (means_by around) (headers_by around own) t)
+  nodes_placed t = flat_placed (λ node. awaited_in (outcome (means_by around) (headers_by around own) node)) (λ node. placed node (outcome (means_by around) (headers_by around own) node) refl) (nodes_in t)
 
-  all_placed : (declaration : Declaration) → All (HasPlace (places_by around)) (awaited_by (means_by around) (headers_by around table) declaration)
-  all_placed declaration = flat_placed (awaited_by_nodes (means_by around) (headers_by around table)) nodes_placed (rests_on declaration)
+  all_placed : (declaration : Declaration) → All (HasPlace (places_by around)) (awaited_by (means_by around) (headers_by around own) declaration)
+  all_placed declaration = flat_placed (awaited_by_nodes (means_by around) (headers_by around own)) nodes_placed (rests_on declaration)
 
 -- the graph of the waits
 row_declared : (f : Declaration → List ℕ) (declarations : List Declaration) (d e : ℕ) → Contains (row_at (map f declarations) d) e → (declaration : Declaration) × (slice_get declarations d ≡ Some declaration) × Contains (f declaration) e
@@ -134,7 +135,7 @@ module _ (places : ObjId → Option ℕ) where
       by_cases (inl same) later = Contains-append_left (place_list places k) (flat_map (place_list places) numbers) place (here same)
       by_cases (inr there) later = Contains-append_right (place_list places k) (flat_map (place_list places) numbers) place (later there e)
 
-module _ (around : Around) (table : List (Option Header)) (declarations : List Declaration) (is_around : IsAround declarations around) where
+module _ (around : Around) (own : HeaderMap) (declarations : List Declaration) (is_around : IsAround declarations around) where
   opened : (d : ObjId) (place : ℕ) → places_by around d ≡ Some place → IsOpen (before_by around) declarations d place
   opened d place e = open_is (before_by around) declarations d place (sym (is_around d) ∙ e)
 
@@ -150,15 +151,15 @@ module _ (around : Around) (table : List (Option Header)) (declarations : List D
       sym here.number ∙ ap number_of one ∙ other.number
 
   abbrev found : Declaration → List ℕ
-  found = awaited_places (places_by around) (means_by around) (headers_by around table)
+  found = awaited_places (places_by around) (means_by around) (headers_by around own)
 
   abbrev graph : Graph
-  graph = waits_of (places_by around) (means_by around) (headers_by around table) declarations
+  graph = waits_of (places_by around) (means_by around) (headers_by around own) declarations
 
   pub waits_graph : IsGraph graph
   waits_graph a b e =
       let at = row_declared found declarations a b e in
-      let is = place_of (places_by around) (awaited_by (means_by around) (headers_by around table) at.0) b at.2 in
+      let is = place_of (places_by around) (awaited_by (means_by around) (headers_by around own) at.0) b at.2 in
       let lt = place_within (record { 0 = is.number }) b is.is in
       omega (arith, lt, length-map declarations found)
 
@@ -166,14 +167,14 @@ module _ (around : Around) (table : List (Option Header)) (declarations : List D
   record Leads (d : ObjId) (place : ℕ) : Type 0 where
     pub object : ObjId
     pub is : places_by around object ≡ Some place
-    pub waits : Waits (means_by around) declarations (headers_by around table) d.0 object.0
+    pub waits : Waits (means_by around) declarations (headers_by around own) d.0 object.0
 
   edge_waits : (d : ObjId) (i j : ℕ) → places_by around d ≡ Some i → HasEdge graph i j → Leads d j
   edge_waits d i j e leads =
       let at = row_declared found declarations i j leads in
       let here = (opened d i e).placed in
       let one : here.declaration ≡ at.0 = cc (here.at, at.1) in
-      let is = place_of (places_by around) (awaited_by (means_by around) (headers_by around table) at.0) j at.2 in
+      let is = place_of (places_by around) (awaited_by (means_by around) (headers_by around own) at.0) j at.2 in
       record {
         object = record { 0 = is.number };
         is = is.is;
@@ -185,10 +186,10 @@ module _ (around : Around) (table : List (Option Header)) (declarations : List D
     pub is : places_by around d ≡ Some place
     pub edge : HasEdge graph i place
 
-  awaited_has : (d e : ObjId) → Waits (means_by around) declarations (headers_by around table) d.0 e.0 → HasPlace (places_by around) e.0
-  awaited_has d e w = All-contains (HasPlace (places_by around)) (awaited_by (means_by around) (headers_by around table) w.declaration) e.0 (all_placed around table w.declaration) w.awaits
+  awaited_has : (d e : ObjId) → Waits (means_by around) declarations (headers_by around own) d.0 e.0 → HasPlace (places_by around) e.0
+  awaited_has d e w = All-contains (HasPlace (places_by around)) (awaited_by (means_by around) (headers_by around own) w.declaration) e.0 (all_placed around own w.declaration) w.awaits
 
-  waits_edge : (d e : ObjId) (i : ℕ) → places_by around d ≡ Some i → Waits (means_by around) declarations (headers_by around table) d.0 e.0 → Reaches i e
+  waits_edge : (d e : ObjId) (i : ℕ) → places_by around d ≡ Some i → Waits (means_by around) declarations (headers_by around own) d.0 e.0 → Reaches i e
   waits_edge d e i at w =
       let there = awaited_has d e w in
       let here = (opened d i at).placed in
@@ -197,13 +198,13 @@ module _ (around : Around) (table : List (Option Header)) (declarations : List D
       record {
         place = there.place;
         is = there.is;
-        edge = subst (λ (xs : List ℕ). Contains xs there.place) (sym row) (has_place (places_by around) (awaited_by (means_by around) (headers_by around table) w.declaration) e.0 there.place w.awaits there.is);
+        edge = subst (λ (xs : List ℕ). Contains xs there.place) (sym row) (has_place (places_by around) (awaited_by (means_by around) (headers_by around own) w.declaration) e.0 there.place w.awaits there.is);
       }
 
   record Chained (d : ObjId) (place : ℕ) : Type 0 where
     pub object : ObjId
     pub is : places_by around object ≡ Some place
-    pub chain : Chain (means_by around) declarations (headers_by around table) d.0 object.0
+    pub chain : Chain (means_by around) declarations (headers_by around own) d.0 object.0
 
   path_chain : (d : ObjId) (i j : ℕ) → places_by around d ≡ Some i → Path graph i j → Chained d j
   path_chain d i j e (start _ leads) =
@@ -219,7 +220,7 @@ module _ (around : Around) (table : List (Option Header)) (declarations : List D
     pub is : places_by around d ≡ Some place
     pub path : Path graph i place
 
-  chain_path : (d : ObjId) (e i : ℕ) → places_by around d ≡ Some i → Chain (means_by around) declarations (headers_by around table) d.0 e → Pathed i (record { 0 = e })
+  chain_path : (d : ObjId) (e i : ℕ) → places_by around d ≡ Some i → Chain (means_by around) declarations (headers_by around own) d.0 e → Pathed i (record { 0 = e })
   chain_path d e i at (one _ w) =
       let next = waits_edge d (record { 0 = e }) i at w in
       record { place = next.place; is = next.is; path = start next.place next.edge }
@@ -229,22 +230,22 @@ module _ (around : Around) (table : List (Option Header)) (declarations : List D
       record { place = next.place; is = next.is; path = further so_far.place next.place so_far.path next.edge }
 
   -- what a chain leads to has a place
-  chained_has : (d e : ℕ) → Chain (means_by around) declarations (headers_by around table) d e → HasPlace (places_by around) e
+  chained_has : (d e : ℕ) → Chain (means_by around) declarations (headers_by around own) d e → HasPlace (places_by around) e
   chained_has d e (one _ w) = awaited_has (record { 0 = d }) (record { 0 = e }) w
   chained_has d e (more b _ chain w) = awaited_has (record { 0 = b }) (record { 0 = e }) w
 
   -- the vertices from which a path leads back are the places of what waits for itself
-  pub marks_are_chains : (marks : List Bool) → ((i : ℕ) → (is_marked marks i ≡ true) ↔ Path graph i i) → (d : ℕ) → (marked_by (places_by around) marks d ≡ true) ↔ Chain (means_by around) declarations (headers_by around table) d d
+  pub marks_are_chains : (marks : List Bool) → ((i : ℕ) → (is_marked marks i ≡ true) ↔ Path graph i i) → (d : ℕ) → (marked_by (places_by around) marks d ≡ true) ↔ Chain (means_by around) declarations (headers_by around own) d d
   marks_are_chains marks exact d = (to_chain (places_by around (record { 0 = d })) refl, to_mark)
     where
-      to_chain : (o : Option ℕ) → places_by around (record { 0 = d }) ≡ o → marked_by (places_by around) marks d ≡ true → Chain (means_by around) declarations (headers_by around table) d d
+      to_chain : (o : Option ℕ) → places_by around (record { 0 = d }) ≡ o → marked_by (places_by around) marks d ≡ true → Chain (means_by around) declarations (headers_by around own) d d
       to_chain None at e = absurd (let never : false ≡ true = sym (ap (mark_at marks) at) ∙ e in cc)
       to_chain (Some i) at e =
           let back = path_chain (record { 0 = d }) i i at ((exact i).0 (sym (ap (mark_at marks) at) ∙ e)) in
           let same : back.object.0 ≡ d = ap (λ (k : ObjId). k.0) (one_object back.object (record { 0 = d }) i back.is at) in
-          subst (Chain (means_by around) declarations (headers_by around table) d) same back.chain
+          subst (Chain (means_by around) declarations (headers_by around own) d) same back.chain
 
-      to_mark : Chain (means_by around) declarations (headers_by around table) d d → marked_by (places_by around) marks d ≡ true
+      to_mark : Chain (means_by around) declarations (headers_by around own) d d → marked_by (places_by around) marks d ≡ true
       to_mark chain =
           let here = chained_has d d chain in
           let back = chain_path (record { 0 = d }) d here.place here.is chain in

@@ -1,12 +1,14 @@
--- A table of headers that is filled in rounds.
--- Says what the rounds keep, and when nothing more can be filled in.
+-- Headers that are found in rounds: what the rounds keep, and when no more can be found.
 use Rattle.std.specs.Prelude.{◌≡◌, ℕ, suc, Option, Some, None, List, [], ◌∷◌}
+use Rattle.std.specs.Map.{lookup}
+use Rattle.go_base.specs.declared.ids.ObjId.{ObjId}
+use Rattle.go_module.specs.Names.Declarations.{Declaration, number_of, numbers_of}
+use Rattle.go_module.specs.Scopes.{same_object}
 use Rattle.go_model.specs.declared.meaning.Meaning.{Meaning}
-use Rattle.go_model.specs.Names.Declarations.{Declaration}
-use Rattle.go_model.specs.declared.header.Header.{Header}
 use Rattle.go_model.specs.Outcomes.Records.{HeaderData}
 use Rattle.go_model.specs.Outcomes.Walk.{Headers}
 use Rattle.go_model.specs.Values.Headers.{Follows, headers_of, Justified}
+use Rattle.go_expr.specs.Places.{place_among}
 
 -- these headers are those of some justified list
 pub record IsBacked (before : Headers) (means : ℕ → Meaning) (declarations : List Declaration) (headers : Headers) : Type 0 where
@@ -18,8 +20,16 @@ pub record IsBacked (before : Headers) (means : ℕ → Meaning) (declarations :
 abbrev pub IsSettled : Headers → (ℕ → Meaning) → List Declaration → Headers → ℕ → Type 0
 IsSettled before means declarations headers d = (h : HeaderData) → headers d ≡ None → Follows before means declarations headers d h → ⊥
 
--- how many declarations have no header yet
-abbrev pub open_count : List (Option Header) → ℕ
-open_count [] = 0
-open_count (None ∷ table) = suc (open_count table)
-open_count (Some h ∷ table) = open_count table
+-- one more, where there is no header
+abbrev pub and_open : Option HeaderData → ℕ → ℕ
+and_open None n = suc n
+and_open (Some h) n = n
+
+-- how many declarations have no header, by their numbers
+abbrev pub open_in : Headers → List Declaration → ℕ
+open_in headers [] = 0
+open_in headers (x ∷ xs) = and_open (headers (number_of x).0) (open_in headers xs)
+
+-- entries are the places of declarations by their numbers: of several with one number that of the first
+abbrev pub ArePlaces : List Declaration → List (ObjId × ℕ) → Type 0
+ArePlaces declarations entries = (d : ObjId) → lookup (same_object d) entries ≡ place_among (numbers_of declarations) d

@@ -1,16 +1,17 @@
 //! The headers of declarations.
 //!
-//! `headers` finds them in rounds over a table; `cyclic_declarations` says which of those that have none wait for
-//! themselves; `places_of` where the declarations stand that these speak of. What an expression comes to is decided in
-//! go_expr, which vertices of a graph lie on a cycle in go_graph.
+//! `headers` finds those of a package in rounds, which tell each header to rules; `cyclic_declarations` says which
+//! declarations without one wait for themselves; `places_of` where the declarations stand that these speak of. What an
+//! expression comes to is decided in go_expr, which vertices of a graph lie on a cycle in go_graph.
 #![tactic(auto)]
 
+mod package_rules;
 mod places;
 mod rounds;
 mod waits;
 
+pub use package_rules::{PackageRules, headers};
 pub use places::places_of;
-pub use rounds::headers;
 pub use waits::{cyclic_declarations, is_cyclic};
 
 #[cfg(test)]

@@ -1,57 +1,77 @@
-// The headers of declarations, found in rounds (Go specification, "Constant declarations").
+// The headers of declarations, found in rounds and told to rules (Go specification, "Constant declarations").
 ghost use Rattle.std.specs.Prelude.{◌≡◌, ◌<◌, ◌↔◌, ℕ, Some, false, length, IfOk, OnOk, IsTrue};
+ghost use Rattle.std.specs.Map.{lookup};
 ghost use Rattle.go_base.specs.declared.ids.ObjId.{ObjId as Object};
+ghost use Rattle.go_module.specs.Scopes.{same_object};
 ghost use Rattle.go_model.specs.Outcomes.Records.{HeaderData};
 ghost use Rattle.go_model.specs.Values.Headers.{Known};
-ghost use Rattle.go_decl.specs.Rounds.{IsBacked, IsSettled, open_count};
-ghost use Rattle.go_expr.specs.Table.{headers_by};
-ghost use Rattle.go_expr.specs.View.{IsAround, before_by, means_by, places_by};
+ghost use Rattle.go_decl.specs.Rounds.{ArePlaces, IsBacked, IsSettled, open_in};
 ghost use Rattle.go_names.specs.Views.{declarations_view};
 
+use crate::places::places_of;
 use go_base::NoMemory;
-use go_expr::{Around, TableJudge, header_over};
-use go_model::Header;
+use go_expr::header_over;
+use go_model::{Headers, Rules};
 use go_module::ObjId;
 use go_names::Declaration;
+use indexmap::IndexMap;
 use std::alloc::Global;
 
-/// The headers of the declarations that have one, by their places, beside those that are known before. An error is want
-/// of memory.
-pub fn headers(
+/// Finds the headers of declarations in rounds, and tells them to the rules. Of several declarations with one number
+/// the first is meant. An error is want of memory; some headers may be known then.
+pub fn rounds<R: Rules>(
     alloc: Global,
-    around: &Around,
+    rules: &mut R,
     declarations: &[Declaration],
-) -> Result<Vec<Option<Header>>, NoMemory>
-    requires around { IsAround (declarations_view declarations.now) around.now }
-    ensures length { IfOk result (λ table. length table.items ≡ length declarations.now) }
-    ensures exact { IfOk result (λ table. (d : ℕ) (h : HeaderData) → (headers_by around.now table.items d ≡ Some h)
-        ↔ Known (before_by around.now) (means_by around.now) (declarations_view declarations.now) d h) }
+) -> Result<(), NoMemory>
+    ensures exact { OnOk result ((d : ℕ) (h : HeaderData) → (R.headers rules.new d ≡ Some h)
+        ↔ Known (R.headers rules.old) (R.means rules.old) (declarations_view declarations.now) d h) }
+    ensures means { R.means rules.new ≡ R.means rules.old }
+    ensures world { R.world rules.new ≡ R.world rules.old }
 {
-    let mut table = vec![in alloc; None; declarations.len()]?;
-    while add_round(alloc, around, declarations, &mut table)? {}
-    Ok(table)
+    let none = Headers::new(alloc);
+    let places = places_of(alloc, &none, declarations)?;
+    add_rounds(alloc, rules, &places, declarations)
+}
+
+// Goes round until a round adds no header.
+fn add_rounds<R: Rules>(
+    alloc: Global,
+    rules: &mut R,
+    places: &IndexMap<ObjId, usize>,
+    declarations: &[Declaration],
+) -> Result<(), NoMemory>
+    requires places { ArePlaces (declarations_view declarations.now) places.now.entries }
+    ensures exact { OnOk result ((d : ℕ) (h : HeaderData) → (R.headers rules.new d ≡ Some h)
+        ↔ Known (R.headers rules.old) (R.means rules.old) (declarations_view declarations.now) d h) }
+    ensures means { R.means rules.new ≡ R.means rules.old }
+    ensures world { R.world rules.new ≡ R.world rules.old }
+{
+    while add_round(alloc, rules, places, declarations)? {}
+    Ok(())
 }
 
 // Tries each declaration without a header, and says whether it added one.
-fn add_round(
+fn add_round<R: Rules>(
     alloc: Global,
-    around: &Around,
+    rules: &mut R,
+    places: &IndexMap<ObjId, usize>,
     declarations: &[Declaration],
-    table: &mut [Option<Header>],
 ) -> Result<bool, NoMemory>
-    requires around { IsAround (declarations_view declarations.now) around.now }
-    requires length { length table.old ≡ length declarations.now }
-    requires backed { IsBacked (before_by around.now) (means_by around.now) (declarations_view declarations.now)
-        (headers_by around.now table.old) }
-    ensures backed { OnOk result (IsBacked (before_by around.now) (means_by around.now)
-        (declarations_view declarations.now) (headers_by around.now table.new)) }
-    ensures fewer { IfOk result (λ added. IsTrue added → open_count table.new < open_count table.old) }
-    ensures settled { IfOk result (λ added. added ≡ false → (d : ℕ) → IsSettled (before_by around.now)
-        (means_by around.now) (declarations_view declarations.now) (headers_by around.now table.new) d) }
+    requires places { ArePlaces (declarations_view declarations.now) places.now.entries }
+    ensures backed { OnOk result (IsBacked (R.headers rules.old) (R.means rules.old)
+        (declarations_view declarations.now) (R.headers rules.new)) }
+    ensures fewer { IfOk result (λ added. IsTrue added
+        → open_in (R.headers rules.new) (declarations_view declarations.now)
+        < open_in (R.headers rules.old) (declarations_view declarations.now)) }
+    ensures settled { IfOk result (λ added. added ≡ false → (d : ℕ) → IsSettled (R.headers rules.new)
+        (R.means rules.old) (declarations_view declarations.now) (R.headers rules.new) d) }
+    ensures means { R.means rules.new ≡ R.means rules.old }
+    ensures world { R.world rules.new ≡ R.world rules.old }
 {
     let mut added = false;
     for place in 0..declarations.len() {
-        if add_one(alloc, around, declarations, table, place)? {
+        if add_one(alloc, rules, places, declarations, place)? {
             added = true;
         }
     }
@@ -59,49 +79,47 @@ fn add_round(
 }
 
 // Tries one declaration, and says whether it added its header.
-fn add_one(
+fn add_one<R: Rules>(
     alloc: Global,
-    around: &Around,
+    rules: &mut R,
+    places: &IndexMap<ObjId, usize>,
     declarations: &[Declaration],
-    table: &mut [Option<Header>],
     place: usize,
 ) -> Result<bool, NoMemory>
-    requires around { IsAround (declarations_view declarations.now) around.now }
+    requires places { ArePlaces (declarations_view declarations.now) places.now.entries }
     requires within { place < length declarations.now }
-    requires length { length table.old ≡ length declarations.now }
-    requires backed { IsBacked (before_by around.now) (means_by around.now) (declarations_view declarations.now)
-        (headers_by around.now table.old) }
-    ensures backed { OnOk result (IsBacked (before_by around.now) (means_by around.now)
-        (declarations_view declarations.now) (headers_by around.now table.new)) }
-    ensures fewer { IfOk result (λ added. IsTrue added → open_count table.new < open_count table.old) }
-    ensures same { IfOk result (λ added. added ≡ false → table.new ≡ table.old) }
-    ensures settled { IfOk result (λ added. added ≡ false → (d : Object) → places_by around.now d ≡ Some place
-        → IsSettled (before_by around.now) (means_by around.now) (declarations_view declarations.now)
-        (headers_by around.now table.new) d.0) }
+    ensures backed { OnOk result (IsBacked (R.headers rules.old) (R.means rules.old)
+        (declarations_view declarations.now) (R.headers rules.new)) }
+    ensures fewer { IfOk result (λ added. IsTrue added
+        → open_in (R.headers rules.new) (declarations_view declarations.now)
+        < open_in (R.headers rules.old) (declarations_view declarations.now)) }
+    ensures same { IfOk result (λ added. added ≡ false → R.headers rules.new ≡ R.headers rules.old) }
+    ensures settled { IfOk result (λ added. added ≡ false → (d : Object)
+        → lookup (same_object d) places.now.entries ≡ Some place → IsSettled (R.headers rules.new)
+        (R.means rules.old) (declarations_view declarations.now) (R.headers rules.new) d.0) }
+    ensures means { R.means rules.new ≡ R.means rules.old }
+    ensures world { R.world rules.new ≡ R.world rules.old }
 {
     let declaration = &declarations[place];
-    if table[place].is_some() {
+    let number = declaration.number();
+    if rules.ask(number)?.is_some() {
         return Ok(false);
     }
-    let mut judge = TableJudge {
-        around: &*around,
-        table: &*table,
-    };
-    match header_over(alloc, &mut judge, declaration)? {
+    if !stands_at(places, number, place) {
+        return Ok(false);
+    }
+    match header_over(alloc, rules, declaration)? {
         Some(header) => {
-            if !stands_at(around, declaration.number(), place) {
-                return Ok(false);
-            }
-            table[place] = Some(header);
+            rules.learn(number, &header)?;
             Ok(true)
         }
         None => Ok(false),
     }
 }
 
-// Whether an object has that place: of several declarations with one number, the first does.
-fn stands_at(around: &Around, d: ObjId, place: usize) -> bool
-    ensures { IsTrue result ↔ (places_by around.now d ≡ Some place) }
+// Whether a number has that place.
+fn stands_at(places: &IndexMap<ObjId, usize>, d: ObjId, place: usize) -> bool
+    ensures { IsTrue result ↔ (lookup (same_object d) places.now.entries ≡ Some place) }
 {
-    around.places.get(&d).copied() == Some(place)
+    places.get(&d).copied() == Some(place)
 }

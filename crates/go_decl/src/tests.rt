@@ -36,7 +36,7 @@ fn constant<'a>(name: &'a Node, value: &'a Node) -> Declaration<'a> {
 }
 
 // The headers of these declarations, where X and Y are the nodes 45 and 46, and 47 is a use of Y.
-fn found(alloc: Global, declarations: &[Declaration]) -> Result<Vec<Option<Header>>, NoMemory> {
+fn found(alloc: Global, declarations: &[Declaration]) -> Result<Headers, NoMemory> {
     let mut uses = IndexMap::new(alloc);
     uses.insert(NodeId(47), ObjId(46))?;
     let before = Headers::new(alloc);
@@ -50,7 +50,7 @@ fn found(alloc: Global, declarations: &[Declaration]) -> Result<Vec<Option<Heade
 }
 
 // The type of a constant, and its value where it is an integer.
-fn told(header: &Option<Header>) -> Option<(Term, Option<i128>)> {
+fn told(header: Option<&Header>) -> Option<(Term, Option<i128>)> {
     match header {
         Some(Header::Const(ty, Value::Int(number))) => Some((*ty, Some(*number))),
         Some(Header::Const(ty, _)) => Some((*ty, None)),
@@ -66,14 +66,11 @@ fn a_header_follows_from_a_later_one(rt: HostRuntime) -> Result<(), Fail> {
     let y = leaf(alloc, 46, NodeKind::Name, b"Y")?;
     let to_y = leaf(alloc, 47, NodeKind::Name, b"Y")?;
     let one = leaf(alloc, 48, NodeKind::IntLit, b"1")?;
-    let table = found(alloc, &[constant(&x, &to_y), constant(&y, &one)])?;
-    assert_eq!(rt; table.len(), 2);
-    for header in &table {
-        assert_eq!(rt;
-            told(header),
-            Some((Term::Basic(Basic::UntypedInt), Some(1)))
-        );
-    }
+    let known = found(alloc, &[constant(&x, &to_y), constant(&y, &one)])?;
+    let wanted = Some((Term::Basic(Basic::UntypedInt), Some(1)));
+    assert_eq!(rt; told(known.get(ObjId(45))), wanted);
+    assert_eq!(rt; told(known.get(ObjId(46))), wanted);
+    assert!(rt; known.get(ObjId(47)).is_none());
     Ok(())
 }
 
@@ -118,7 +115,7 @@ fn cyclic(alloc: Global, declarations: &[Declaration]) -> Result<(bool, bool), N
         places: &places,
         before: &before,
     };
-    let marks = cyclic_declarations(alloc, &around, &[None, None], declarations)?;
+    let marks = cyclic_declarations(alloc, &around, &Headers::new(alloc), declarations)?;
     let of_x = is_cyclic(&around, &marks, ObjId(45));
     let of_y = is_cyclic(&around, &marks, ObjId(46));
     Ok((of_x, of_y))

@@ -7,13 +7,13 @@ ghost use Rattle.go_expr.specs.Evaluated.{evaluated_view, evaluated_views};
 ghost use Rattle.go_model.specs.Outcomes.Readings.{awaited_in};
 ghost use Rattle.go_model.specs.Values.Waiting.{Chain, awaited_by, awaited_by_nodes};
 ghost use Rattle.go_decl.specs.Waits.{awaited_places, marked_by, place_list, waits_of};
-ghost use Rattle.go_expr.specs.Table.{headers_by};
+ghost use Rattle.go_expr.specs.OwnHeaders.{headers_by};
 ghost use Rattle.go_expr.specs.View.{IsAround, means_by, places_by};
 
 use go_base::NoMemory;
-use go_expr::{Around, Evaluated, TableJudge, evaluate};
+use go_expr::{Around, Evaluated, PackageJudge, evaluate};
 use go_graph::{Numbers, cyclic_vertices, is_marked};
-use go_model::{Header, Outcome};
+use go_model::{Headers, Outcome};
 use go_module::ObjId;
 use go_names::Declaration;
 use go_tree::Node;
@@ -24,15 +24,15 @@ use std::alloc::Global;
 pub fn cyclic_declarations(
     alloc: Global,
     around: &Around,
-    table: &[Option<Header>],
+    known: &Headers,
     declarations: &[Declaration],
 ) -> Result<Vec<bool>, NoMemory>
     requires { IsAround (declarations_view declarations.now) around.now }
     ensures length { IfOk result (λ cyclic. length cyclic.items ≡ length declarations.now) }
     ensures exact { IfOk result (λ cyclic. (d : ℕ) → (marked_by (places_by around.now) cyclic.items d ≡ true)
-        ↔ Chain (means_by around.now) (declarations_view declarations.now) (headers_by around.now table.now) d d) }
+        ↔ Chain (means_by around.now) (declarations_view declarations.now) (headers_by around.now known.now) d d) }
 {
-    let waits = waits_of(alloc, around, table, declarations)?;
+    let waits = waits_of(alloc, around, known, declarations)?;
     cyclic_vertices(alloc, &waits)
 }
 
@@ -50,15 +50,15 @@ pub fn is_cyclic(around: &Around, cyclic: &[bool], d: ObjId) -> bool
 fn waits_of(
     alloc: Global,
     around: &Around,
-    table: &[Option<Header>],
+    known: &Headers,
     declarations: &[Declaration],
 ) -> Result<Vec<Numbers>, NoMemory>
     ensures { IfOk result (λ waits. waits.items ≡ waits_of (places_by around.now) (means_by around.now)
-        (headers_by around.now table.now) (declarations_view declarations.now)) }
+        (headers_by around.now known.now) (declarations_view declarations.now)) }
 {
     let mut waits = Vec::new(alloc);
     for declaration in declarations {
-        waits.push(awaited_places(alloc, around, table, declaration)?)?;
+        waits.push(awaited_places(alloc, around, known, declaration)?)?;
     }
     Ok(waits)
 }
@@ -67,13 +67,13 @@ fn waits_of(
 fn awaited_places(
     alloc: Global,
     around: &Around,
-    table: &[Option<Header>],
+    known: &Headers,
     declaration: &Declaration,
 ) -> Result<Numbers, NoMemory>
     ensures { IfOk result (λ places. places ≡ awaited_places (places_by around.now) (means_by around.now)
-        (headers_by around.now table.now) (declaration_view declaration.now)) }
+        (headers_by around.now known.now) (declaration_view declaration.now)) }
 {
-    let numbers = awaited_by(alloc, around, table, declaration)?;
+    let numbers = awaited_by(alloc, around, known, declaration)?;
     places_in(alloc, around, numbers.as_slice())
 }
 
@@ -102,15 +102,15 @@ fn push_place(around: &Around, d: ObjId, places: &mut Numbers) -> Result<(), NoM
 fn awaited_by(
     alloc: Global,
     around: &Around,
-    table: &[Option<Header>],
+    known: &Headers,
     declaration: &Declaration,
 ) -> Result<Numbers, NoMemory>
     ensures { IfOk result (λ numbers. numbers
-        ≡ awaited_by (means_by around.now) (headers_by around.now table.now) (declaration_view declaration.now)) }
+        ≡ awaited_by (means_by around.now) (headers_by around.now known.now) (declaration_view declaration.now)) }
 {
     let mut numbers = Numbers::new(alloc);
-    push_awaited(alloc, around, table, declaration.types, &mut numbers)?;
-    push_awaited(alloc, around, table, declaration.values, &mut numbers)?;
+    push_awaited(alloc, around, known, declaration.types, &mut numbers)?;
+    push_awaited(alloc, around, known, declaration.values, &mut numbers)?;
     Ok(numbers)
 }
 
@@ -118,16 +118,16 @@ fn awaited_by(
 fn push_awaited(
     alloc: Global,
     around: &Around,
-    table: &[Option<Header>],
+    known: &Headers,
     nodes: &[Node],
     numbers: &mut Numbers,
 ) -> Result<(), NoMemory>
     ensures { OnOk result (numbers.new ≡ numbers.old
-        ++ flat_map (awaited_by_nodes (means_by around.now) (headers_by around.now table.now))
+        ++ flat_map (awaited_by_nodes (means_by around.now) (headers_by around.now known.now))
         (map tree_of nodes.now)) }
 {
     for node in nodes {
-        push_awaited_in(alloc, around, table, node, numbers)?;
+        push_awaited_in(alloc, around, known, node, numbers)?;
     }
     Ok(())
 }
@@ -136,16 +136,16 @@ fn push_awaited(
 fn push_awaited_in(
     alloc: Global,
     around: &Around,
-    table: &[Option<Header>],
+    known: &Headers,
     node: &Node,
     numbers: &mut Numbers,
 ) -> Result<(), NoMemory>
     ensures { OnOk result (numbers.new
-        ≡ numbers.old ++ awaited_by_nodes (means_by around.now) (headers_by around.now table.now) (tree_of node.now)) }
+        ≡ numbers.old ++ awaited_by_nodes (means_by around.now) (headers_by around.now known.now) (tree_of node.now)) }
 {
-    let mut judge = TableJudge {
+    let mut judge = PackageJudge {
         around: &*around,
-        table: &*table,
+        known: &*known,
     };
     let list = evaluate(alloc, &mut judge, node)?;
     push_each(&list, numbers)?;

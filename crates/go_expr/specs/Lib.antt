@@ -1,6 +1,6 @@
 -- what public contracts cite
 pub mod Places
 pub mod View
-pub mod Table
+pub mod OwnHeaders
 pub mod Evaluated
 pub mod Outcomes

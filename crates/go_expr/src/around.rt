@@ -4,7 +4,7 @@ ghost use Rattle.std.specs.Prelude.{◌≡◌};
 ghost use Rattle.std.specs.Option.{option_map};
 ghost use Rattle.go_model.specs.Outcomes.Records.{header_view};
 ghost use Rattle.go_model.specs.Values.Meaning as spec;
-ghost use Rattle.go_expr.specs.Table.{headers_by, slot_of};
+ghost use Rattle.go_expr.specs.OwnHeaders.{headers_by};
 ghost use Rattle.go_expr.specs.View.{may_have_by, denotes_by, means_by};
 
 use go_model::{Header, Headers, Meaning};
@@ -59,20 +59,13 @@ impl<'a> Around<'a> {
         self.places.get(&d).is_some() || self.before.get(d).is_some()
     }
 
-    /// The header of a declaration: what the table has at its place, or what is known before.
-    pub fn header<'t>(&'t self, table: &'t [Option<Header>], d: ObjId) -> Option<&'t Header>
-        ensures { option_map (λ header. header_view header.now) result ≡ headers_by self.now table.now d.0 }
+    /// The header of a declaration: what the package has so far, or what is known before.
+    pub fn header<'t>(&'t self, own: &'t Headers, d: ObjId) -> Option<&'t Header>
+        ensures { option_map (λ header. header_view header.now) result ≡ headers_by self.now own.now d.0 }
     {
-        match self.places.get(&d) {
-            Some(place) => slot(table, *place),
+        match own.get(d) {
+            Some(header) => Some(header),
             None => self.before.get(d),
         }
     }
-}
-
-// What the table has at a place.
-fn slot(table: &[Option<Header>], place: usize) -> Option<&Header>
-    ensures { option_map (λ header. header.now) result ≡ slot_of table.now place }
-{
-    table.get(place)?.as_ref()
 }

@@ -39,6 +39,7 @@ pub fn evaluate<'a, J: Judge>(
         ≡ all_evaluated (J.means judge.old) (J.headers judge.old) (tree_of node.now)) }
     ensures same { J.headers judge.new ≡ J.headers judge.old }
     ensures means { J.means judge.new ≡ J.means judge.old }
+    ensures world { J.world judge.new ≡ J.world judge.old }
 {
     let mut list = Vec::new(alloc);
     push_evaluated(alloc, judge, node, &mut list)?;
@@ -60,6 +61,7 @@ fn push_evaluated<'a, J: Judge>(
         ++ reverse (all_evaluated (J.means judge.old) (J.headers judge.old) (tree_of node.now))) }
     ensures same { J.headers judge.new ≡ J.headers judge.old }
     ensures means { J.means judge.new ≡ J.means judge.old }
+    ensures world { J.world judge.new ≡ J.world judge.old }
 {
     let inner = inner_parts(alloc, node)?;
     let mut outcomes = Vec::new(alloc);
@@ -86,6 +88,7 @@ fn with_outcomes<J: Judge>(
         outcome_view found ≡ outcome (J.means judge.old) (J.headers judge.old) (tree_of node.now)) }
     ensures same { J.headers judge.new ≡ J.headers judge.old }
     ensures means { J.means judge.new ≡ J.means judge.old }
+    ensures world { J.world judge.new ≡ J.world judge.old }
 {
     found_by_parts(alloc, judge, node, outcomes)
 }
@@ -102,6 +105,7 @@ fn found_by_parts<J: Judge>(
         (map outcome_view outcomes.now)) }
     ensures same { J.headers judge.new ≡ J.headers judge.old }
     ensures means { J.means judge.new ≡ J.means judge.old }
+    ensures world { J.world judge.new ≡ J.world judge.old }
 {
     match node.kind() {
         NodeKind::IntLit => literal(alloc, node.text()),
@@ -132,6 +136,7 @@ fn selector_by_parts<J: Judge>(
         ≡ selector_by_parts (J.headers judge.old) meaning (map outcome_view outcomes.now)) }
     ensures same { J.headers judge.new ≡ J.headers judge.old }
     ensures means { J.means judge.new ≡ J.means judge.old }
+    ensures world { J.world judge.new ≡ J.world judge.old }
 {
     match only(outcomes) {
         Some(operand) => selector(alloc, judge, meaning, operand),

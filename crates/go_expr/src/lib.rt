@@ -2,7 +2,7 @@
 //!
 //! `outcome` gives the outcome of an expression, from which `record` and `header_over` read its record and the header
 //! of a declaration; `evaluate` gives each node of an expression or a type with its outcome. Each construct has a file
-//! of its own. They ask a judge for headers and meanings; `TableJudge` is one over a table of headers, `Around` says
+//! of its own. They ask a judge for headers and meanings; `PackageJudge` is one over the headers of a package so far, `Around` says
 //! what identifiers mean there. How headers are found is left to go_decl, which rules are told where to go_check.
 #![tactic(auto)]
 
@@ -10,7 +10,7 @@ mod rules;
 
 // What identifiers mean, and what is known.
 mod around;
-mod table_judge;
+mod package_judge;
 
 // What a node comes to: each construct.
 mod broken;
@@ -27,4 +27,4 @@ mod outcomes;
 pub use around::Around;
 pub use evaluated::{Evaluated, evaluate};
 pub use outcomes::{header_over, outcome, record};
-pub use table_judge::TableJudge;
+pub use package_judge::PackageJudge;

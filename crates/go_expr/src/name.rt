@@ -20,6 +20,7 @@ pub fn name<J: Judge>(alloc: Global, judge: &mut J, meaning: Meaning) -> Result<
         → outcome_view outcome ≡ judged (J.headers judge.old) (spec.name meaning) parts) }
     ensures same { J.headers judge.new ≡ J.headers judge.old }
     ensures means { J.means judge.new ≡ J.means judge.old }
+    ensures world { J.world judge.new ≡ J.world judge.old }
 {
     match meaning {
         Meaning::Declared(d) => Ok(declared(d, judge.ask(d)?)),

@@ -31,6 +31,7 @@ pub fn outcome<J: Judge>(alloc: Global, judge: &mut J, node: &Node) -> Result<Ou
         ≡ walk.outcome (J.means judge.old) (J.headers judge.old) (tree_of node.now)) }
     ensures same { J.headers judge.new ≡ J.headers judge.old }
     ensures means { J.means judge.new ≡ J.means judge.old }
+    ensures world { J.world judge.new ≡ J.world judge.old }
 {
     found(alloc, judge, node)
 }
@@ -41,6 +42,7 @@ fn found<J: Judge>(alloc: Global, judge: &mut J, node: &Node) -> Result<Outcome,
         ≡ outcome_by_operands (J.means judge.old) (J.headers judge.old) (tree_of node.now)) }
     ensures same { J.headers judge.new ≡ J.headers judge.old }
     ensures means { J.means judge.new ≡ J.means judge.old }
+    ensures world { J.world judge.new ≡ J.world judge.old }
 {
     match node.kind() {
         NodeKind::IntLit => literal(alloc, node.text()),
@@ -79,6 +81,7 @@ pub fn record<J: Judge>(alloc: Global, judge: &mut J, node: &Node) -> Result<Opt
         ≡ records.record_of (J.means judge.old) (J.headers judge.old) (tree_of node.now)) }
     ensures same { J.headers judge.new ≡ J.headers judge.old }
     ensures means { J.means judge.new ≡ J.means judge.old }
+    ensures world { J.world judge.new ≡ J.world judge.old }
 {
     Ok(record_in(outcome(alloc, judge, node)?))
 }
@@ -105,6 +108,7 @@ pub fn header_over<J: Judge>(
         (J.headers judge.old) (declaration_view declaration.now)) }
     ensures same { J.headers judge.new ≡ J.headers judge.old }
     ensures means { J.means judge.new ≡ J.means judge.old }
+    ensures world { J.world judge.new ≡ J.world judge.old }
 {
     match bound_value(declaration) {
         Some(value) => Ok(declared_header(record(alloc, judge, value)?)),

@@ -26,6 +26,7 @@ pub fn selector<J: Judge>(
         ≡ judged (J.headers judge.old) (spec.selector meaning) (outcome_view operand.now ∷ parts)) }
     ensures same { J.headers judge.new ≡ J.headers judge.old }
     ensures means { J.means judge.new ≡ J.means judge.old }
+    ensures world { J.world judge.new ≡ J.world judge.old }
 {
     match meaning {
         Meaning::Other => of_value(alloc, operand),

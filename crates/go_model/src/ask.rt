@@ -18,10 +18,16 @@ pub trait Ask {
     /// the map knows no identifiers. It stands here, since a call of `ask` keeps it.
     ghost means: { Self → ℕ → Meaning };
 
+    /// What stays while headers are asked and told.
+    ghost World: { Type 0 };
+
+    ghost world: { Self → World };
+
     /// The header of a declaration, None exactly where the map has none. An error is want of memory. The map and the
     /// meanings stay, also on an error.
     fn ask(&mut self, d: ObjId) -> Result<Option<Header>, NoMemory>
         ensures answer { IfOk result (λ header. option_map header_view header ≡ headers self.old d.0) }
         ensures same { headers self.new ≡ headers self.old }
-        ensures means { means self.new ≡ means self.old };
+        ensures means { means self.new ≡ means self.old }
+        ensures world { world self.new ≡ world self.old };
 }

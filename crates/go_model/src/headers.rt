@@ -54,6 +54,10 @@ impl Ask for Headers {
     // A map alone knows no identifiers.
     ghost means = { λ _ _. Other };
 
+    ghost World = { Unit {0} };
+
+    ghost world = { λ _. tt };
+
     fn ask(&mut self, d: ObjId) -> Result<Option<Header>, NoMemory> {
         match self.table.get(&d) {
             Some(header) => Ok(Some(header.clone()?)),

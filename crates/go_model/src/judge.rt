@@ -38,5 +38,6 @@ pub trait Rules: Judge {
         ensures learned { OnOk result ((e : ℕ) → Self.headers self.new e
             ≡ headers_of (Self.headers self.old) ((d.0, header_view header.now) ∷ []) e) }
         ensures err { OnErr result ((e : ℕ) → Self.headers self.new e ≡ Self.headers self.old e) }
-        ensures means { Self.means self.new ≡ Self.means self.old };
+        ensures means { Self.means self.new ≡ Self.means self.old }
+        ensures world { Self.world self.new ≡ Self.world self.old };
 }

@@ -4,11 +4,11 @@ use Rattle.go_model.specs.Report.{line_view}
 use Rattle.go_module.specs.Modules.Module.{file_view}
 use Rattle.go_model.specs.PackageLines.{declaration_defs}
 use Rattle.go_names.specs.Views.{declarations_view}
-use Rattle.go_expr.specs.Table.{headers_by}
+use Rattle.go_expr.specs.OwnHeaders.{headers_by}
 use Rattle.go_expr.specs.View.{means_by}
 use Rattle.go_check.proofs.defs.push_declarations.Given as goal
 
 -- what is pushed, with the lines of the declarations left, are those of all declarations
 abbrev pub invariant-loop-declaration : goal.invariant-loop-declaration
 invariant-loop-declaration l =
-    map line_view l.lines.items ++ flat_map (declaration_defs l.file.stub (file_view l.file.file.now) (means_by l.around) (headers_by l.around l.table)) (declarations_view (drop l.declaration-index l.declarations)) ≡ map line_view l.fn.lines.items ++ flat_map (declaration_defs l.file.stub (file_view l.file.file.now) (means_by l.around) (headers_by l.around l.table)) (declarations_view l.declarations)
+    map line_view l.lines.items ++ flat_map (declaration_defs l.file.stub (file_view l.file.file.now) (means_by l.around) (headers_by l.around l.known)) (declarations_view (drop l.declaration-index l.declarations)) ≡ map line_view l.fn.lines.items ++ flat_map (declaration_defs l.file.stub (file_view l.file.file.now) (means_by l.around) (headers_by l.around l.known)) (declarations_view l.declarations)

@@ -3,7 +3,7 @@ use Rattle.std.specs.List.{flat_map}
 use Rattle.go_model.specs.Report.{line_view}
 use Rattle.go_module.specs.Modules.Module.{file_view}
 use Rattle.go_model.specs.PackageLines.{expr_at}
-use Rattle.go_expr.specs.Table.{headers_by}
+use Rattle.go_expr.specs.OwnHeaders.{headers_by}
 use Rattle.go_expr.specs.View.{means_by}
 use Rattle.go_module.specs.Names.Occurrences.{nodes_in_parts}
 use Rattle.go_names.specs.Views.{specs_view}
@@ -12,4 +12,4 @@ use Rattle.go_check.proofs.exprs.found_exprs.Given as goal
 -- what is pushed, with the lines of the specs left, are those of all specs
 abbrev pub invariant-loop-spec : goal.invariant-loop-spec
 invariant-loop-spec l =
-    map line_view l.lines.items ++ flat_map (expr_at l.file.stub (file_view l.file.file.now) (means_by l.around) (headers_by l.around l.table)) (flat_map nodes_in_parts (specs_view (drop l.spec-index l.spec-items))) ≡ flat_map (expr_at l.file.stub (file_view l.file.file.now) (means_by l.around) (headers_by l.around l.table)) (flat_map nodes_in_parts (specs_view l.spec-items))
+    map line_view l.lines.items ++ flat_map (expr_at l.file.stub (file_view l.file.file.now) (means_by l.around) (headers_by l.around l.known)) (flat_map nodes_in_parts (specs_view (drop l.spec-index l.spec-items))) ≡ flat_map (expr_at l.file.stub (file_view l.file.file.now) (means_by l.around) (headers_by l.around l.known)) (flat_map nodes_in_parts (specs_view l.spec-items))

@@ -9,7 +9,7 @@ use Rattle.go_model.specs.Report.{refused, verdict_view}
 use Rattle.go_model.specs.Values.Rules.{broken_values}
 use Rattle.go_model.specs.Values.Waiting.{Chain}
 use Rattle.go_names.specs.Views.{declarations_view}
-use Rattle.go_expr.specs.Table.{headers_by}
+use Rattle.go_expr.specs.OwnHeaders.{headers_by}
 use Rattle.go_check.specs.Packages.Known.{headers_in, known_with, pairs_view}
 use Rattle.go_check.specs.Packages.Verdicts.{IsAccepting}
 use Rattle.go_expr.specs.View.{before_by, denotes_by, means_by, places_by}
@@ -27,23 +27,21 @@ returns-then-breaks_none c =
     let before = before_by around in
     let means = means_by around in
     let declarations = declarations_view c.args.declarations.now in
-    let table = c.in_ok-table.table.items in
+    let known = c.in_ok-known.known in
     let cyclic = marked_by (places_by around) c.in_ok-cyclic.cyclic.items in
     let list = c.in_ok-list.list.items in
-    let chains = subst (λ t. (d : ℕ) → (cyclic d ≡ true) ↔ Chain means declarations (headers_by around t) d d) c.deref.ensures.value c.in_ok-cyclic.ensures.exact in
-    let over_table = subst (λ t. IsListOf (broken_values means (headers_by around t) (marked_by (places_by around) c.deref-3.result.now) p) list) c.deref-2.ensures.value c.in_ok-list.ensures in
-    let listed = subst (λ t. IsListOf (broken_values means (headers_by around table) (marked_by (places_by around) t) p) list) c.deref-3.ensures.value over_table in
-    let none : list ≡ [] = sym c.deref-4.ensures.value ∙ c.breaks_none.ensures.none c.if-breaks_none.true in
+    let chains = c.in_ok-cyclic.ensures.exact in
+    let listed = subst (λ t. IsListOf (broken_values means (headers_by around known) (marked_by (places_by around) t) p) list) c.deref.ensures.value c.in_ok-list.ensures in
+    let none : list ≡ [] = sym c.deref-2.ensures.value ∙ c.breaks_none.ensures.none c.if-breaks_none.true in
     both_if_ok c.accept.result _ _ _
     (λ checked verdict headers m k at outline uses.
     let same = means_are m k p at declarations around c.requires.declarations c.requires.around uses in
-    let found = breaks m k p before means declarations same c.requires.declarations (headers_by around table) cyclic list (sound_names m k p at around.uses.now.entries uses) c.in_ok-table.ensures.exact chains listed in
-    let accepting = subst (λ o. IsAccepting o k p (denotes_by around) means (headers_by around table) (verdict_view checked.verdict)) outline
-    (subst (λ t. IsAccepting (outline_view c.args.outline.now) k p (denotes_by around) means (headers_by around t) (verdict_view checked.verdict)) c.deref-then-breaks_none.ensures.value (verdict k p c.requires.files)) in
-    let after : known_with before (pairs_view checked.headers.items) ≡ headers_by around table =
-    ap (known_with before) (headers ∙ ap (λ t. headers_in (headers_by around t) declarations) c.deref-then-breaks_none.ensures.value)
-    ∙ known_after around table declarations c.requires.around in
-    sound_verdict m k p before means declarations same c.requires.declarations (headers_by around table) (known_with before (pairs_view checked.headers.items)) (denotes_by around) list (verdict_view checked.verdict) found none
+    let found = breaks m k p before means declarations same c.requires.declarations (headers_by around known) cyclic list (sound_names m k p at around.uses.now.entries uses) c.in_ok-known.ensures chains listed in
+    let accepting = subst (λ o. IsAccepting o k p (denotes_by around) means (headers_by around known) (verdict_view checked.verdict)) outline
+    (verdict k p c.requires.files) in
+    let after : known_with before (pairs_view checked.headers.items) ≡ headers_by around known =
+    ap (known_with before) headers ∙ known_after before means declarations (headers_by around known) c.in_ok-known.ensures in
+    sound_verdict m k p before means declarations same c.requires.declarations (headers_by around known) (known_with before (pairs_view checked.headers.items)) (denotes_by around) list (verdict_view checked.verdict) found none
     (denotes_are m k p at declarations around c.requires.declarations c.requires.around uses)
     accepting after)
     c.accept.ensures.verdict c.accept.ensures.headers
@@ -55,16 +53,15 @@ returns c m k at outline uses =
     let before = before_by around in
     let means = means_by around in
     let declarations = declarations_view c.args.declarations.now in
-    let table = c.in_ok-table.table.items in
+    let known = c.in_ok-known.known in
     let cyclic = marked_by (places_by around) c.in_ok-cyclic.cyclic.items in
     let list = c.in_ok-list.list.items in
-    let chains = subst (λ t. (d : ℕ) → (cyclic d ≡ true) ↔ Chain means declarations (headers_by around t) d d) c.deref.ensures.value c.in_ok-cyclic.ensures.exact in
-    let over_table = subst (λ t. IsListOf (broken_values means (headers_by around t) (marked_by (places_by around) c.deref-3.result.now) p) list) c.deref-2.ensures.value c.in_ok-list.ensures in
-    let listed = subst (λ t. IsListOf (broken_values means (headers_by around table) (marked_by (places_by around) t) p) list) c.deref-3.ensures.value over_table in
+    let chains = c.in_ok-cyclic.ensures.exact in
+    let listed = subst (λ t. IsListOf (broken_values means (headers_by around known) (marked_by (places_by around) t) p) list) c.deref.ensures.value c.in_ok-list.ensures in
     let same = means_are m k p at declarations around c.requires.declarations c.requires.around uses in
-    let found = breaks m k p before means declarations same c.requires.declarations (headers_by around table) cyclic list (sound_names m k p at around.uses.now.entries uses) c.in_ok-table.ensures.exact chains listed in
-    let some : list ≢ [] = λ e. c.breaks_none.ensures.some c.if-breaks_none.false (c.deref-4.ensures.value ∙ e) in
+    let found = breaks m k p before means declarations same c.requires.declarations (headers_by around known) cyclic list (sound_names m k p at around.uses.now.entries uses) c.in_ok-known.ensures chains listed in
+    let some : list ≢ [] = λ e. c.breaks_none.ensures.some c.if-breaks_none.false (c.deref-2.ensures.value ∙ e) in
     let placed : c.in_ok-placed_list.field-0.items ≡ map (placed_by p) list = c.in_ok-placed_list.ensures ∙ ap (map (placed_by p)) c.deref-else-breaks_none.ensures.value in
     let after : before ≡ known_with before (pairs_view c.new.result.items) = known_alone before ∙ ap (λ hs. known_with before (pairs_view hs)) (sym c.new.ensures.items) in
     subst (λ (b : Headers). IsVerdict m k p before (refused c.in_ok-placed_list.field-0.items) b) after
-    (subst (λ bs. IsVerdict m k p before (refused bs) before) (sym placed) (refused_values m k p before (headers_by around table) list found some))
+    (subst (λ bs. IsVerdict m k p before (refused bs) before) (sym placed) (refused_values m k p before (headers_by around known) list found some))

@@ -7,7 +7,7 @@ use Rattle.go_module.specs.Places.{with_number}
 use Rattle.go_model.specs.Values.Rules.{broken_cycles, broken_in_files, broken_spec, broken_values}
 use Rattle.go_names.specs.Views.{declarations_view}
 use Rattle.go_check.specs.Lines.Found.{all_specs_in, own_files_view}
-use Rattle.go_expr.specs.Table.{headers_by}
+use Rattle.go_expr.specs.OwnHeaders.{headers_by}
 use Rattle.go_expr.specs.View.{means_by, places_by}
 use Rattle.go_decl.specs.Waits.{marked_by}
 use Rattle.go_check.proofs.ValueLemmas.{specs_are}
@@ -17,7 +17,7 @@ pub returns : goal.returns
 returns c =
     let p = package_view c.args.own.now in
     let means = means_by c.args.around.now in
-    let headers = headers_by c.args.around.now c.args.table.now in
+    let headers = headers_by c.args.around.now c.args.known.now in
     let marks = marked_by (places_by c.args.around.now) c.args.cyclic.now in
     let specs : all_specs_in (own_files_view c.args.files.now) ≡ specs_of p = ap all_specs_in c.requires.files ∙ specs_are p.stub 0 p.files p.imports in
     let cycles : c.push_cycles.new.list.items ≡ broken_cycles marks (declarations_of p) =

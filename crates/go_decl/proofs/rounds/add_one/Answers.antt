@@ -1,37 +1,69 @@
-use Rattle.std.proofs.Common.{◌≡◌, ◌∙◌, Some, None, sym, ap, arith}
+use Rattle.std.proofs.Common.{◌≡◌, ◌∙◌, Some, None, sym, ap, subst}
 use Rattle.std.specs.Prelude.{IsTrue}
-use Rattle.std.specs.Option.{option_map}
+use Rattle.std.specs.Map.{lookup}
+use Rattle.go_base.specs.declared.ids.ObjId.{ObjId}
+use Rattle.go_module.specs.Scopes.{same_object}
 use Rattle.go_model.specs.Outcomes.Records.{header_view}
-use Rattle.go_model.specs.Values.Records.{header_over}
-use Rattle.go_expr.specs.Table.{headers_by}
-use Rattle.go_expr.specs.View.{before_by, means_by, places_by}
+use Rattle.go_model.specs.Outcomes.Walk.{Headers}
 use Rattle.go_names.specs.Views.{declaration_view, declarations_view}
-use Rattle.go_decl.proofs.RoundLemmas.{IsBacked-set, one_declaration, open_count-set, own_number, declared_at, was_open}
+use Rattle.go_decl.specs.Rounds.{IsSettled}
+use Rattle.go_decl.proofs.RoundLemmas.{at_place, backed_one, declared_at, fewer_open, found_over, is_known, is_vacant, learnt_over, settled_none}
 use Rattle.go_decl.proofs.rounds.add_one.Goals as goal
 
-pub returns-else-not-stands_at-clause-backed : goal.returns-else-not-stands_at-clause-backed
-returns-else-not-stands_at-clause-backed c =
-    let around = c.args.around.now in
-    let declared = declared_at c.args.declarations.now c.args.place c.index-declarations-place.result c.requires.within c.index-declarations-place.is in
-    IsBacked-set (before_by around) (means_by around) (declarations_view c.args.declarations.now) (places_by around) c.requires.around c.args.table.now c.number.result c.args.place c.in-Some.header _ c.requires.backed (omega arith) (c.stands_at.ensures.0 c.if-not-stands_at.false) declared
-    (sym c.in_ok-header.ensures.header ∙ ap (option_map header_view) c.in-Some.is)
-
-pub returns-else-not-stands_at-clause-fewer : goal.returns-else-not-stands_at-clause-fewer
-returns-else-not-stands_at-clause-fewer c = λ _. open_count-set c.args.table.now c.args.place _ (omega arith) (was_open c.args.table.now c.args.place c.index-table-place.result (omega arith) c.if-is_some.ensures)
-
-pub returns-in-None-clause-settled : goal.returns-in-None-clause-settled
-returns-in-None-clause-settled c = λ _ d at h _ f.
-    let around = c.args.around.now in
-    let declared = declared_at c.args.declarations.now c.args.place c.index-declarations-place.result c.requires.within c.index-declarations-place.is in
-    let same : f.declaration ≡ declaration_view c.index-declarations-place.result = one_declaration (before_by around) (means_by around) (declarations_view c.args.declarations.now) (places_by around) c.requires.around d c.args.place at f.declaration f.declared _ declared in
-    let none : header_over (means_by around) (headers_by around c.args.table.now) (declaration_view c.index-declarations-place.result) ≡ None = sym c.in_ok-header.ensures.header ∙ ap (option_map header_view) c.in-None.is in
-    cc (f.tells, same, none)
+pub returns-then-is_some-clause-settled : goal.returns-then-is_some-clause-settled
+returns-then-is_some-clause-settled g c = λ _ d at h vacant _.
+    let headers = g.R.Ask.headers c.args.rules.now in
+    let there = declared_at c.args.declarations.now c.args.place c.index-declarations-place.result c.requires.within c.index-declarations-place.is in
+    let is = at_place (declarations_view c.args.declarations.now) c.args.places.now.entries c.requires.places d c.args.place at _ there in
+    is_known c.in_ok-ask.field-0 (headers c.number-number.result.0) c.if-is_some.ensures c.in_ok-ask.ensures.answer
+    (ap (λ (e : ObjId). headers e.0) (c.number-number.ensures ∙ is.number) ∙ ap (λ (m : Headers). m d.0) (sym c.ask.ensures.same) ∙ vacant)
 
 pub returns-then-not-stands_at-clause-settled : goal.returns-then-not-stands_at-clause-settled
-returns-then-not-stands_at-clause-settled c = λ _ d at h _ f.
-    let around = c.args.around.now in
-    let declared = declared_at c.args.declarations.now c.args.place c.index-declarations-place.result c.requires.within c.index-declarations-place.is in
-    let number = own_number (before_by around) (means_by around) (declarations_view c.args.declarations.now) (places_by around) c.requires.around d c.args.place at _ declared in
-    let there : places_by around c.number.result ≡ Some c.args.place = ap (places_by around) (c.number.ensures ∙ number) ∙ at in
-    let stands : IsTrue c.stands_at.result = c.stands_at.ensures.1 there in
+returns-then-not-stands_at-clause-settled g c = λ _ d at h _ _.
+    let there = declared_at c.args.declarations.now c.args.place c.index-declarations-place.result c.requires.within c.index-declarations-place.is in
+    let is = at_place (declarations_view c.args.declarations.now) c.args.places.now.entries c.requires.places d c.args.place at _ there in
+    let stands : IsTrue c.stands_at.result = c.stands_at.ensures.1 (ap (λ (e : ObjId). lookup (same_object e) c.args.places.now.entries) (c.number-number.ensures ∙ is.number) ∙ at) in
     absurd (cc (stands, c.if-not-stands_at.true))
+
+pub returns-in_ok-learn-in-Some-clause-backed : goal.returns-in_ok-learn-in-Some-clause-backed
+returns-in_ok-learn-in-Some-clause-backed g c =
+    let headers = g.R.Ask.headers c.args.rules.now in
+    let means = g.R.Ask.means c.args.rules.now in
+    let declarations = declarations_view c.args.declarations.now in
+    let declaration = declaration_view c.index-declarations-place.result in
+    let d = c.number-number.result in
+    let h = header_view c.in-Some.header in
+    let there = declared_at c.args.declarations.now c.args.place c.index-declarations-place.result c.requires.within c.index-declarations-place.is in
+    let is = at_place declarations c.args.places.now.entries c.requires.places d c.args.place (c.stands_at.ensures.0 c.if-not-stands_at.false) declaration there in
+    let kept : g.R.Ask.headers c.header_over.new.judge ≡ headers = c.header_over.ensures.same ∙ c.ask.ensures.same in
+    backed_one headers means declarations (g.R.Ask.headers c.learn.new.self) d.0 h declaration is.declared
+    (is_vacant c.in_ok-ask.field-0 (headers d.0) c.if-is_some.ensures c.in_ok-ask.ensures.answer)
+    (found_over means (g.R.Ask.means c.ask.new.self) headers (g.R.Ask.headers c.ask.new.self) declaration c.in_ok-header.field-0 (Some c.in-Some.header) c.ask.ensures.means c.ask.ensures.same c.in_ok-header.ensures.header c.in-Some.is)
+    (learnt_over headers (g.R.Ask.headers c.header_over.new.judge) (g.R.Ask.headers c.learn.new.self) d.0 h kept c.in_ok-learn-in-Some.ensures.learned)
+
+pub returns-in_ok-learn-in-Some-clause-fewer : goal.returns-in_ok-learn-in-Some-clause-fewer
+returns-in_ok-learn-in-Some-clause-fewer g c = λ _.
+    let headers = g.R.Ask.headers c.args.rules.now in
+    let declarations = declarations_view c.args.declarations.now in
+    let declaration = declaration_view c.index-declarations-place.result in
+    let d = c.number-number.result in
+    let h = header_view c.in-Some.header in
+    let there = declared_at c.args.declarations.now c.args.place c.index-declarations-place.result c.requires.within c.index-declarations-place.is in
+    let is = at_place declarations c.args.places.now.entries c.requires.places d c.args.place (c.stands_at.ensures.0 c.if-not-stands_at.false) declaration there in
+    let kept : g.R.Ask.headers c.header_over.new.judge ≡ headers = c.header_over.ensures.same ∙ c.ask.ensures.same in
+    fewer_open headers (g.R.Ask.headers c.learn.new.self) d.0 h
+    (learnt_over headers (g.R.Ask.headers c.header_over.new.judge) (g.R.Ask.headers c.learn.new.self) d.0 h kept c.in_ok-learn-in-Some.ensures.learned)
+    declarations declaration is.declared
+    (is_vacant c.in_ok-ask.field-0 (headers d.0) c.if-is_some.ensures c.in_ok-ask.ensures.answer)
+
+pub returns-in-None-clause-settled : goal.returns-in-None-clause-settled
+returns-in-None-clause-settled g c = λ _ d at.
+    let headers = g.R.Ask.headers c.args.rules.now in
+    let means = g.R.Ask.means c.args.rules.now in
+    let declarations = declarations_view c.args.declarations.now in
+    let declaration = declaration_view c.index-declarations-place.result in
+    let there = declared_at c.args.declarations.now c.args.place c.index-declarations-place.result c.requires.within c.index-declarations-place.is in
+    let is = at_place declarations c.args.places.now.entries c.requires.places d c.args.place at declaration there in
+    let kept : g.R.Ask.headers c.header_over.new.judge ≡ headers = c.header_over.ensures.same ∙ c.ask.ensures.same in
+    subst (λ (m : Headers). IsSettled m means declarations m d.0) (sym kept)
+    (settled_none headers means declarations d.0 declaration is.declared (found_over means (g.R.Ask.means c.ask.new.self) headers (g.R.Ask.headers c.ask.new.self) declaration c.in_ok-header.field-0 None c.ask.ensures.means c.ask.ensures.same c.in_ok-header.ensures.header c.in-None.is))

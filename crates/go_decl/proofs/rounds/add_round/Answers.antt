@@ -1,16 +1,54 @@
-use Rattle.std.proofs.Common.{◌≡◌, Some, ◌∙◌, arith}
+use Rattle.std.proofs.Common.{◌≡◌, ◌∙◌, ℕ, ◌<◌, ◌≤◌, Some, sym, subst, arith, below_more}
+use Rattle.std.specs.Map.{lookup}
 use Rattle.std.proofs.lemmas.List.{length-map}
-use Rattle.go_expr.specs.View.{before_by, places_by}
+use Rattle.go_base.specs.declared.ids.ObjId.{ObjId}
+use Rattle.go_module.specs.Scopes.{same_object}
+use Rattle.go_model.specs.declared.meaning.Meaning.{Meaning}
+use Rattle.go_model.specs.Outcomes.Walk.{Headers}
 use Rattle.go_names.specs.Views.{declaration_view, declarations_view}
-use Rattle.go_decl.proofs.PlaceLemmas.{has_open}
+use Rattle.go_decl.specs.Rounds.{IsBacked, IsSettled, open_in}
+use Rattle.go_decl.proofs.RoundLemmas.{backed_twice}
+use Rattle.go_decl.proofs.PlaceLemmas.{declared_place}
 use Rattle.go_decl.proofs.rounds.add_round.Goals as goal
+use Rattle.go_decl.proofs.rounds.add_round.Goals.{then-branch, else-branch}
+
+pub loop-place-preserved : goal.loop-place-preserved
+loop-place-preserved g c =
+    let inv = c.loop-place.invariant in
+    let did = c.in_ok-add_one.ensures in
+    let declarations = declarations_view c.args.declarations.now in
+    let old = g.R.Ask.headers c.args.rules.now in
+    let means = g.R.Ask.means c.args.rules.now in
+    let before = g.R.Ask.headers c.loop-place.rules in
+    let after = g.R.Ask.headers c.add_one.new.rules in
+    let backed : IsBacked old means declarations after = backed_twice old means declarations before after (g.R.Ask.means c.loop-place.rules) inv.means inv.backed did.backed in
+    elim c.if-branch.branch [
+      | then-branch w ↦ let less : open_in after declarations < open_in before declarations = did.fewer w.if-branch.true in
+          record {
+            backed = backed;
+            means = c.add_one.ensures.means ∙ inv.means;
+            world = c.add_one.ensures.world ∙ inv.world;
+            fewer = λ _. omega (arith, inv.no_more, less);
+            no_more = omega (arith, inv.no_more, less);
+            settled = λ e. absurd (cc (w.added-is, e));
+          }
+      | else-branch w ↦ let same : after ≡ before = did.same w.if-branch.false in
+          record {
+            backed = backed;
+            means = c.add_one.ensures.means ∙ inv.means;
+            world = c.add_one.ensures.world ∙ inv.world;
+            fewer = λ e. subst (λ (m : Headers). open_in m declarations < open_in old declarations) (sym same) (inv.fewer (sym w.added-is ∙ e));
+            no_more = subst (λ (m : Headers). open_in m declarations ≤ open_in old declarations) (sym same) inv.no_more;
+            settled = λ e. below_more (λ n. (d : ObjId) → lookup (same_object d) c.args.places.now.entries ≡ Some n → IsSettled after means declarations after d.0) c.loop-place.place
+                (λ n lt d at. subst (λ (m : Headers). IsSettled m means declarations m d.0) (sym same) (inv.settled (sym w.added-is ∙ e) n lt d at))
+                (λ d at. subst (λ (k : ℕ → Meaning). IsSettled after k declarations after d.0) inv.means (did.settled w.if-branch.false d at));
+          }
+    ]
 
 pub returns-clause-settled : goal.returns-clause-settled
-returns-clause-settled c = λ e d h vacant follows.
-    let around = c.args.around.now in
-    let declarations = declarations_view c.args.declarations.now in
-    let at = has_open (before_by around) declarations (record { 0 = d }) follows.declaration follows.fresh follows.declared in
-    let within = at.2 in
+returns-clause-settled g c = λ e d h vacant follows.
+    let at = declared_place (declarations_view c.args.declarations.now) (record { 0 = d }) follows.declaration follows.declared in
+    let within = at.within in
     let same = length-map c.args.declarations.now declaration_view in
-    let here : places_by around (record { 0 = d }) ≡ Some at.0 = c.requires.around (record { 0 = d }) ∙ at.1 in
-    c.loop-place.invariant.settled e at.0 (omega arith) (record { 0 = d }) here h vacant follows
+    let here : lookup (same_object (record { 0 = d })) c.args.places.now.entries ≡ Some at.place = c.requires.places (record { 0 = d }) ∙ at.is in
+    c.loop-place.invariant.settled e at.place (omega arith) (record { 0 = d }) here h vacant follows

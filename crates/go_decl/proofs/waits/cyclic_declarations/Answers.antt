@@ -8,12 +8,12 @@ use Rattle.go_decl.proofs.waits.cyclic_declarations.Goals as goal
 pub cyclic_vertices-requires : goal.cyclic_vertices-requires
 cyclic_vertices-requires c =
     let same = c.deref.ensures.value ∙ c.in_ok-waits.ensures in
-    subst IsGraph (sym same) (waits_graph c.args.around.now c.args.table.now (declarations_view c.args.declarations.now) c.requires)
+    subst IsGraph (sym same) (waits_graph c.args.around.now c.args.known.now (declarations_view c.args.declarations.now) c.requires)
 
 pub returns-clause-exact : goal.returns-clause-exact
 returns-clause-exact c =
     let same = c.deref.ensures.value ∙ c.in_ok-waits.ensures in
     IfOk-weaker c.cyclic_vertices.result _ _
-    (λ marks exact. marks_are_chains c.args.around.now c.args.table.now (declarations_view c.args.declarations.now) c.requires marks.items
+    (λ marks exact. marks_are_chains c.args.around.now c.args.known.now (declarations_view c.args.declarations.now) c.requires marks.items
     (λ i. (λ e. subst (λ (g : Graph). Path g i i) same ((exact i).0 e), λ p. (exact i).1 (subst (λ (g : Graph). Path g i i) (sym same) p))))
     c.cyclic_vertices.ensures.exact

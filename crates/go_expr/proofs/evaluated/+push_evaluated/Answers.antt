@@ -1,4 +1,4 @@
-use Rattle.std.proofs.Common.{sym, ◌≡◌, ◌-◌, ◌++◌, [], ◌∷◌, map, drop, reverse, refl, ap, ◌∙◌, arith}
+use Rattle.std.proofs.Common.{sym, ◌≡◌, ◌-◌, ◌++◌, map, drop, reverse, refl, ap, ◌∙◌, arith}
 use Rattle.std.specs.List.{flat_map}
 use Rattle.std.proofs.lemmas.List.{reverse-reverse}
 use Rattle.go_model.specs.Outcomes.Judged.{OutcomeData}

@@ -15,6 +15,7 @@ abbrev pub invariant-loop-place : goal.invariant-loop-place
 invariant-loop-place g l = record {
   same : g.J.Ask.headers l.judge ≡ g.J.Ask.headers l.fn.judge;
   means : g.J.Ask.means l.judge ≡ g.J.Ask.means l.fn.judge;
+  world : g.J.Ask.world l.judge ≡ g.J.Ask.world l.fn.judge;
   found : map outcome_view l.outcomes.items ≡ reverse (map (outcome (g.J.Ask.means l.fn.judge) (g.J.Ask.headers l.fn.judge)) (trees_at (drop l.place l.inner.items)));
   listed : evaluated_views l.list.items ≡ evaluated_views l.fn.list.items ++ reverse (flat_map (all_evaluated (g.J.Ask.means l.fn.judge) (g.J.Ask.headers l.fn.judge)) (trees_at (drop l.place l.inner.items)));
 }

@@ -1,0 +1,14 @@
+use Rattle.std.proofs.Common.{◌≡◌}
+use Rattle.go_decl.specs.Rounds.{IsBacked, open_in}
+use Rattle.go_names.specs.Views.{declarations_view}
+use Rattle.go_decl.proofs.rounds.add_rounds.Given as goal
+
+abbrev pub invariant-loop : goal.invariant-loop
+invariant-loop g l = record {
+  backed : IsBacked (g.R.Ask.headers l.fn.rules) (g.R.Ask.means l.fn.rules) (declarations_view l.declarations) (g.R.Ask.headers l.rules);
+  means : g.R.Ask.means l.rules ≡ g.R.Ask.means l.fn.rules;
+  world : g.R.Ask.world l.rules ≡ g.R.Ask.world l.fn.rules;
+}
+
+abbrev pub decreases-loop : goal.decreases-loop
+decreases-loop g l = open_in (g.R.Ask.headers l.rules) (declarations_view l.declarations)
