@@ -7,6 +7,7 @@ pub mod NamedLemmas
 pub mod NamesLemmas
 pub mod OrderedLemmas
 pub mod PlacedLemmas
+pub mod ReadLemmas
 pub mod ResultLemmas
 pub mod StateLemmas
 pub mod ValueLemmas

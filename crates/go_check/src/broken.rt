@@ -1,23 +1,20 @@
-// What a spec breaks (Go specification, "Constants", "Constant expressions", "Constant declarations", "Qualified
-// identifiers").
-ghost use Rattle.std.specs.Prelude.{◌≡◌, ◌++◌, IfOk, OnOk, is_some, map, slice_get, unwrap_or};
+// What a spec breaks, by the outcomes of its nodes (Go specification, "Constants", "Constant expressions", "Constant
+// declarations", "Qualified identifiers").
+ghost use Rattle.std.specs.Prelude.{◌≡◌, ◌++◌, OnOk, is_some, map, slice_get, unwrap_or};
 ghost use Rattle.std.specs.List.{flat_map, list_all};
 ghost use Rattle.std.specs.Option.{option_map};
 ghost use Rattle.go_tree.specs.Tree.{tree_of};
 ghost use Rattle.go_module.specs.Broken.{broken_at};
-ghost use Rattle.go_model.specs.Outcomes.Readings.{part_start, spot_start};
-ghost use Rattle.go_model.specs.Values.Records.{record_of};
-ghost use Rattle.go_model.specs.Values.Rules as rules;
+ghost use Rattle.go_model.specs.Outcomes.Readings.{broken_spots, part_start, spot_start};
 ghost use Rattle.go_names.specs.Views.{spec_view};
-ghost use Rattle.go_expr.specs.Evaluated.{evaluated_view, evaluated_views};
-ghost use Rattle.go_check.specs.Lines.Nodes.{broken_by};
-ghost use Rattle.go_expr.specs.OwnHeaders.{headers_by};
-ghost use Rattle.go_expr.specs.View.{means_by};
+ghost use Rattle.go_expr.specs.Read.{outcome_read, record_by};
+ghost use Rattle.go_expr.specs.Walker.{outcomes_view};
+ghost use Rattle.go_check.specs.Lines.Nodes.{are_unequal_by, broken_by, broken_spec_by};
 
 use crate::rules::UNEQUAL_SIDES;
 use go_base::{Broken, NoMemory, Rule};
-use go_expr::{Around, Evaluated, PackageJudge, evaluate, record};
-use go_model::{Headers, Outcome, Spot};
+use go_expr::{Walker, nodes_in};
+use go_model::{Outcome, Spot};
 use go_module::{add_if, broken_at};
 use go_names::Spec;
 use go_tree::Node;
@@ -27,88 +24,60 @@ use std::alloc::Global;
 /// error is want of memory.
 pub fn push_spec(
     alloc: Global,
-    around: &Around,
-    known: &Headers,
+    walker: &Walker,
     spec: &Spec,
     found: &mut Vec<Broken>,
 ) -> Result<(), NoMemory>
     ensures { OnOk result (found.new.items ≡ found.old.items
-        ++ rules.broken_spec (means_by around.now) (headers_by around.now known.now) (spec_view spec.now)) }
+        ++ broken_spec_by (outcome_read (outcomes_view walker.now)) (spec_view spec.now)) }
 {
-    let unequal = are_unequal(alloc, around, known, spec.names, spec.values)?;
+    let unequal = are_unequal(walker, spec.names, spec.values);
     let start = spec.node.start();
     add_if(found, unequal, broken_at(spec.file, start, UNEQUAL_SIDES))?;
-    push_nodes(alloc, around, known, spec, spec.types, found)?;
-    push_nodes(alloc, around, known, spec, spec.values, found)
+    push_nodes(alloc, walker, spec, spec.types, found)?;
+    push_nodes(alloc, walker, spec, spec.values, found)
 }
 
 // Whether the numbers of names and of expressions differ, and all expressions have records.
-fn are_unequal(
-    alloc: Global,
-    around: &Around,
-    known: &Headers,
-    names: &[Node],
-    values: &[Node],
-) -> Result<bool, NoMemory>
-    ensures { IfOk result (λ unequal. unequal ≡ rules.are_unequal (means_by around.now)
-        (headers_by around.now known.now) (map tree_of names.now) (map tree_of values.now)) }
+fn are_unequal(walker: &Walker, names: &[Node], values: &[Node]) -> bool
+    ensures { result ≡ are_unequal_by (outcome_read (outcomes_view walker.now)) (map tree_of names.now)
+        (map tree_of values.now) }
 {
-    if names.len() == values.len() {
-        return Ok(false);
-    }
-    have_records(alloc, around, known, values)
+    names.len() != values.len() && have_records(walker, values)
 }
 
 // Whether all of these expressions have records.
-fn have_records(
-    alloc: Global,
-    around: &Around,
-    known: &Headers,
-    values: &[Node],
-) -> Result<bool, NoMemory>
-    ensures { IfOk result (λ each. each ≡ list_all
-        (λ value. is_some (record_of (means_by around.now) (headers_by around.now known.now) value))
-        (map tree_of values.now)) }
+fn have_records(walker: &Walker, values: &[Node]) -> bool
+    ensures { result ≡ list_all (λ value. is_some (record_by (outcome_read (outcomes_view walker.now)) value))
+        (map tree_of values.now) }
 {
     for value in values {
-        if !has_record(alloc, around, known, value)? {
-            return Ok(false);
+        if !has_record(walker, value) {
+            return false;
         }
     }
-    Ok(true)
+    true
 }
 
-fn has_record(
-    alloc: Global,
-    around: &Around,
-    known: &Headers,
-    value: &Node,
-) -> Result<bool, NoMemory>
-    ensures { IfOk result (λ has. has ≡ is_some
-        (record_of (means_by around.now) (headers_by around.now known.now) (tree_of value.now))) }
+fn has_record(walker: &Walker, value: &Node) -> bool
+    ensures { result ≡ is_some (record_by (outcome_read (outcomes_view walker.now)) (tree_of value.now)) }
 {
-    let mut judge = PackageJudge {
-        around: &*around,
-        known: &*known,
-    };
-    Ok(record(alloc, &mut judge, value)?.is_some())
+    walker.found(value.id()).is_some()
 }
 
 // Pushes what the nodes of these parts of a spec break.
 fn push_nodes(
     alloc: Global,
-    around: &Around,
-    known: &Headers,
+    walker: &Walker,
     spec: &Spec,
     nodes: &[Node],
     found: &mut Vec<Broken>,
 ) -> Result<(), NoMemory>
     ensures { OnOk result (found.new.items ≡ found.old.items ++ flat_map
-        (rules.broken_in spec.now.file spec.now.told_at (means_by around.now) (headers_by around.now known.now))
-        (map tree_of nodes.now)) }
+        (broken_by (outcome_read (outcomes_view walker.now)) spec.now.file spec.now.told_at) (map tree_of nodes.now)) }
 {
     for node in nodes {
-        push_node(alloc, around, known, spec, node, found)?;
+        push_node(alloc, walker, spec, node, found)?;
     }
     Ok(())
 }
@@ -116,55 +85,38 @@ fn push_nodes(
 // Pushes what the nodes of this part of a spec break.
 fn push_node(
     alloc: Global,
-    around: &Around,
-    known: &Headers,
+    walker: &Walker,
     spec: &Spec,
     node: &Node,
     found: &mut Vec<Broken>,
 ) -> Result<(), NoMemory>
-    ensures { OnOk result (found.new.items ≡ found.old.items ++ rules.broken_in spec.now.file spec.now.told_at
-        (means_by around.now) (headers_by around.now known.now) (tree_of node.now)) }
-{
-    let mut judge = PackageJudge {
-        around: &*around,
-        known: &*known,
-    };
-    let list = evaluate(alloc, &mut judge, node)?;
-    push_each(spec.file, spec.told_at, &list, found)?;
-    Ok(())
-}
-
-// Pushes what each of these nodes breaks.
-fn push_each(
-    file: usize,
-    told_at: Option<usize>,
-    list: &[Evaluated],
-    found: &mut Vec<Broken>,
-) -> Result<(), NoMemory>
     ensures { OnOk result (found.new.items ≡ found.old.items
-        ++ flat_map (broken_by file told_at) (evaluated_views list.now)) }
+        ++ broken_by (outcome_read (outcomes_view walker.now)) spec.now.file spec.now.told_at (tree_of node.now)) }
 {
-    for node in list {
-        push_one(file, told_at, node, found)?;
+    let nodes = nodes_in(alloc, node)?;
+    for inner in &nodes {
+        push_one(walker, spec.file, spec.told_at, inner, found)?;
     }
     Ok(())
 }
 
 // Pushes the rule that a node breaks, if it does.
 fn push_one(
+    walker: &Walker,
     file: usize,
     told_at: Option<usize>,
-    node: &Evaluated,
+    node: &Node,
     found: &mut Vec<Broken>,
 ) -> Result<(), NoMemory>
-    ensures { OnOk result (found.new.items ≡ found.old.items
-        ++ broken_by file told_at (evaluated_view node.now)) }
+    ensures { OnOk result (found.new.items ≡ found.old.items ++ broken_spots file told_at (tree_of node.now)
+        (outcome_read (outcomes_view walker.now) (tree_of node.now))) }
 {
-    match &node.outcome {
-        Outcome::Broken(rule, spots) => push_spots(file, told_at, node.node, *rule, spots, found),
-        Outcome::Found(_) => Ok(()),
-        Outcome::Waits(_) => Ok(()),
-        Outcome::Nothing => Ok(()),
+    match walker.outcome(node.id()) {
+        Some(Outcome::Broken(rule, spots)) => push_spots(file, told_at, node, *rule, spots, found),
+        Some(Outcome::Found(_)) => Ok(()),
+        Some(Outcome::Waits(_)) => Ok(()),
+        Some(Outcome::Nothing) => Ok(()),
+        None => Ok(()),
     }
 }
 

@@ -11,15 +11,16 @@ ghost use Rattle.go_model.specs.PackageLines as spec;
 ghost use Rattle.go_model.specs.Report.{defined, defined_view, line_view};
 ghost use Rattle.go_names.specs.Views.{declaration_view, declarations_view, trees_at};
 ghost use Rattle.go_check.specs.Lines.Found.{def_lines, import_lines, own_file_view};
-ghost use Rattle.go_expr.specs.OwnHeaders.{headers_by};
-ghost use Rattle.go_expr.specs.View.{means_by};
+ghost use Rattle.go_expr.specs.Read.{outcome_read};
+ghost use Rattle.go_expr.specs.Walker.{outcomes_view};
+ghost use Rattle.go_check.specs.Lines.Nodes.{def_by};
 ghost use Rattle.go_check.specs.View.{outline_view};
 
 use crate::outline::Outline;
 use crate::own_file::OwnFile;
 use go_base::NoMemory;
-use go_expr::{Around, PackageJudge, header_over};
-use go_model::{DefKind, Header, Headers, Line, What};
+use go_expr::{Walker, header_by};
+use go_model::{DefKind, Header, Line, What};
 use go_module::text_name;
 use go_names::{Declaration, declarations_in};
 use go_tree::{Node, NodeKind};
@@ -30,11 +31,10 @@ pub fn found_defs(
     alloc: Global,
     outline: &Outline,
     file: &OwnFile,
-    around: &Around,
-    known: &Headers,
+    walker: &Walker,
 ) -> Result<Vec<Line>, NoMemory>
     ensures { IfOk result (λ lines. map line_view lines.items ≡ def_lines (outline_view outline.now)
-        (means_by around.now) (headers_by around.now known.now) (own_file_view file.now)) }
+        (outcome_read (outcomes_view walker.now)) (own_file_view file.now)) }
 {
     let mut lines = Vec::new(alloc);
     push_imports(
@@ -46,7 +46,7 @@ pub fn found_defs(
         &mut lines,
     )?;
     let declarations = declarations_in(alloc, &file.specs)?;
-    push_declarations(alloc, file, around, known, &declarations, &mut lines)?;
+    push_declarations(alloc, file, walker, &declarations, &mut lines)?;
     Ok(lines)
 }
 
@@ -116,18 +116,16 @@ fn is_dot(name: &Node) -> bool
 fn push_declarations(
     alloc: Global,
     file: &OwnFile,
-    around: &Around,
-    known: &Headers,
+    walker: &Walker,
     declarations: &[Declaration],
     lines: &mut Vec<Line>,
 ) -> Result<(), NoMemory>
     ensures { OnOk result (map line_view lines.new.items ≡ map line_view lines.old.items ++ flat_map
-        (spec.declaration_defs file.now.stub (file_view file.now.file.now) (means_by around.now)
-        (headers_by around.now known.now))
+        (def_by (outcome_read (outcomes_view walker.now)) file.now.stub (file_view file.now.file.now))
         (declarations_view declarations.now)) }
 {
     for declaration in declarations {
-        push_declaration(alloc, file, around, known, declaration, lines)?;
+        push_declaration(alloc, file, walker, declaration, lines)?;
     }
     Ok(())
 }
@@ -136,20 +134,15 @@ fn push_declarations(
 fn push_declaration(
     alloc: Global,
     file: &OwnFile,
-    around: &Around,
-    known: &Headers,
+    walker: &Walker,
     declaration: &Declaration,
     lines: &mut Vec<Line>,
 ) -> Result<(), NoMemory>
     ensures { OnOk result (map line_view lines.new.items ≡ map line_view lines.old.items
-        ++ spec.declaration_defs file.now.stub (file_view file.now.file.now) (means_by around.now)
-        (headers_by around.now known.now) (declaration_view declaration.now)) }
+        ++ def_by (outcome_read (outcomes_view walker.now)) file.now.stub (file_view file.now.file.now)
+        (declaration_view declaration.now)) }
 {
-    let mut judge = PackageJudge {
-        around: &*around,
-        known: &*known,
-    };
-    if let Some(header) = header_over(alloc, &mut judge, declaration)? {
+    if let Some(header) = header_by(walker, declaration)? {
         lines.push(def_line(alloc, file, declaration.name, told_as(header))?)?;
     }
     Ok(())

@@ -8,18 +8,17 @@ ghost use Rattle.go_module.specs.Names.Occurrences.{nodes_in, nodes_in_parts};
 ghost use Rattle.go_model.specs.Outcomes.Records.{rec_view};
 ghost use Rattle.go_model.specs.PackageLines as rule;
 ghost use Rattle.go_model.specs.Report.{line_view};
-ghost use Rattle.go_names.specs.Views.{spec_view, specs_view};
-ghost use Rattle.go_expr.specs.Evaluated.{evaluated_view, evaluated_views};
-ghost use Rattle.go_check.specs.Lines.Nodes.{line_by};
+ghost use Rattle.go_names.specs.Views.{spec_view, trees_at};
+ghost use Rattle.go_expr.specs.Read.{outcome_read};
+ghost use Rattle.go_expr.specs.Walker.{outcomes_view};
+ghost use Rattle.go_check.specs.Lines.Nodes.{expr_by};
 ghost use Rattle.go_check.specs.Lines.Found.{expr_lines, own_file_view};
-ghost use Rattle.go_expr.specs.OwnHeaders.{headers_by};
-ghost use Rattle.go_expr.specs.View.{means_by};
 
 use crate::own_file::OwnFile;
 use crate::uses::written;
 use go_base::NoMemory;
-use go_expr::{Around, Evaluated, PackageJudge, evaluate};
-use go_model::{Headers, Line, Outcome, Rec, What};
+use go_expr::{Walker, nodes_in};
+use go_model::{Line, Rec, What};
 use go_names::Spec;
 use go_tree::Node;
 use std::alloc::Global;
@@ -28,15 +27,14 @@ use std::alloc::Global;
 pub fn found_exprs(
     alloc: Global,
     file: &OwnFile,
-    around: &Around,
-    known: &Headers,
+    walker: &Walker,
 ) -> Result<Vec<Line>, NoMemory>
     ensures { IfOk result (λ lines. map line_view lines.items
-        ≡ expr_lines (means_by around.now) (headers_by around.now known.now) (own_file_view file.now)) }
+        ≡ expr_lines (outcome_read (outcomes_view walker.now)) (own_file_view file.now)) }
 {
     let mut lines = Vec::new(alloc);
     for spec in &written(alloc, &file.specs)? {
-        push_spec(alloc, file, around, known, spec, &mut lines)?;
+        push_spec(alloc, file, walker, spec, &mut lines)?;
     }
     Ok(lines)
 }
@@ -45,61 +43,65 @@ pub fn found_exprs(
 fn push_spec(
     alloc: Global,
     file: &OwnFile,
-    around: &Around,
-    known: &Headers,
+    walker: &Walker,
     spec: &Spec,
     lines: &mut Vec<Line>,
 ) -> Result<(), NoMemory>
     ensures { OnOk result (map line_view lines.new.items ≡ map line_view lines.old.items ++ flat_map
-        (rule.expr_at file.now.stub (file_view file.now.file.now) (means_by around.now)
-        (headers_by around.now known.now))
+        (expr_by (outcome_read (outcomes_view walker.now)) file.now.stub (file_view file.now.file.now))
         (nodes_in_parts (spec_view spec.now))) }
 {
-    push_nodes(alloc, file, around, known, spec.types, lines)?;
-    push_nodes(alloc, file, around, known, spec.values, lines)
+    push_nodes(alloc, file, walker, spec.types, lines)?;
+    push_nodes(alloc, file, walker, spec.values, lines)
 }
 
 // Pushes the lines of the expressions in these.
 fn push_nodes(
     alloc: Global,
     file: &OwnFile,
-    around: &Around,
-    known: &Headers,
+    walker: &Walker,
     nodes: &[Node],
     lines: &mut Vec<Line>,
 ) -> Result<(), NoMemory>
     ensures { OnOk result (map line_view lines.new.items ≡ map line_view lines.old.items ++ flat_map
-        (rule.expr_at file.now.stub (file_view file.now.file.now) (means_by around.now)
-        (headers_by around.now known.now))
+        (expr_by (outcome_read (outcomes_view walker.now)) file.now.stub (file_view file.now.file.now))
         (flat_map nodes_in (map tree_of nodes.now))) }
 {
     for node in nodes {
-        let mut judge = PackageJudge {
-            around: &*around,
-            known: &*known,
-        };
-        push_each(file, &evaluate(alloc, &mut judge, node)?, lines)?;
+        push_each(file, walker, &nodes_in(alloc, node)?, lines)?;
     }
     Ok(())
 }
 
 // Pushes the line of each of these nodes that has a record.
-fn push_each(file: &OwnFile, list: &[Evaluated], lines: &mut Vec<Line>) -> Result<(), NoMemory>
+fn push_each(
+    file: &OwnFile,
+    walker: &Walker,
+    list: &[&Node],
+    lines: &mut Vec<Line>,
+) -> Result<(), NoMemory>
     ensures { OnOk result (map line_view lines.new.items ≡ map line_view lines.old.items ++ flat_map
-        (line_by file.now.stub (file_view file.now.file.now)) (evaluated_views list.now)) }
+        (expr_by (outcome_read (outcomes_view walker.now)) file.now.stub (file_view file.now.file.now))
+        (trees_at list.now)) }
 {
     for node in list {
-        push_one(file, node, lines)?;
+        push_one(file, walker, node, lines)?;
     }
     Ok(())
 }
 
-fn push_one(file: &OwnFile, node: &Evaluated, lines: &mut Vec<Line>) -> Result<(), NoMemory>
+fn push_one(
+    file: &OwnFile,
+    walker: &Walker,
+    node: &Node,
+    lines: &mut Vec<Line>,
+) -> Result<(), NoMemory>
     ensures { OnOk result (map line_view lines.new.items ≡ map line_view lines.old.items
-        ++ line_by file.now.stub (file_view file.now.file.now) (evaluated_view node.now)) }
+        ++ expr_by (outcome_read (outcomes_view walker.now)) file.now.stub (file_view file.now.file.now)
+        (tree_of node.now)) }
 {
-    if let Outcome::Found(found) = &node.outcome {
-        lines.push(expr_line(file, node.node, found)?)?;
+    if let Some(found) = walker.found(node.id()) {
+        lines.push(expr_line(file, node, found)?)?;
     }
     Ok(())
 }

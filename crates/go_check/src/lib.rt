@@ -1,8 +1,8 @@
 //! What checking a module tells.
 //!
 //! `check_module` answers with the report of a module: of each package, in import order, the rules that its names or
-//! its values break, or its lines. The scopes of all packages are collected first. Headers are found in go_decl,
-//! outcomes of nodes in go_expr.
+//! its values break, or its lines. The scopes of all packages are collected first. Headers are found in go_decl; then
+//! each node is walked once in go_expr, and rules and lines read its outcome.
 #![tactic(auto)]
 
 mod rules;
@@ -12,9 +12,10 @@ mod denoted;
 mod names;
 mod own_file;
 
-// The rules on values.
+// Values, and the rules on them.
 mod broken;
 mod values;
+mod walked;
 
 // Places.
 mod declared;

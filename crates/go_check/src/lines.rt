@@ -6,8 +6,12 @@ ghost use Rattle.go_model.specs.PackageLines as spec;
 ghost use Rattle.go_model.specs.Report.{line_view};
 ghost use Rattle.go_check.specs.Lines.Found.{def_lines, expr_lines, own_files_in, own_files_view, use_lines};
 ghost use Rattle.go_check.specs.Lines.Ordered.{AddsInOrder};
-ghost use Rattle.go_expr.specs.OwnHeaders.{headers_by};
-ghost use Rattle.go_expr.specs.View.{denotes_by, means_by};
+ghost use Rattle.go_model.specs.declared.meaning.Meaning.{Meaning};
+ghost use Rattle.go_model.specs.Outcomes.Walk.{Headers};
+ghost use Rattle.go_model.specs.Outcomes.Walked.{AreWalked, nodes_of};
+ghost use Rattle.go_expr.specs.Read.{outcome_read};
+ghost use Rattle.go_expr.specs.View.{denotes_by};
+ghost use Rattle.go_expr.specs.Walker.{outcomes_view};
 ghost use Rattle.go_check.specs.View.{outline_view};
 
 use crate::defs::found_defs;
@@ -17,26 +21,28 @@ use crate::outline::Outline;
 use crate::own_file::OwnFile;
 use crate::uses::found_uses;
 use go_base::NoMemory;
-use go_expr::Around;
-use go_model::{Headers, Line};
+use go_expr::{Around, Walker};
+use go_model::Line;
 use std::alloc::Global;
 
-/// The lines of a package with these files: one for each declared name, then one for each use, then one for each
-/// expression, each kind in order. An error is want of memory.
+/// The lines of a package with these files, by the outcomes of its nodes: one for each declared name, then one for each
+/// use, then one for each expression, each kind in order. An error is want of memory.
 pub fn lines_of(
     alloc: Global,
     outline: &Outline,
     files: &[OwnFile],
     around: &Around,
-    known: &Headers,
+    walker: &Walker,
 ) -> Result<Vec<Line>, NoMemory>
-    ensures { IfOk result (λ lines. (k : ℕ) (p : PackageData) → own_files_view files.now ≡ own_files_in p
-        → spec.AreLines (outline_view outline.now) k p (denotes_by around.now) (means_by around.now)
-        (headers_by around.now known.now) (map line_view lines.items)) }
+    ensures { IfOk result (λ lines. (means : ℕ → Meaning) (headers : Headers) (k : ℕ) (p : PackageData)
+        → own_files_view files.now ≡ own_files_in p
+        → AreWalked means headers (nodes_of p) (outcomes_view walker.now)
+        → spec.AreLines (outline_view outline.now) k p (denotes_by around.now) means headers
+        (map line_view lines.items)) }
 {
-    let defs = all_defs(alloc, outline, files, around, known)?;
+    let defs = all_defs(alloc, outline, files, walker)?;
     let uses = all_uses(alloc, outline, files, around)?;
-    let exprs = all_exprs(alloc, files, around, known)?;
+    let exprs = all_exprs(alloc, files, walker)?;
     joined(alloc, defs, uses, exprs)
 }
 
@@ -74,15 +80,14 @@ fn all_defs(
     alloc: Global,
     outline: &Outline,
     files: &[OwnFile],
-    around: &Around,
-    known: &Headers,
+    walker: &Walker,
 ) -> Result<Vec<Line>, NoMemory>
-    ensures { IfOk result (λ lines. AreInOrder (map (def_lines (outline_view outline.now) (means_by around.now)
-        (headers_by around.now known.now)) (own_files_view files.now)) (map line_view lines.items)) }
+    ensures { IfOk result (λ lines. AreInOrder (map (def_lines (outline_view outline.now)
+        (outcome_read (outcomes_view walker.now))) (own_files_view files.now)) (map line_view lines.items)) }
 {
     let mut lines = Vec::new(alloc);
     for file in files {
-        add_in_order(found_defs(alloc, outline, file, around, known)?, &mut lines)?;
+        add_in_order(found_defs(alloc, outline, file, walker)?, &mut lines)?;
     }
     Ok(lines)
 }
@@ -108,15 +113,14 @@ fn all_uses(
 fn all_exprs(
     alloc: Global,
     files: &[OwnFile],
-    around: &Around,
-    known: &Headers,
+    walker: &Walker,
 ) -> Result<Vec<Line>, NoMemory>
-    ensures { IfOk result (λ lines. AreInOrder (map (expr_lines (means_by around.now) (headers_by around.now known.now))
+    ensures { IfOk result (λ lines. AreInOrder (map (expr_lines (outcome_read (outcomes_view walker.now)))
         (own_files_view files.now)) (map line_view lines.items)) }
 {
     let mut lines = Vec::new(alloc);
     for file in files {
-        add_in_order(found_exprs(alloc, file, around, known)?, &mut lines)?;
+        add_in_order(found_exprs(alloc, file, walker)?, &mut lines)?;
     }
     Ok(lines)
 }

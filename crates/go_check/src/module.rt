@@ -4,6 +4,7 @@ ghost use Rattle.std.specs.List.{list_all};
 ghost use Rattle.go_graph.specs.Graph as marking;
 ghost use Rattle.go_module.specs.Modules.Module.{module_view, package_view};
 ghost use Rattle.go_model.specs.Outline.{outline_of};
+ghost use Rattle.go_model.specs.Outcomes.Walked.{NodesAreNumbered};
 ghost use Rattle.go_model.specs.Phases as phases;
 ghost use Rattle.go_model.specs.Report.{report_view, verdict_view};
 ghost use Rattle.go_model.specs.Report as reports;
@@ -34,12 +35,14 @@ pub struct State {
 
 /// The report of a module, package after package in import order: what its names break, else what its values
 /// break, else its lines; a package is skipped where one that it imports is not accepted. The scopes of all packages
-/// are collected before values are asked. An error is want of memory. The count of steps stays as it is.
+/// are collected before values are asked. Of no package two nodes of expressions have one number, as in each module that
+/// is loaded. An error is want of memory. The count of steps stays as it is.
 pub fn check_module<L: Ledger>(
     alloc: Global,
     module: &Module,
     _steps: &mut Steps<L>,
 ) -> Result<Report, NoMemory>
+    requires { NodesAreNumbered (module_view «module».now) }
     ensures report { IfOk result (λ report. phases.ReportOf (module_view «module».now) (report_view report)) }
     ensures steps { _steps.new ≡ _steps.old }
 {
@@ -67,6 +70,7 @@ fn check_packages(
 ) -> Result<Vec<PackageReport>, NoMemory>
     requires denoted { AreDenoted (module_view «module».now) (length «module».now.packages.items) denoted.now }
     requires outline { outline_view outline.now ≡ outline_of (module_view «module».now) }
+    requires numbered { NodesAreNumbered (module_view «module».now) }
     ensures { IfOk result (λ made. phases.AreReports (module_view «module».now) 0 [] phases.no_headers
         (module_view «module».now).packages (map reports.package_view made.items)) }
 {
@@ -93,6 +97,7 @@ fn check_next(
     requires within { place < length «module».now.packages.items }
     requires denoted { AreDenoted (module_view «module».now) (length «module».now.packages.items) denoted.now }
     requires outline { outline_view outline.now ≡ outline_of (module_view «module».now) }
+    requires numbered { NodesAreNumbered (module_view «module».now) }
     requires state { IsState (module_view «module».now) denoted.now place state.old }
     ensures { OnOk result (IsState (module_view «module».now) denoted.now (place + 1) state.new) }
 {

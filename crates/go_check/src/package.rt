@@ -8,6 +8,9 @@ ghost use Rattle.go_model.specs.Outline.{outline_of};
 ghost use Rattle.go_model.specs.PackageLines.{named_in};
 ghost use Rattle.go_model.specs.Phases as phases;
 ghost use Rattle.go_model.specs.Outcomes.Records.{header_view};
+ghost use Rattle.go_model.specs.declared.meaning.Meaning.{Meaning};
+ghost use Rattle.go_model.specs.Outcomes.Walk.{Headers as Known};
+ghost use Rattle.go_model.specs.Outcomes.Walked.{AreNumbered, AreWalked, NodesAreNumbered, nodes_of};
 ghost use Rattle.go_model.specs.Report.{line_view, named_view, verdict_view};
 ghost use Rattle.go_model.specs.Values.HeadersView.{headers_view};
 ghost use Rattle.go_names.specs.Views.{declarations_view};
@@ -17,7 +20,8 @@ ghost use Rattle.go_check.specs.Packages.Known.{headers_in, known_with, pairs_vi
 ghost use Rattle.go_check.specs.Packages.Names.{ImportsSound, sound_at};
 ghost use Rattle.go_expr.specs.OwnHeaders.{headers_by};
 ghost use Rattle.go_check.specs.Packages.Verdicts.{IsAccepting};
-ghost use Rattle.go_expr.specs.View.{IsAround, before_by, denotes_by, means_by};
+ghost use Rattle.go_expr.specs.View.{IsAround, before_by, denotes_by};
+ghost use Rattle.go_expr.specs.Walker.{outcomes_view};
 ghost use Rattle.go_check.specs.View.{outline_view};
 
 use crate::denoted::Denoted;
@@ -28,8 +32,9 @@ use crate::outline::Outline;
 use crate::own_file::{OwnFile, declarations_of, own_files};
 use crate::places::placed_list;
 use crate::values::broken_values;
+use crate::walked::{Walked, walk_package};
 use go_base::NoMemory;
-use go_decl::{cyclic_declarations, headers, places_of};
+use go_decl::{cyclic_declarations, places_of};
 use go_expr::Around;
 use go_model::{Header, Headers, Records, Verdict};
 use go_module::{Module, ObjId, Package, breaks_none};
@@ -52,6 +57,7 @@ pub fn check_package(
     requires within { place < length «module».now.packages.items }
     requires denoted { AreDenoted (module_view «module».now) (length «module».now.packages.items) denoted.now }
     requires outline { outline_view outline.now ≡ outline_of (module_view «module».now) }
+    requires numbered { NodesAreNumbered (module_view «module».now) }
     requires imports { (p : PackageData) → slice_get (module_view «module».now).packages place ≡ Some p
         → ImportsSound denoted.now.verdicts.items place p }
     ensures verdict { IfOk result (λ verdict. (p : PackageData)
@@ -76,6 +82,7 @@ fn check_values(
     uses: &IndexMap<NodeId, ObjId>,
     before: &mut Headers,
 ) -> Result<Verdict, NoMemory>
+    requires { AreNumbered (nodes_of (package_view own.now)) }
     ensures { IfOk result (λ verdict. (m : ModuleData) (k : ℕ) → slice_get m.packages k ≡ Some (package_view own.now)
         → outline_view outline.now ≡ outline_of m → AreUses m k uses.now.entries → phases.IsVerdict m k
         (package_view own.now) (headers_view before.old) (verdict_view verdict)
@@ -120,16 +127,18 @@ fn verdict_by_values(
     requires files { own_files_view files.now ≡ own_files_in (package_view own.now) }
     requires declarations { declarations_view declarations.now ≡ names.declarations_of (package_view own.now) }
     requires around { IsAround (declarations_view declarations.now) around.now }
+    requires numbered { AreNumbered (nodes_of (package_view own.now)) }
     ensures { IfOk result (λ checked. (m : ModuleData) (k : ℕ) → slice_get m.packages k ≡ Some (package_view own.now)
         → outline_view outline.now ≡ outline_of m → AreUses m k around.now.uses.now.entries → phases.IsVerdict m k
         (package_view own.now) (before_by around.now) (verdict_view checked.verdict)
         (known_with (before_by around.now) (pairs_view checked.headers.items))) }
 {
-    let known = headers(alloc, around, declarations)?;
-    let cyclic = cyclic_declarations(alloc, around, &known, declarations)?;
-    let list = broken_values(alloc, around, &known, &cyclic, files, declarations, own)?;
+    let walked = walk_package(alloc, around, files, declarations)?;
+    let walker = &walked.walker;
+    let cyclic = cyclic_declarations(alloc, around, walker, declarations)?;
+    let list = broken_values(alloc, around, walker, &cyclic, files, declarations, own)?;
     if breaks_none(&list) {
-        accept(alloc, outline, around, &known, files, declarations)
+        accept(alloc, outline, around, &walked, files, declarations)
     } else {
         let verdict = Verdict::Refused(placed_list(alloc, own, &list)?);
         Ok(Checked {
@@ -144,19 +153,21 @@ fn accept(
     alloc: Global,
     outline: &Outline,
     around: &Around,
-    known: &Headers,
+    walked: &Walked,
     files: &[OwnFile],
     declarations: &[Declaration],
 ) -> Result<Checked, NoMemory>
-    ensures verdict { IfOk result (λ checked. (k : ℕ) (p : PackageData) → own_files_view files.now ≡ own_files_in p
-        → IsAccepting (outline_view outline.now) k p (denotes_by around.now) (means_by around.now)
-        (headers_by around.now known.now) (verdict_view checked.verdict)) }
+    ensures verdict { IfOk result (λ checked. (means : ℕ → Meaning) (known : Known) (k : ℕ) (p : PackageData)
+        → own_files_view files.now ≡ own_files_in p
+        → AreWalked means known (nodes_of p) (outcomes_view walked.now.walker)
+        → IsAccepting (outline_view outline.now) k p (denotes_by around.now) means known
+        (verdict_view checked.verdict)) }
     ensures headers { IfOk result (λ checked. pairs_view checked.headers.items
-        ≡ headers_in (headers_by around.now known.now) (declarations_view declarations.now)) }
+        ≡ headers_in (headers_by around.now walked.now.known) (declarations_view declarations.now)) }
 {
-    let lines = lines_of(alloc, outline, files, around, known)?;
+    let lines = lines_of(alloc, outline, files, around, &walked.walker)?;
     let named = named_in(alloc, outline, &lines)?;
-    let headers = headers_in(alloc, around, known, declarations)?;
+    let headers = headers_in(alloc, around, &walked.known, declarations)?;
     Ok(Checked {
         verdict: Verdict::Accepted(Records { lines, named }),
         headers,

@@ -1,6 +1,6 @@
 // What the values of a package break (Go specification, "Constants", "Constant expressions", "Constant declarations",
 // "Qualified identifiers").
-ghost use Rattle.std.specs.Prelude.{◌≡◌, ◌++◌, IfOk, OnOk, map};
+ghost use Rattle.std.specs.Prelude.{◌≡◌, ◌++◌, ℕ, IfOk, OnOk, map};
 ghost use Rattle.std.specs.List.{flat_map};
 ghost use Rattle.go_module.specs.Order.{IsListOf};
 ghost use Rattle.go_module.specs.Modules.Module.{package_view};
@@ -8,8 +8,13 @@ ghost use Rattle.go_module.specs.Names.Declarations.{declarations_of};
 ghost use Rattle.go_model.specs.Values.Rules as rules;
 ghost use Rattle.go_names.specs.Views.{declaration_view, declarations_view, specs_view};
 ghost use Rattle.go_check.specs.Lines.Found.{all_specs_in, own_files_in, own_files_view};
-ghost use Rattle.go_expr.specs.OwnHeaders.{headers_by};
-ghost use Rattle.go_expr.specs.View.{means_by, places_by};
+ghost use Rattle.go_model.specs.declared.meaning.Meaning.{Meaning};
+ghost use Rattle.go_model.specs.Outcomes.Walk.{Headers};
+ghost use Rattle.go_model.specs.Outcomes.Walked.{AreWalked, nodes_of};
+ghost use Rattle.go_expr.specs.Read.{outcome_read};
+ghost use Rattle.go_expr.specs.View.{places_by};
+ghost use Rattle.go_expr.specs.Walker.{outcomes_view};
+ghost use Rattle.go_check.specs.Lines.Nodes.{broken_spec_by};
 ghost use Rattle.go_decl.specs.Waits.{marked_by};
 
 use crate::broken::push_spec;
@@ -17,19 +22,18 @@ use crate::own_file::OwnFile;
 use crate::rules::CYCLIC_DECLARATION;
 use go_base::{Broken, NoMemory};
 use go_decl::is_cyclic;
-use go_expr::Around;
-use go_model::Headers;
+use go_expr::{Around, Walker};
 use go_module::{Package, add_if, broken_at, ordered, with_numbers};
 use go_names::{Declaration, Spec};
 use std::alloc::Global;
 
 /// What the values of a package with these files and declarations break, as the list of a report: C1 at each
-/// declaration that is marked as cyclic, and what its specs break, each told by the number of its file. An error is
-/// want of memory.
+/// declaration that is marked as cyclic, and what its specs break by the outcomes of their nodes, each told by the number
+/// of its file. An error is want of memory.
 pub fn broken_values(
     alloc: Global,
     around: &Around,
-    known: &Headers,
+    walker: &Walker,
     cyclic: &[bool],
     files: &[OwnFile],
     declarations: &[Declaration],
@@ -37,12 +41,14 @@ pub fn broken_values(
 ) -> Result<Vec<Broken>, NoMemory>
     requires files { own_files_view files.now ≡ own_files_in (package_view own.now) }
     requires declarations { declarations_view declarations.now ≡ declarations_of (package_view own.now) }
-    ensures { IfOk result (λ list. IsListOf (rules.broken_values (means_by around.now) (headers_by around.now known.now)
-        (marked_by (places_by around.now) cyclic.now) (package_view own.now)) list.items) }
+    ensures { IfOk result (λ list. (means : ℕ → Meaning) (headers : Headers)
+        → AreWalked means headers (nodes_of (package_view own.now)) (outcomes_view walker.now)
+        → IsListOf (rules.broken_values means headers (marked_by (places_by around.now) cyclic.now)
+        (package_view own.now)) list.items) }
 {
     let mut found = Vec::new(alloc);
     push_cycles(around, cyclic, declarations, &mut found)?;
-    push_files(alloc, around, known, files, &mut found)?;
+    push_files(alloc, walker, files, &mut found)?;
     Ok(ordered(with_numbers(alloc, &own.files, &found)?))
 }
 
@@ -83,17 +89,15 @@ fn push_cyclic(
 // Pushes what the specs of each file break.
 fn push_files(
     alloc: Global,
-    around: &Around,
-    known: &Headers,
+    walker: &Walker,
     files: &[OwnFile],
     found: &mut Vec<Broken>,
 ) -> Result<(), NoMemory>
-    ensures { OnOk result (found.new.items ≡ found.old.items
-        ++ flat_map (rules.broken_spec (means_by around.now) (headers_by around.now known.now))
-        (all_specs_in (own_files_view files.now))) }
+    ensures { OnOk result (found.new.items ≡ found.old.items ++ flat_map
+        (broken_spec_by (outcome_read (outcomes_view walker.now))) (all_specs_in (own_files_view files.now))) }
 {
     for file in files {
-        push_specs(alloc, around, known, &file.specs, found)?;
+        push_specs(alloc, walker, &file.specs, found)?;
     }
     Ok(())
 }
@@ -101,17 +105,15 @@ fn push_files(
 // Pushes what these specs break.
 fn push_specs(
     alloc: Global,
-    around: &Around,
-    known: &Headers,
+    walker: &Walker,
     specs: &[Spec],
     found: &mut Vec<Broken>,
 ) -> Result<(), NoMemory>
     ensures { OnOk result (found.new.items ≡ found.old.items
-        ++ flat_map (rules.broken_spec (means_by around.now) (headers_by around.now known.now))
-        (specs_view specs.now)) }
+        ++ flat_map (broken_spec_by (outcome_read (outcomes_view walker.now))) (specs_view specs.now)) }
 {
     for spec in specs {
-        push_spec(alloc, around, known, spec, found)?;
+        push_spec(alloc, walker, spec, found)?;
     }
     Ok(())
 }

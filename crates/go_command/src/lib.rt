@@ -13,6 +13,4 @@ pub use laws::one_run;
 pub use run::gocheck;
 
 #[cfg(test)]
-mod module_tests;
-#[cfg(test)]
 mod tests;

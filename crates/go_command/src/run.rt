@@ -5,6 +5,7 @@ ghost use Rattle.go_base.specs.Counters.{Rose};
 ghost use Rattle.go_base.specs.Status.{IsReport};
 ghost use Rattle.go_base.specs.Sink.{Adds, AddsPrefix};
 ghost use Rattle.go_module.specs.Modules.Module.{module_view};
+ghost use Rattle.go_model.specs.Outcomes.Walked.{NodesAreNumbered};
 ghost use Rattle.go_command.specs.Headline.{IsRunText, WritesReport, WritesFront};
 ghost use Rattle.go_command.specs.Runs.{IsFirst, IsWhole};
 ghost use Rattle.go_command.specs.Words.{roots_of};
@@ -89,6 +90,7 @@ fn whole<L: Ledger>(
     module: Module,
     steps: &mut Steps<L>,
 ) -> Result<(Vec<u8>, Status), NoMemory>
+    requires { NodesAreNumbered (module_view «module») }
     ensures { IfOk result (λ made. IsWhole (module_view «module») made.0.items made.1) }
 {
     let report = check_module(alloc, &module, steps)?;

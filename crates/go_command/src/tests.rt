@@ -134,12 +134,63 @@ fn a_put_that_fails_leaves_a_prefix(rt: HostRuntime) -> Result<(), Fail> {
     Ok(())
 }
 
-// The run on the module m of one file.
-fn checked(alloc: Global, source: &str) -> Result<(Status, SureSink), Fail> {
-    let mut tree = SureTree::new(mem_files(alloc, &[GO_MOD, ("r", "a.go", source)])?);
+// The run on the module m of these files.
+fn checked_files(alloc: Global, sources: &[(String, String)]) -> Result<(Status, SureSink), Fail> {
+    let mut files = vec![in alloc; GO_MOD]?;
+    for (path, text) in sources {
+        files.push(("r", path.as_str(), text.as_str()))?;
+    }
+    let mut tree = SureTree::new(mem_files(alloc, &files)?);
     let mut out = SureSink::new(alloc);
     let status = run(alloc, &words(alloc, &["r"])?, &mut tree, &mut out);
     Ok((status, out))
+}
+
+// That on one file.
+fn checked(alloc: Global, source: &str) -> Result<(Status, SureSink), Fail> {
+    let path = String::from_str(alloc, "a.go")?;
+    let source = String::from_str(alloc, source)?;
+    checked_files(alloc, &vec![in alloc; (path, source)]?)
+}
+
+// A package with the constant A of that value, and 999 packages of which each imports the one before.
+fn chain(alloc: Global, value: &str) -> Result<Vec<(String, String)>, Fail> {
+    let first = format!(in alloc; "package p\n\nconst A = {value}\n")?;
+    let mut sources = vec![in alloc; (String::from_str(alloc, "p0/a.go")?, first)]?;
+    for before in 0..999u32 {
+        let number = before + 1;
+        let text = format!(in alloc; "package p\n\nimport _ \"m/p{before}\"\n")?;
+        sources.push((format!(in alloc; "p{number}/a.go")?, text))?;
+    }
+    Ok(sources)
+}
+
+#[test]
+fn each_of_many_packages_has_its_report(rt: HostRuntime) -> Result<(), Fail> {
+    let alloc = rt.alloc();
+    let mut accepted = String::from_str(
+        alloc,
+        "module\tm\t1.21\npackage\tm/p0\tp\taccepted\n\
+        def\tp0/a.go:3:7\tA\tconst\tuntyped int\t1\n\
+        expr\tp0/a.go:3:11\t3:12\tconst\tuntyped int\t1\n",
+    )?;
+    let mut refused = String::from_str(
+        alloc,
+        "module\tm\t1.21\npackage\tm/p0\tp\trefused\nbroken\tp0/a.go:3:11\tP7\n",
+    )?;
+    for before in 0..999u32 {
+        let number = before + 1;
+        let own = format!(in alloc; "package\tm/p{number}\tp\taccepted\ndef\tp{number}/a.go:3:8\t_\tpackage\tm/p{before}\n")?;
+        accepted.push_str(own.as_str())?;
+        refused.push_str(format!(in alloc; "package\tm/p{number}\tp\tskipped\n")?.as_str())?;
+    }
+    let (status, out) = checked_files(alloc, &chain(alloc, "1")?)?;
+    assert_eq!(rt; status, Status::Accepted);
+    assert!(rt; out.taken() == accepted.as_bytes());
+    let (status, out) = checked_files(alloc, &chain(alloc, "B")?)?;
+    assert_eq!(rt; status, Status::Refused);
+    assert!(rt; out.taken() == refused.as_bytes());
+    Ok(())
 }
 
 #[test]

@@ -22,10 +22,15 @@ use Rattle.go_model.specs.Outcomes.Readings.{awaited_in}
 use Rattle.go_model.specs.declared.headers.Headers.{Headers as HeaderMap}
 use Rattle.go_model.specs.Outcomes.Records.{HeaderData, RecData}
 use Rattle.go_model.specs.Outcomes.Walk.{outcome}
+use Rattle.go_model.specs.Outcomes.Walked.{AreWalked, Outcomes}
 use Rattle.go_model.specs.Values.Waiting.{Chain, Waits, awaited_by, awaited_by_nodes, more, one}
 use Rattle.go_model.proofs.OutcomeLemmas.{outcome_stays}
 use Rattle.go_expr.specs.declared.around.Around.{Around}
 use Rattle.go_expr.proofs.AwaitedLemmas.{awaited_means}
+use Rattle.go_model.proofs.FlatLemmas.{flat_contains, flat_map-same, map-same}
+use Rattle.go_expr.proofs.ReadLemmas.{read_is}
+use Rattle.go_expr.specs.Read as read
+use Rattle.go_expr.specs.Read.{nodes_under}
 use Rattle.go_expr.specs.OwnHeaders.{headers_by}
 use Rattle.go_expr.specs.View.{IsAround, before_by, may_have_by, denotes_by, means_by, places_by}
 use Rattle.go_decl.specs.Waits.{awaited_places, mark_at, marked_by, place_list, waits_of}
@@ -135,7 +140,7 @@ module _ (places : ObjId → Option ℕ) where
       by_cases (inl same) later = Contains-append_left (place_list places k) (flat_map (place_list places) numbers) place (here same)
       by_cases (inr there) later = Contains-append_right (place_list places k) (flat_map (place_list places) numbers) place (later there e)
 
-module _ (around : Around) (own : HeaderMap) (declarations : List Declaration) (is_around : IsAround declarations around) where
+module _ (around : Around) (declarations : List Declaration) (is_around : IsAround declarations around) where
   opened : (d : ObjId) (place : ℕ) → places_by around d ≡ Some place → IsOpen (before_by around) declarations d place
   opened d place e = open_is (before_by around) declarations d place (sym (is_around d) ∙ e)
 
@@ -150,18 +155,20 @@ module _ (around : Around) (own : HeaderMap) (declarations : List Declaration) (
       let one : here.declaration ≡ other.declaration = cc (here.at, other.at) in
       sym here.number ∙ ap number_of one ∙ other.number
 
-  abbrev found : Declaration → List ℕ
-  found = awaited_places (places_by around) (means_by around) (headers_by around own)
-
-  abbrev graph : Graph
-  graph = waits_of (places_by around) (means_by around) (headers_by around own) declarations
-
-  pub waits_graph : IsGraph graph
-  waits_graph a b e =
+  pub waits_graph : (awaited : Declaration → List ℕ) → IsGraph (waits_of (places_by around) awaited declarations)
+  waits_graph awaited a b e =
+      let found : Declaration → List ℕ = awaited_places (places_by around) awaited in
       let at = row_declared found declarations a b e in
-      let is = place_of (places_by around) (awaited_by (means_by around) (headers_by around own) at.0) b at.2 in
+      let is = place_of (places_by around) (awaited at.0) b at.2 in
       let lt = place_within (record { 0 = is.number }) b is.is in
       omega (arith, lt, length-map declarations found)
+
+module _ (around : Around) (own : HeaderMap) (declarations : List Declaration) (is_around : IsAround declarations around) where
+  abbrev found : Declaration → List ℕ
+  found = awaited_places (places_by around) (awaited_by (means_by around) (headers_by around own))
+
+  abbrev graph : Graph
+  graph = waits_of (places_by around) (awaited_by (means_by around) (headers_by around own)) declarations
 
   -- an edge from the place of an object leads to the place of one that it waits for
   record Leads (d : ObjId) (place : ℕ) : Type 0 where
@@ -172,7 +179,7 @@ module _ (around : Around) (own : HeaderMap) (declarations : List Declaration) (
   edge_waits : (d : ObjId) (i j : ℕ) → places_by around d ≡ Some i → HasEdge graph i j → Leads d j
   edge_waits d i j e leads =
       let at = row_declared found declarations i j leads in
-      let here = (opened d i e).placed in
+      let here = (opened around declarations is_around d i e).placed in
       let one : here.declaration ≡ at.0 = cc (here.at, at.1) in
       let is = place_of (places_by around) (awaited_by (means_by around) (headers_by around own) at.0) j at.2 in
       record {
@@ -192,7 +199,7 @@ module _ (around : Around) (own : HeaderMap) (declarations : List Declaration) (
   waits_edge : (d e : ObjId) (i : ℕ) → places_by around d ≡ Some i → Waits (means_by around) declarations (headers_by around own) d.0 e.0 → Reaches i e
   waits_edge d e i at w =
       let there = awaited_has d e w in
-      let here = (opened d i at).placed in
+      let here = (opened around declarations is_around d i at).placed in
       let one : here.declaration ≡ w.declaration = cc (here.declared, w.declared) in
       let row : row_at graph i ≡ found w.declaration = declared_row found declarations i w.declaration (here.at ∙ ap Some one) in
       record {
@@ -242,7 +249,7 @@ module _ (around : Around) (own : HeaderMap) (declarations : List Declaration) (
       to_chain None at e = absurd (let never : false ≡ true = sym (ap (mark_at marks) at) ∙ e in cc)
       to_chain (Some i) at e =
           let back = path_chain (record { 0 = d }) i i at ((exact i).0 (sym (ap (mark_at marks) at) ∙ e)) in
-          let same : back.object.0 ≡ d = ap (λ (k : ObjId). k.0) (one_object back.object (record { 0 = d }) i back.is at) in
+          let same : back.object.0 ≡ d = ap (λ (k : ObjId). k.0) (one_object around declarations is_around back.object (record { 0 = d }) i back.is at) in
           subst (Chain (means_by around) declarations (headers_by around own) d) same back.chain
 
       to_mark : Chain (means_by around) declarations (headers_by around own) d d → marked_by (places_by around) marks d ≡ true
@@ -251,3 +258,15 @@ module _ (around : Around) (own : HeaderMap) (declarations : List Declaration) (
           let back = chain_path (record { 0 = d }) d here.place here.is chain in
           let same : back.place ≡ here.place = (let both : Some back.place ≡ Some here.place = sym back.is ∙ here.is in cc) in
           ap (mark_at marks) here.is ∙ (exact here.place).1 (subst (Path graph here.place) same back.path)
+
+  -- by outcomes that walks left the graph is the same
+  pub read_graph : (outcomes : Outcomes) → AreWalked (means_by around) (headers_by around own) (flat_map nodes_under declarations) outcomes → waits_of (places_by around) (read.awaited_by (read.outcome_read outcomes)) declarations ≡ graph
+  read_graph outcomes walked = map-same (awaited_places (places_by around) (read.awaited_by (read.outcome_read outcomes))) found declarations each
+    where
+      each : (d : Declaration) → Contains declarations d → awaited_places (places_by around) (read.awaited_by (read.outcome_read outcomes)) d ≡ found d
+      each d in_d =
+          ap (flat_map (place_list (places_by around)))
+          (flat_map-same (read.awaited_among (read.outcome_read outcomes)) (awaited_by_nodes (means_by around) (headers_by around own)) (rests_on d)
+          (λ t in_t. flat_map-same (λ node. awaited_in (read.outcome_read outcomes node)) (λ node. awaited_in (outcome (means_by around) (headers_by around own) node)) (nodes_in t)
+          (λ node in_node. ap awaited_in (read_is (means_by around) (headers_by around own) (flat_map nodes_under declarations) outcomes walked node
+          (flat_contains nodes_under declarations d node in_d (flat_contains nodes_in (rests_on d) t node in_t in_node))))))

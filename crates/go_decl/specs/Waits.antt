@@ -4,21 +4,18 @@ use Rattle.std.specs.List.{flat_map}
 use Rattle.go_base.specs.declared.ids.ObjId.{ObjId}
 use Rattle.go_graph.specs.Graph.{Graph, is_marked}
 use Rattle.go_model.specs.Names.Declarations.{Declaration}
-use Rattle.go_model.specs.declared.meaning.Meaning.{Meaning}
-use Rattle.go_model.specs.Outcomes.Walk.{Headers}
-use Rattle.go_model.specs.Values.Waiting.{awaited_by}
 
 -- the place that a number has, if any
 abbrev pub place_list : (ObjId → Option ℕ) → ℕ → List ℕ
 place_list places n = option_to_list (places (record { 0 = n }))
 
--- the places of the declarations for whose headers the parts of one wait
-abbrev pub awaited_places : (ObjId → Option ℕ) → (ℕ → Meaning) → Headers → Declaration → List ℕ
-awaited_places places means headers declaration = flat_map (place_list places) (awaited_by means headers declaration)
+-- by what says for whose headers the parts of a declaration wait: the places of these, and the graph in which each
+-- declaration leads to them
+abbrev pub awaited_places : (ObjId → Option ℕ) → (Declaration → List ℕ) → Declaration → List ℕ
+awaited_places places awaited declaration = flat_map (place_list places) (awaited declaration)
 
--- each declaration leads to these
-abbrev pub waits_of : (ObjId → Option ℕ) → (ℕ → Meaning) → Headers → List Declaration → Graph
-waits_of places means headers declarations = map (awaited_places places means headers) declarations
+abbrev pub waits_of : (ObjId → Option ℕ) → (Declaration → List ℕ) → List Declaration → Graph
+waits_of places awaited declarations = map (awaited_places places awaited) declarations
 
 -- whether the place of a number is marked
 abbrev pub mark_at : List Bool → Option ℕ → Bool

@@ -1,8 +1,9 @@
 //! The headers of declarations.
 //!
 //! `headers` finds those of a package in rounds, which tell each header to rules; `cyclic_declarations` says which
-//! declarations without one wait for themselves; `places_of` where the declarations stand that these speak of. What an
-//! expression comes to is decided in go_expr, which vertices of a graph lie on a cycle in go_graph.
+//! declarations without one wait for themselves, by outcomes that walks left; `places_of` where the declarations stand
+//! that these speak of. What an expression comes to is decided in go_expr, which vertices of a graph lie on a cycle in
+//! go_graph.
 #![tactic(auto)]
 
 mod package_rules;

@@ -6,39 +6,47 @@ ghost use Rattle.go_names.specs.Views.{declarations_view};
 ghost use Rattle.go_expr.specs.declared.around.Around.{Around};
 ghost use Rattle.go_expr.specs.OwnHeaders.{headers_by};
 ghost use Rattle.go_expr.specs.View.{before_by, means_by};
+ghost use Rattle.go_expr.specs.Walker.{outcomes_view};
 
 use crate::rounds::rounds;
 use go_base::NoMemory;
-use go_expr::Around;
-use go_model::{Ask, Finds, Forms, Header, Headers, Judge, Meaning, Rules, Same, Sets};
+use go_expr::{Around, PackageJudge, Walker};
+use go_model::{
+    Ask, ExprWalk, Finds, Forms, Header, Headers, Judge, Meaning, Outcome, Rules, Same, Sets,
+};
 use go_module::ObjId;
 use go_names::Declaration;
-use go_tree::NodeId;
+use go_term::Ty;
+use go_tree::{Node, NodeId};
 use std::alloc::Global;
 
-/// The headers of the declarations that have one, beside those that are known before. An error is want of memory.
-pub fn headers(
+/// The rules of a package behind which all headers are known that its declarations have, beside those that are known
+/// before. An error is want of memory.
+pub fn headers<'a>(
     alloc: Global,
-    around: &Around,
+    around: &'a Around<'a>,
     declarations: &[Declaration],
-) -> Result<Headers, NoMemory>
-    ensures { IfOk result (λ known. (d : ℕ) (h : HeaderData) → (headers_by around.now known d ≡ Some h)
+) -> Result<PackageRules<'a>, NoMemory>
+    ensures around { IfOk result (λ rules. rules.around.now ≡ around.now) }
+    ensures exact { IfOk result (λ rules. (d : ℕ) (h : HeaderData) → (headers_by around.now rules.own d ≡ Some h)
         ↔ Known (before_by around.now) (means_by around.now) (declarations_view declarations.now) d h) }
 {
     let mut rules = PackageRules {
-        around: &*around,
+        around,
         own: Headers::new(alloc),
+        walker: Walker::new(alloc),
     };
     rounds(alloc, &mut rules, declarations)?;
-    let PackageRules { own, .. } = rules;
-    Ok(own)
+    Ok(rules)
 }
 
-/// What identifiers mean in a package, and the headers of its declarations that were told so far.
+/// What identifiers mean in a package, the headers of its declarations that were told so far, and the outcomes of the
+/// nodes that walks reached.
 #[derive(Drop)]
 pub struct PackageRules<'a> {
     pub around: &'a Around<'a>,
     pub own: Headers,
+    pub walker: Walker,
 }
 
 impl Ask for PackageRules<'_> {
@@ -51,10 +59,11 @@ impl Ask for PackageRules<'_> {
     ghost world = { λ rules. rules.around.now };
 
     fn ask(&mut self, d: ObjId) -> Result<Option<Header>, NoMemory> {
-        match self.around.header(&self.own, d) {
-            Some(header) => Ok(Some(header.clone()?)),
-            None => Ok(None),
-        }
+        let mut judge = PackageJudge {
+            around: self.around,
+            known: &self.own,
+        };
+        judge.ask(d)
     }
 }
 
@@ -71,6 +80,27 @@ impl Finds for PackageRules<'_> {}
 impl Sets for PackageRules<'_> {}
 
 impl Judge for PackageRules<'_> {}
+
+impl ExprWalk for PackageRules<'_> {
+    ghost outcomes = { λ rules. outcomes_view rules.walker };
+
+    fn walk(
+        &mut self,
+        alloc: Global,
+        node: &Node,
+        want: Option<Ty>,
+    ) -> Result<Outcome, NoMemory> {
+        let mut judge = PackageJudge {
+            around: self.around,
+            known: &self.own,
+        };
+        self.walker.walk_node(alloc, &mut judge, node, want)
+    }
+
+    fn outcome(&self, id: NodeId) -> Option<&Outcome> {
+        self.walker.outcome(id)
+    }
+}
 
 impl Rules for PackageRules<'_> {
     fn learn(&mut self, d: ObjId, header: &Header) -> Result<(), NoMemory> {

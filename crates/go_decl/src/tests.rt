@@ -1,5 +1,5 @@
 // The headers of two declarations that are made by hand, where memory suffices.
-use crate::{cyclic_declarations, headers, is_cyclic, places_of};
+use crate::{PackageRules, cyclic_declarations, headers, is_cyclic, places_of};
 use go_base::{Bytes, NoMemory, ObjId};
 use go_expr::Around;
 use go_model::{Ask, Header, Headers};
@@ -46,7 +46,8 @@ fn found(alloc: Global, declarations: &[Declaration]) -> Result<Headers, NoMemor
         places: &places,
         before: &before,
     };
-    headers(alloc, &around, declarations)
+    let PackageRules { own, .. } = headers(alloc, &around, declarations)?;
+    Ok(own)
 }
 
 // The type of a constant, and its value where it is an integer.
@@ -115,7 +116,8 @@ fn cyclic(alloc: Global, declarations: &[Declaration]) -> Result<(bool, bool), N
         places: &places,
         before: &before,
     };
-    let marks = cyclic_declarations(alloc, &around, &Headers::new(alloc), declarations)?;
+    let rules = headers(alloc, &around, declarations)?;
+    let marks = cyclic_declarations(alloc, &around, &rules.walker, declarations)?;
     let of_x = is_cyclic(&around, &marks, ObjId(45));
     let of_y = is_cyclic(&around, &marks, ObjId(46));
     Ok((of_x, of_y))

@@ -3,36 +3,42 @@ ghost use Rattle.std.specs.Prelude.{◌≡◌, ◌++◌, ◌↔◌, ℕ, true, I
 ghost use Rattle.std.specs.List.{flat_map};
 ghost use Rattle.go_names.specs.Views.{declaration_view, declarations_view};
 ghost use Rattle.go_tree.specs.Tree.{tree_of};
-ghost use Rattle.go_expr.specs.Evaluated.{evaluated_view, evaluated_views};
+ghost use Rattle.go_model.specs.declared.headers.Headers.{Headers as HeaderMap};
 ghost use Rattle.go_model.specs.Outcomes.Readings.{awaited_in};
-ghost use Rattle.go_model.specs.Values.Waiting.{Chain, awaited_by, awaited_by_nodes};
+ghost use Rattle.go_model.specs.Outcomes.Walked.{AreWalked};
+ghost use Rattle.go_model.specs.Values.Waiting.{Chain};
 ghost use Rattle.go_decl.specs.Waits.{awaited_places, marked_by, place_list, waits_of};
 ghost use Rattle.go_expr.specs.OwnHeaders.{headers_by};
+ghost use Rattle.go_expr.specs.Read.{awaited_among, awaited_by, nodes_under, outcome_read};
 ghost use Rattle.go_expr.specs.View.{IsAround, means_by, places_by};
+ghost use Rattle.go_expr.specs.Walker.{outcomes_view};
 
 use go_base::NoMemory;
-use go_expr::{Around, Evaluated, PackageJudge, evaluate};
+use go_expr::{Around, Walker, nodes_in};
 use go_graph::{Numbers, cyclic_vertices, is_marked};
-use go_model::{Headers, Outcome};
+use go_model::Outcome;
 use go_module::ObjId;
 use go_names::Declaration;
 use go_tree::Node;
 use std::alloc::Global;
 
 /// For each declaration by its place, of several with one number the first, whether it waits for its own header, be it
-/// through others. An error is want of memory.
+/// through others, by the outcomes of its nodes over the headers that are known. An error is want of memory.
 pub fn cyclic_declarations(
     alloc: Global,
     around: &Around,
-    known: &Headers,
+    walker: &Walker,
     declarations: &[Declaration],
 ) -> Result<Vec<bool>, NoMemory>
     requires { IsAround (declarations_view declarations.now) around.now }
     ensures length { IfOk result (λ cyclic. length cyclic.items ≡ length declarations.now) }
-    ensures exact { IfOk result (λ cyclic. (d : ℕ) → (marked_by (places_by around.now) cyclic.items d ≡ true)
-        ↔ Chain (means_by around.now) (declarations_view declarations.now) (headers_by around.now known.now) d d) }
+    ensures exact { IfOk result (λ cyclic. (own : HeaderMap)
+        → AreWalked (means_by around.now) (headers_by around.now own)
+        (flat_map nodes_under (declarations_view declarations.now)) (outcomes_view walker.now)
+        → (d : ℕ) → (marked_by (places_by around.now) cyclic.items d ≡ true)
+        ↔ Chain (means_by around.now) (declarations_view declarations.now) (headers_by around.now own) d d) }
 {
-    let waits = waits_of(alloc, around, known, declarations)?;
+    let waits = waits_of(alloc, around, walker, declarations)?;
     cyclic_vertices(alloc, &waits)
 }
 
@@ -50,15 +56,15 @@ pub fn is_cyclic(around: &Around, cyclic: &[bool], d: ObjId) -> bool
 fn waits_of(
     alloc: Global,
     around: &Around,
-    known: &Headers,
+    walker: &Walker,
     declarations: &[Declaration],
 ) -> Result<Vec<Numbers>, NoMemory>
-    ensures { IfOk result (λ waits. waits.items ≡ waits_of (places_by around.now) (means_by around.now)
-        (headers_by around.now known.now) (declarations_view declarations.now)) }
+    ensures { IfOk result (λ waits. waits.items ≡ waits_of (places_by around.now)
+        (awaited_by (outcome_read (outcomes_view walker.now))) (declarations_view declarations.now)) }
 {
     let mut waits = Vec::new(alloc);
     for declaration in declarations {
-        waits.push(awaited_places(alloc, around, known, declaration)?)?;
+        waits.push(awaited_places(alloc, around, walker, declaration)?)?;
     }
     Ok(waits)
 }
@@ -67,13 +73,13 @@ fn waits_of(
 fn awaited_places(
     alloc: Global,
     around: &Around,
-    known: &Headers,
+    walker: &Walker,
     declaration: &Declaration,
 ) -> Result<Numbers, NoMemory>
-    ensures { IfOk result (λ places. places ≡ awaited_places (places_by around.now) (means_by around.now)
-        (headers_by around.now known.now) (declaration_view declaration.now)) }
+    ensures { IfOk result (λ places. places ≡ awaited_places (places_by around.now)
+        (awaited_by (outcome_read (outcomes_view walker.now))) (declaration_view declaration.now)) }
 {
-    let numbers = awaited_by(alloc, around, known, declaration)?;
+    let numbers = awaited_by(alloc, walker, declaration)?;
     places_in(alloc, around, numbers.as_slice())
 }
 
@@ -101,33 +107,30 @@ fn push_place(around: &Around, d: ObjId, places: &mut Numbers) -> Result<(), NoM
 // The numbers of the declarations for whose headers the nodes of the parts of one wait.
 fn awaited_by(
     alloc: Global,
-    around: &Around,
-    known: &Headers,
+    walker: &Walker,
     declaration: &Declaration,
 ) -> Result<Numbers, NoMemory>
     ensures { IfOk result (λ numbers. numbers
-        ≡ awaited_by (means_by around.now) (headers_by around.now known.now) (declaration_view declaration.now)) }
+        ≡ awaited_by (outcome_read (outcomes_view walker.now)) (declaration_view declaration.now)) }
 {
     let mut numbers = Numbers::new(alloc);
-    push_awaited(alloc, around, known, declaration.types, &mut numbers)?;
-    push_awaited(alloc, around, known, declaration.values, &mut numbers)?;
+    push_awaited(alloc, walker, declaration.types, &mut numbers)?;
+    push_awaited(alloc, walker, declaration.values, &mut numbers)?;
     Ok(numbers)
 }
 
 // Pushes the numbers of the declarations for whose headers the nodes of these expressions wait.
 fn push_awaited(
     alloc: Global,
-    around: &Around,
-    known: &Headers,
+    walker: &Walker,
     nodes: &[Node],
     numbers: &mut Numbers,
 ) -> Result<(), NoMemory>
     ensures { OnOk result (numbers.new ≡ numbers.old
-        ++ flat_map (awaited_by_nodes (means_by around.now) (headers_by around.now known.now))
-        (map tree_of nodes.now)) }
+        ++ flat_map (awaited_among (outcome_read (outcomes_view walker.now))) (map tree_of nodes.now)) }
 {
     for node in nodes {
-        push_awaited_in(alloc, around, known, node, numbers)?;
+        push_awaited_in(alloc, walker, node, numbers)?;
     }
     Ok(())
 }
@@ -135,41 +138,29 @@ fn push_awaited(
 // Pushes the numbers of the declarations for whose headers the nodes of this expression wait.
 fn push_awaited_in(
     alloc: Global,
-    around: &Around,
-    known: &Headers,
+    walker: &Walker,
     node: &Node,
     numbers: &mut Numbers,
 ) -> Result<(), NoMemory>
-    ensures { OnOk result (numbers.new
-        ≡ numbers.old ++ awaited_by_nodes (means_by around.now) (headers_by around.now known.now) (tree_of node.now)) }
-{
-    let mut judge = PackageJudge {
-        around: &*around,
-        known: &*known,
-    };
-    let list = evaluate(alloc, &mut judge, node)?;
-    push_each(&list, numbers)?;
-    Ok(())
-}
-
-// Pushes the numbers of the declarations for whose headers these nodes wait.
-fn push_each(list: &[Evaluated], numbers: &mut Numbers) -> Result<(), NoMemory>
     ensures { OnOk result (numbers.new ≡ numbers.old
-        ++ flat_map (λ e. awaited_in e.outcome) (evaluated_views list.now)) }
+        ++ awaited_among (outcome_read (outcomes_view walker.now)) (tree_of node.now)) }
 {
-    for node in list {
-        push_one(node, numbers)?;
+    let nodes = nodes_in(alloc, node)?;
+    for inner in &nodes {
+        push_one(walker, inner, numbers)?;
     }
     Ok(())
 }
 
-fn push_one(node: &Evaluated, numbers: &mut Numbers) -> Result<(), NoMemory>
-    ensures { OnOk result (numbers.new ≡ numbers.old ++ awaited_in (evaluated_view node.now).outcome) }
+fn push_one(walker: &Walker, node: &Node, numbers: &mut Numbers) -> Result<(), NoMemory>
+    ensures { OnOk result (numbers.new
+        ≡ numbers.old ++ awaited_in (outcome_read (outcomes_view walker.now) (tree_of node.now))) }
 {
-    match &node.outcome {
-        Outcome::Waits(d) => numbers.push(d.0),
-        Outcome::Found(_) => Ok(()),
-        Outcome::Broken(_, _) => Ok(()),
-        Outcome::Nothing => Ok(()),
+    match walker.outcome(node.id()) {
+        Some(Outcome::Waits(d)) => numbers.push(d.0),
+        Some(Outcome::Found(_)) => Ok(()),
+        Some(Outcome::Broken(_, _)) => Ok(()),
+        Some(Outcome::Nothing) => Ok(()),
+        None => Ok(()),
     }
 }

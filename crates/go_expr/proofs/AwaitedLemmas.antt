@@ -23,8 +23,7 @@ use Rattle.go_model.specs.Outcomes.Operands.{at_whole}
 use Rattle.go_model.specs.Outcomes.Records.{HeaderData, RecData, integer_in, integer_record, named_record}
 use Rattle.go_model.specs.Outcomes.Walk.{Headers, outcome}
 use Rattle.go_model.specs.Values.Quests.{Asked, Decided, Done, Lacks}
-use Rattle.go_expr.specs.Outcomes.{outcome_by_operands}
-use Rattle.go_expr.proofs.NodeOutcomeLemmas.{by_operands_is}
+use Rattle.go_expr.proofs.NodeOutcomeLemmas.{by_operands_is, outcome_by_operands}
 
 -- a test that is decided never waits
 never_waits : (headers : Headers) (own : Rule) (x : RecData) (b : Bool) (d : ℕ) → tested headers (at_whole own (Done b) ∷ []) (Done x) ≡ Waits d → ⊥

@@ -1,4 +1,5 @@
 pub mod AwaitedLemmas
-pub mod EvaluatedLemmas
 pub mod NodeOutcomeLemmas
+pub mod ReadLemmas
 pub mod ResultLemmas
+pub mod WalkerLemmas

@@ -14,12 +14,21 @@ use Rattle.go_model.specs.Outcomes.Constructs.Name.{name}
 use Rattle.go_model.specs.Outcomes.Constructs.Parentheses.{parentheses}
 use Rattle.go_model.specs.Outcomes.Constructs.Selector.{selector}
 use Rattle.go_model.specs.Outcomes.Constructs.Sum.{sum}
-use Rattle.go_model.specs.Outcomes.Judged.{Found, OutcomeData, judged, tested}
+use Rattle.go_model.specs.Outcomes.Judged.{Found, Nothing, OutcomeData, judged, tested}
 use Rattle.go_model.specs.Outcomes.Operands.{at_whole}
 use Rattle.go_model.specs.Outcomes.Records.{RecData, integer_record}
 use Rattle.go_model.specs.Outcomes.Walk.{Headers, outcome, outcomes}
 use Rattle.go_model.specs.Values.Quests.{Done}
-use Rattle.go_expr.specs.Outcomes.{both_of, limited_view, only_of, outcome_by_operands, outcome_by_parts, selector_by_parts}
+use Rattle.go_expr.specs.Outcomes.{both_of, limited_view, only_of, outcome_by_parts, selector_by_parts}
+
+-- from the outcomes of its operands
+abbrev pub outcome_by_operands : (ℕ → Meaning) → Headers → Tree → OutcomeData RecData
+outcome_by_operands means headers (branch id from to IntLit text parts) = judged headers (literal text) []
+outcome_by_operands means headers (branch id from to Name text parts) = judged headers (name (means id)) []
+outcome_by_operands means headers (branch id from to SelectorExpr text (more_trees x (more_trees f no_trees))) = judged headers (selector (means (id_of f))) (outcome_by_operands means headers x ∷ [])
+outcome_by_operands means headers (branch id from to ParenExpr text (more_trees x no_trees)) = judged headers parentheses (outcome_by_operands means headers x ∷ [])
+outcome_by_operands means headers (branch id from to AddExpr text (more_trees x (more_trees y no_trees))) = judged headers sum (outcome_by_operands means headers x ∷ (outcome_by_operands means headers y ∷ []))
+outcome_by_operands means headers t = Nothing
 
 cond_some : (b : Bool) (x y : ℤ) → cond b (Some x) None ≡ Some y → x ≡ y
 cond_some true x y e = cc
@@ -106,17 +115,8 @@ both_of-map f (a ∷ (b ∷ (c ∷ cs))) x y e = cc
 
 -- nodes of a kind
 module _ (means : ℕ → Meaning) (headers : Headers) where
-  pub at_literal : (t : Tree) → kind_of t ≡ IntLit → outcome_by_operands means headers t ≡ judged headers (literal (text_of t)) []
-  at_literal (branch id from to kind text parts) e = ap (λ k. outcome_by_operands means headers (branch id from to k text parts)) e
-
   pub at_literal_by_parts : (t : Tree) (xs : List (OutcomeData RecData)) → kind_of t ≡ IntLit → outcome_by_parts means headers t xs ≡ judged headers (literal (text_of t)) []
   at_literal_by_parts (branch id from to kind text parts) xs e = ap (λ k. outcome_by_parts means headers (branch id from to k text parts) xs) e
-
-  pub at_parentheses : (t a : Tree) → kind_of t ≡ ParenExpr → parts_of t ≡ more_trees a no_trees → outcome_by_operands means headers t ≡ judged headers parentheses (outcome_by_operands means headers a ∷ [])
-  at_parentheses (branch id from to kind text parts) a e is = (λ i. outcome_by_operands means headers (branch id from to (e i) text (is i)))
-
-  pub at_sum : (t a b : Tree) → kind_of t ≡ AddExpr → parts_of t ≡ more_trees a (more_trees b no_trees) → outcome_by_operands means headers t ≡ judged headers sum (outcome_by_operands means headers a ∷ (outcome_by_operands means headers b ∷ []))
-  at_sum (branch id from to kind text parts) a b e is = (λ i. outcome_by_operands means headers (branch id from to (e i) text (is i)))
 
   pub at_selector_by_parts : (t a b : Tree) (xs : List (OutcomeData RecData)) → kind_of t ≡ SelectorExpr → parts_of t ≡ more_trees a (more_trees b no_trees) → outcome_by_parts means headers t xs ≡ selector_by_parts headers (means (id_of b)) xs
   at_selector_by_parts (branch id from to kind text parts) a b xs e is = (λ i. outcome_by_parts means headers (branch id from to (e i) text (is i)) xs)

@@ -2,5 +2,6 @@
 pub mod Places
 pub mod View
 pub mod OwnHeaders
-pub mod Evaluated
 pub mod Outcomes
+pub mod Walker
+pub mod Read

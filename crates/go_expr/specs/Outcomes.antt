@@ -1,5 +1,5 @@
--- The outcome of a node as the code finds it: from those of its operands, or from those of its inner parts.
--- Says what the values of the program stand for. That both ways lead to the outcome of the node: `NodeOutcomeLemmas`.
+-- The outcome of a node as the code finds it: from those of its inner parts. That it is the outcome of the node:
+-- `NodeOutcomeLemmas`.
 use Rattle.std.specs.Prelude.{ℕ, ℤ, Option, Some, None, List, [], ◌∷◌}
 use Rattle.std.specs.Option.{option_map_or}
 use Rattle.go_tree.specs.declared.node_kind.NodeKind.TheVariants.{AddExpr, IntLit, Name, ParenExpr, SelectorExpr}
@@ -21,15 +21,6 @@ use Rattle.go_model.specs.Outcomes.Walk.{Headers}
 abbrev pub limited_view : Option ℤ → OutcomeData RecData
 limited_view (Some v) = outcomes.Found (integer_record v)
 limited_view None = outcomes.Broken wide_integer (Whole ∷ [])
-
--- from the outcomes of its operands
-abbrev pub outcome_by_operands : (ℕ → Meaning) → Headers → Tree → OutcomeData RecData
-outcome_by_operands means headers (branch id from to IntLit text parts) = judged headers (literal text) []
-outcome_by_operands means headers (branch id from to Name text parts) = judged headers (name (means id)) []
-outcome_by_operands means headers (branch id from to SelectorExpr text (more_trees x (more_trees f no_trees))) = judged headers (selector (means (id_of f))) (outcome_by_operands means headers x ∷ [])
-outcome_by_operands means headers (branch id from to ParenExpr text (more_trees x no_trees)) = judged headers parentheses (outcome_by_operands means headers x ∷ [])
-outcome_by_operands means headers (branch id from to AddExpr text (more_trees x (more_trees y no_trees))) = judged headers sum (outcome_by_operands means headers x ∷ (outcome_by_operands means headers y ∷ []))
-outcome_by_operands means headers t = outcomes.Nothing
 
 -- the only item of a list of one; the two of a list of two
 abbrev pub only_of : {X : Type 0} → List X → Option X

@@ -1,9 +1,10 @@
 //! What expressions come to over the headers that are known.
 //!
-//! `outcome` gives the outcome of an expression, from which `record` and `header_over` read its record and the header
-//! of a declaration; `evaluate` gives each node of an expression or a type with its outcome. Each construct has a file
-//! of its own. They ask a judge for headers and meanings; `PackageJudge` is one over the headers of a package so far, `Around` says
-//! what identifiers mean there. How headers are found is left to go_decl, which rules are told where to go_check.
+//! A `Walker` walks over expressions and types and keeps the outcome of each node, by the node's number: a judge answers
+//! which headers are known and what identifiers mean, and each construct has a file of its own. `header_over` reads the
+//! header of a declaration off a walk, `header_by` off outcomes that are kept; `nodes_in` lists the nodes. `PackageJudge`
+//! is a judge over the headers of a package so far, `Around` says what identifiers mean there. How headers are found is
+//! left to go_decl, which rules are told where to go_check.
 #![tactic(auto)]
 
 mod rules;
@@ -20,11 +21,13 @@ mod parentheses;
 mod selector;
 mod sum;
 
-// Walks over expressions.
-mod evaluated;
-mod outcomes;
+// Walks over expressions, and what is read off them.
+mod headers;
+mod nodes;
+mod walker;
 
 pub use around::Around;
-pub use evaluated::{Evaluated, evaluate};
-pub use outcomes::{header_over, outcome, record};
+pub use headers::{header_by, header_over};
+pub use nodes::nodes_in;
 pub use package_judge::PackageJudge;
+pub use walker::Walker;

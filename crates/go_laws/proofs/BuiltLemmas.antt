@@ -15,8 +15,9 @@ use Rattle.go_model.specs.Outcomes.Operands.{none_asks, one_asks, two_integers_a
 use Rattle.go_model.specs.Outcomes.Records.{HeaderData, RecData, integer_in}
 use Rattle.go_laws.specs.BuiltTrees.{IsBuilt, IsIdentifier, identifier, integer, name, parentheses, selector, sum}
 use Rattle.go_laws.specs.Complete.{asked_in, asked_in_each}
+use Rattle.go_model.proofs.FlatLemmas.{only_is}
 use Rattle.go_laws.proofs.Asked.{AreIntegers, IsAsked}
-use Rattle.go_laws.proofs.ListLemmas.{in_front, only_is}
+use Rattle.go_laws.proofs.ListLemmas.{in_front}
 use Rattle.go_laws.proofs.OccursLemmas.{name_alone, selector_cases}
 
 -- WITH AS MANY RECORDS AS OPERANDS, EACH OF AN INTEGER

@@ -24,7 +24,8 @@ use Rattle.go_laws.specs.BuiltTrees.{IsBuilt, ValuesAreBuilt}
 use Rattle.go_laws.specs.Complete.{values_in}
 use Rattle.go_laws.proofs.BuiltTreeLemmas.{Sound, file_built, form_sound}
 use Rattle.go_laws.proofs.FileLemmas.{file_of_spec}
-use Rattle.go_laws.proofs.ListLemmas.{flat_cases, found_from, left_is_empty, map_is_empty, right_is_empty}
+use Rattle.go_model.proofs.FlatLemmas.{flat_cases}
+use Rattle.go_laws.proofs.ListLemmas.{found_from, left_is_empty, map_is_empty, right_is_empty}
 use Rattle.go_laws.proofs.WholeShapeLemmas.{file_kind, file_shaped}
 
 -- A TEXT THAT BREAKS NO RULE

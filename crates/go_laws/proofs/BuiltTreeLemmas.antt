@@ -19,7 +19,8 @@ use Rattle.go_form.specs.Rules as rule
 use Rattle.go_form.specs.Unbuilt.{unbuilt_among, unbuilt_in}
 use Rattle.go_form.specs.Whole.{broken_forms, written, written_among}
 use Rattle.go_laws.specs.BuiltTrees.{IsBuilt, IsIdentifier, identifier, integer, name, parentheses, selector, sum}
-use Rattle.go_laws.proofs.ListLemmas.{flat_cases, left_is_empty, map_cases, map_is_empty, none_of_each, right_is_empty}
+use Rattle.go_model.proofs.FlatLemmas.{flat_cases, map_cases}
+use Rattle.go_laws.proofs.ListLemmas.{left_is_empty, map_is_empty, none_of_each, right_is_empty}
 use Rattle.go_laws.proofs.TreeShapes.{AllShaped, Is, Named, Operand, Shaped, Spec, is_of, kinds_in}
 use Rattle.go_laws.proofs.WholeShapeLemmas.{spec_kind}
 

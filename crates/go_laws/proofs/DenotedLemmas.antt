@@ -22,7 +22,8 @@ use Rattle.go_model.specs.Outcomes.Walk.{Headers}
 use Rattle.go_model.specs.Values.Declared.{declared_as}
 use Rattle.go_model.specs.Values.Meaning.{may_have_header}
 use Rattle.go_laws.proofs.Denoting.{ImportsHaveHeaders}
-use Rattle.go_laws.proofs.ListLemmas.{flat_cases, found_from, map_cases}
+use Rattle.go_model.proofs.FlatLemmas.{flat_cases, map_cases}
+use Rattle.go_laws.proofs.ListLemmas.{found_from}
 use Rattle.go_laws.proofs.PickedLemmas.{picked_contains, picked_filter}
 
 -- each declaration has one that its number names

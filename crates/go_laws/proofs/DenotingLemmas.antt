@@ -41,7 +41,8 @@ use Rattle.go_laws.specs.NodeNumbers.{numbers_in_files}
 use Rattle.go_laws.proofs.DenotedLemmas.{HasHeader, IsImported, block_may_have, block_no_package, file_imported, imported_known, universal}
 use Rattle.go_laws.proofs.Denoting.{ImportsHaveHeaders}
 use Rattle.go_laws.proofs.FileLemmas.{AtFile, at_file, spec_file}
-use Rattle.go_laws.proofs.ListLemmas.{flat_cases, flat_contains, left_is_empty, map_is_empty, none_of_each, not_told, right_is_empty}
+use Rattle.go_model.proofs.FlatLemmas.{flat_cases, flat_contains}
+use Rattle.go_laws.proofs.ListLemmas.{left_is_empty, map_is_empty, none_of_each, not_told, right_is_empty}
 use Rattle.go_laws.proofs.OccursLemmas.{Occurs, asked_occurs}
 use Rattle.go_laws.proofs.ResolvedLemmas.{Denotes, Stands, held_denotes}
 use Rattle.go_laws.proofs.UseLemmas.{use_found}

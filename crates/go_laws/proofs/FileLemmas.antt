@@ -15,7 +15,8 @@ use Rattle.go_module.specs.Names.Occurrences.{occurrences_in_file}
 use Rattle.go_module.specs.Names.Rules.BrokenNames.{broken_file, broken_files}
 use Rattle.go_module.specs.Names.Tables.{occurrences_from}
 use Rattle.go_module.proofs.MemberLemmas.{cons_cases, contains_head, contains_none, contains_tail}
-use Rattle.go_laws.proofs.ListLemmas.{flat_cases, left_is_empty, map_cases, right_is_empty}
+use Rattle.go_model.proofs.FlatLemmas.{flat_cases, map_cases}
+use Rattle.go_laws.proofs.ListLemmas.{left_is_empty, right_is_empty}
 
 -- the specs of a declaration are its parts
 pub spec_is : (file : ℕ) (declaration : Tree) (spec : Spec) → Contains (specs_in file declaration) spec → (node : Tree) × Contains (list_of (parts_of declaration)) node × (const_spec file node ≡ spec)

@@ -34,8 +34,7 @@ use Rattle.go_model.specs.Values.Headers.{Justified, Known, headers_of}
 use Rattle.go_model.specs.Values.Quests.{Asked, Decided, Done, Lacks}
 use Rattle.go_model.specs.Values.Records.{bound_value, record_of}
 use Rattle.go_model.proofs.HeaderLemmas.{headers_of-here, headers_of-there}
-use Rattle.go_expr.specs.Outcomes.{outcome_by_operands}
-use Rattle.go_expr.proofs.NodeOutcomeLemmas.{by_operands_is}
+use Rattle.go_expr.proofs.NodeOutcomeLemmas.{by_operands_is, outcome_by_operands}
 
 -- the header of an untyped integer constant
 abbrev pub IsInteger : HeaderData → Type 0

@@ -4,16 +4,10 @@ use Rattle.std.specs.List.{cons_option, filter_map, flat_map}
 use Rattle.std.proofs.lemmas.List.Elements.{Contains-append_cases, Contains-append_left, Contains-append_right}
 use Rattle.go_base.specs.declared.rule.Broken.{Broken}
 use Rattle.go_module.specs.Broken.{told_if}
+use Rattle.go_model.proofs.FlatLemmas.{flat_contains}
 use Rattle.go_module.proofs.MemberLemmas.{cons_cases, contains_head, contains_none, contains_tail}
 
 -- WHAT STANDS IN A LIST
-
-pub only_is : {X : Type 0} (x y : X) → Contains (x ∷ []) y → x ≡ y
-only_is x y h = by_cases (cons_cases x [] y h)
-  where
-    by_cases : (x ≡ y) ⊎ Contains [] y → x ≡ y
-    by_cases (inl same) = same
-    by_cases (inr none) = absurd (contains_none y none)
 
 pub in_front : {X : Type 0} (xs : List X) (y : X) → Contains (xs ++ []) y → Contains xs y
 in_front xs y h = by_cases (Contains-append_cases xs [] y h)
@@ -23,30 +17,6 @@ in_front xs y h = by_cases (Contains-append_cases xs [] y h)
     by_cases (inr none) = absurd (contains_none y none)
 
 -- what stands in a list that is made of several, or of another
-pub flat_cases : {X Y : Type 0} (f : X → List Y) (xs : List X) (y : Y) → Contains (flat_map f xs) y → (x : X) × Contains xs x × Contains (f x) y
-flat_cases {X = X} f [] y h = absurd (contains_none y h)
-flat_cases {X = X} f (x ∷ xs) y h = by_either (Contains-append_cases (f x) (flat_map f xs) y h) (flat_cases f xs y)
-  where
-    by_either : Contains (f x) y ⊎ Contains (flat_map f xs) y → (Contains (flat_map f xs) y → (z : X) × Contains xs z × Contains (f z) y) → (z : X) × Contains (x ∷ xs) z × Contains (f z) y
-    by_either (inl here) later = (x, contains_head x xs x refl, here)
-    by_either (inr there) later = let found = later there in (found.0, contains_tail x xs found.0 found.1, found.2)
-
-pub flat_contains : {X Y : Type 0} (f : X → List Y) (xs : List X) (x : X) (y : Y) → Contains xs x → Contains (f x) y → Contains (flat_map f xs) y
-flat_contains f [] x y h i = absurd (contains_none x h)
-flat_contains f (z ∷ xs) x y h i = by_cases (cons_cases z xs x h) (flat_contains f xs x y)
-  where
-    by_cases : (z ≡ x) ⊎ Contains xs x → (Contains xs x → Contains (f x) y → Contains (flat_map f xs) y) → Contains (flat_map f (z ∷ xs)) y
-    by_cases (inl same) later = Contains-append_left (f z) (flat_map f xs) y (subst (λ w. Contains (f w) y) (sym same) i)
-    by_cases (inr there) later = Contains-append_right (f z) (flat_map f xs) y (later there i)
-
-pub map_cases : {X Y : Type 0} (f : X → Y) (xs : List X) (y : Y) → Contains (map f xs) y → (x : X) × Contains xs x × (f x ≡ y)
-map_cases {X = X} f [] y h = absurd (contains_none y h)
-map_cases {X = X} f (x ∷ xs) y h = by_cases (cons_cases (f x) (map f xs) y h) (map_cases f xs y)
-  where
-    by_cases : (f x ≡ y) ⊎ Contains (map f xs) y → (Contains (map f xs) y → (z : X) × Contains xs z × (f z ≡ y)) → (z : X) × Contains (x ∷ xs) z × (f z ≡ y)
-    by_cases (inl here) later = (x, contains_head x xs x refl, here)
-    by_cases (inr there) later = let found = later there in (found.0, contains_tail x xs found.0 found.1, found.2)
-
 pub map_contains : {X Y : Type 0} (f : X → Y) (xs : List X) (x : X) → Contains xs x → Contains (map f xs) (f x)
 map_contains f [] x h = absurd (contains_none x h)
 map_contains f (z ∷ xs) x h = by_cases (cons_cases z xs x h) (map_contains f xs x)

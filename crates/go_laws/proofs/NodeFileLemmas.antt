@@ -1,18 +1,20 @@
 -- Each node of an expression of a package is a node of the file in which the expression stands.
 use Rattle.std.proofs.Common.{◌≡◌, ℕ, List, [], ◌∷◌, ◌++◌, ◌⊎◌, inl, inr, Contains, refl, sym, subst, ⊎_elim}
-use Rattle.std.proofs.lemmas.List.Elements.{Contains-append_left, Contains-append_right, Contains-push}
+use Rattle.std.proofs.lemmas.List.Elements.{Contains-append_cases, Contains-append_left, Contains-append_right, Contains-push}
 use Rattle.go_tree.specs.declared.node_kind.NodeKind.TheVariants.{ConstCopy}
 use Rattle.go_tree.specs.Tree.{Tree, Trees, branch, list_of, more_trees, no_trees, parts_of}
-use Rattle.go_module.specs.Modules.Module.{FileData, PackageData}
-use Rattle.go_module.specs.Names.Declarations.{Spec, behind_names, const_spec, specs_in, specs_in_file, specs_of, values_behind}
+use Rattle.go_module.specs.Modules.Module.{FileData, ModuleData, PackageData}
+use Rattle.go_module.specs.Names.Declarations.{Spec, behind_names, const_spec, specs_in, specs_in_file, specs_of, types_behind, values_behind}
 use Rattle.go_module.specs.Names.Inner.{inner_by, inner_of}
-use Rattle.go_module.specs.Names.Occurrences.{found_in, nodes_in, nodes_of_each}
+use Rattle.go_module.specs.Names.Occurrences.{found_in, nodes_in, nodes_in_parts, nodes_of_each}
+use Rattle.go_model.specs.Outcomes.Walked.{NodesAreNumbered, nodes_of}
 use Rattle.go_module.specs.NodeParts.{all_but_first}
 use Rattle.go_module.proofs.MemberLemmas.{cons_cases, contains_head, contains_none, contains_tail}
 use Rattle.go_laws.specs.Complete.{values_in}
-use Rattle.go_laws.specs.NodeNumbers.{nodes_by_end, nodes_by_end_among}
+use Rattle.go_laws.specs.NodeNumbers.{NodeNumbersAscend, nodes_by_end, nodes_by_end_among}
 use Rattle.go_laws.proofs.FileLemmas.{file_of_spec, spec_is}
-use Rattle.go_laws.proofs.ListLemmas.{flat_cases}
+use Rattle.go_model.proofs.FlatLemmas.{flat_cases, only_is}
+use Rattle.go_laws.proofs.NodeNumberLemmas.{one_node}
 use Rattle.go_laws.proofs.PickedLemmas.{picked_contains, picked_inner}
 
 pub self_by_end : (t : Tree) → Contains (nodes_by_end t) t
@@ -55,7 +57,7 @@ mutual
       (λ (there : Contains (nodes_of_each ts) part). Contains-append_right (nodes_by_end t) (nodes_by_end_among ts) s (inside_each ts part there s i))
       (cons_cases (t, nodes_in t) (nodes_of_each ts) part h)
 
--- the expressions of a spec are under it
+-- the type and the expressions of a spec are under it
 module _ (top : Tree) where
   abbrev AllUnder : List Tree → Type 0
   AllUnder xs = (x : Tree) → Contains xs x → IsUnder top x
@@ -73,22 +75,32 @@ module _ (top : Tree) where
   values_under (t ∷ (l ∷ [])) under x h = part_under top l x (under l (contains_tail t (l ∷ []) l (contains_head l [] l refl))) h
   values_under (t ∷ (l ∷ (u ∷ us))) under x h = absurd (contains_none x h)
 
+  types_under : (xs : List Tree) → AllUnder xs → AllUnder (types_behind xs)
+  types_under [] under x h = absurd (contains_none x h)
+  types_under (l ∷ []) under x h = absurd (contains_none x h)
+  types_under (t ∷ (l ∷ [])) under x h = under x (subst (λ (u : Tree). Contains (t ∷ (l ∷ [])) u) (only_is t x h) (contains_head t (l ∷ []) t refl))
+  types_under (t ∷ (l ∷ (u ∷ us))) under x h = absurd (contains_none x h)
+
 rest_there : (ts : Trees) (x : Tree) → Contains (all_but_first ts) x → Contains (list_of ts) x
 rest_there no_trees x h = h
 rest_there (more_trees t ts) x h = contains_tail t (list_of ts) x h
 
-spec_under : (top spec : Tree) → IsUnder top spec → (file : ℕ) (t : Tree) → Contains (const_spec file spec).values t → IsUnder top t
+spec_under : (top spec : Tree) → IsUnder top spec → (file : ℕ) (t : Tree) → Contains ((const_spec file spec).types ++ (const_spec file spec).values) t → IsUnder top t
 spec_under top spec under file t h =
-    values_under top (behind_names (all_but_first (parts_of spec)))
-    (behind_under top (all_but_first (parts_of spec)) (λ x there. part_under top spec x under (rest_there (parts_of spec) x there))) t h
+    let behind = all_but_first (parts_of spec) in
+    let all = behind_under top behind (λ x there. part_under top spec x under (rest_there (parts_of spec) x there)) in
+    ⊎_elim
+    (λ (type : Contains (types_behind (behind_names behind)) t). types_under top (behind_names behind) all t type)
+    (λ (value : Contains (values_behind (behind_names behind)) t). values_under top (behind_names behind) all t value)
+    (Contains-append_cases (types_behind (behind_names behind)) (values_behind (behind_names behind)) t h)
 
--- the expressions of a spec of a file are under its tree
-in_file : (file : ℕ) (tree : Tree) (spec : Spec) → Contains (specs_in_file file tree) spec → (t : Tree) → Contains spec.values t → IsUnder tree t
-in_file file tree spec h t value =
+-- the type and the expressions of a spec of a file are under its tree
+in_file : (file : ℕ) (tree : Tree) (spec : Spec) → Contains (specs_in_file file tree) spec → (t : Tree) → Contains (spec.types ++ spec.values) t → IsUnder tree t
+in_file file tree spec h t part =
     let declaration = flat_cases (specs_in file) (list_of (parts_of tree)) spec h in
     let node = spec_is file declaration.0 spec declaration.2 in
     let under = part_under tree declaration.0 node.0 (part_under tree tree declaration.0 (λ s i. i) declaration.1) node.1 in
-    spec_under tree node.0 under file t (subst (λ (x : Spec). Contains x.values t) (sym node.2) value)
+    spec_under tree node.0 under file t (subst (λ (x : Spec). Contains (x.types ++ x.values) t) (sym node.2) part)
 
 -- the file of an expression of a package
 pub record IsInFile (files : List FileData) (t : Tree) : Type 0 where
@@ -96,12 +108,31 @@ pub record IsInFile (files : List FileData) (t : Tree) : Type 0 where
   pub among : Contains files file
   pub under : IsUnder file.tree t
 
+pub file_of_part : (p : PackageData) (spec : Spec) → Contains (specs_of p) spec → (t : Tree) → Contains (spec.types ++ spec.values) t → IsInFile p.files t
+file_of_part p spec h t part =
+    let from = file_of_spec 0 p.files spec h in
+    record { file = from.1; among = from.2; under = in_file from.0 from.1.tree spec from.3 t part }
+
 pub file_of_value : (p : PackageData) (t : Tree) → Contains (values_in p) t → IsInFile p.files t
 file_of_value p t h =
     let spec = flat_cases (λ (spec : Spec). spec.values) (specs_of p) t h in
-    let from = file_of_spec 0 p.files spec.0 spec.1 in
-    record { file = from.1; among = from.2; under = in_file from.0 from.1.tree spec.0 from.3 t spec.2 }
+    file_of_part p spec.0 spec.1 t (Contains-append_right spec.0.types spec.0.values t spec.2)
 
 -- each node of an expression of a package is a node of one of its files
 pub nodes_are_there : (p : PackageData) (t : Tree) → Contains (values_in p) t → (s : Tree) → Contains (nodes_in t) s → (f : FileData) × Contains p.files f × Contains (nodes_by_end f.tree) s
 nodes_are_there p t h s i = let there = file_of_value p t h in (there.file, there.among, there.under s (inside t s i))
+
+-- so is each node of a type or an expression
+node_there : (p : PackageData) (s : Tree) → Contains (nodes_of p) s → (f : FileData) × Contains p.files f × Contains (nodes_by_end f.tree) s
+node_there p s h =
+    let spec = flat_cases nodes_in_parts (specs_of p) s h in
+    let part = flat_cases nodes_in (spec.0.types ++ spec.0.values) s spec.2 in
+    let there = file_of_part p spec.0 spec.1 part.0 part.1 in
+    (there.file, there.among, there.under s (inside part.0 s part.2))
+
+-- and no two of these have one number
+pub nodes_are_numbered : (m : ModuleData) → NodeNumbersAscend m → NodesAreNumbered m
+nodes_are_numbered m up k p at s t in_s in_t same =
+    let one = node_there p s in_s in
+    let other = node_there p t in_t in
+    one_node m up k p at one.0 other.0 one.1 other.1 s t one.2 other.2 same

@@ -14,7 +14,8 @@ use Rattle.go_model.specs.Outcomes.Constructs.Name.{name as name_construct}
 use Rattle.go_model.specs.Outcomes.Constructs.Selector.{selector as selector_construct}
 use Rattle.go_laws.specs.BuiltTrees.{IsBuilt, IsIdentifier, identifier, integer, name, parentheses, selector, sum}
 use Rattle.go_laws.specs.Complete.{asked_in, asked_in_each}
-use Rattle.go_laws.proofs.ListLemmas.{in_front, only_is}
+use Rattle.go_model.proofs.FlatLemmas.{only_is}
+use Rattle.go_laws.proofs.ListLemmas.{in_front}
 
 module _ (means : ℕ → Meaning) (file : ℕ) (told_at : Option ℕ) where
   -- before a `.`, and what stands behind it denotes nothing

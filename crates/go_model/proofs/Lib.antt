@@ -3,6 +3,7 @@ pub mod EntryLemmas
 pub mod EndLemmas
 pub mod ExactLemmas
 pub mod ExactWaitLemmas
+pub mod FlatLemmas
 pub mod HeaderLemmas
 pub mod LineOrderLemmas
 pub mod OneReportLemmas
@@ -10,3 +11,4 @@ pub mod OutlineLemmas
 pub mod OutcomeLemmas
 pub mod QuestLemmas
 pub mod StableLemmas
+pub mod WalkedLemmas

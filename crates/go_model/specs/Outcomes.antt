@@ -8,3 +8,4 @@ pub mod Readings
 pub mod Stays
 pub mod Exactly
 pub mod View
+pub mod Walked

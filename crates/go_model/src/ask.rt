@@ -18,13 +18,14 @@ pub trait Ask {
     /// the map knows no identifiers. It stands here, since a call of `ask` keeps it.
     ghost means: { Self → ℕ → Meaning };
 
-    /// What stays while headers are asked and told.
+    /// What stays while headers are asked and told: its type.
     ghost World: { Type 0 };
 
+    /// What stays while headers are asked and told.
     ghost world: { Self → World };
 
-    /// The header of a declaration, None exactly where the map has none. An error is want of memory. The map and the
-    /// meanings stay, also on an error.
+    /// The header of a declaration, None exactly where the map has none. An error is want of memory. The map, the
+    /// meanings, and what else stays are as before, also on an error.
     fn ask(&mut self, d: ObjId) -> Result<Option<Header>, NoMemory>
         ensures answer { IfOk result (λ header. option_map header_view header ≡ headers self.old d.0) }
         ensures same { headers self.new ≡ headers self.old }

@@ -4,6 +4,7 @@ ghost use Rattle.go_model.specs.Outcomes.Records.{header_view};
 ghost use Rattle.go_model.specs.Values.Headers.{headers_of};
 
 use crate::ask::Ask;
+use crate::expr_walk::ExprWalk;
 use crate::header::Header;
 use crate::meaning::Meaning;
 use go_base::NoMemory;
@@ -30,8 +31,8 @@ pub trait Sets: Finds {}
 /// judged yet.
 pub trait Judge: Sets {}
 
-/// A judge that is told headers.
-pub trait Rules: Judge {
+/// A judge that walks over expressions and is told headers.
+pub trait Rules: Judge + ExprWalk {
     /// Adds the header of a declaration that has none. An error is want of memory, and leaves the headers as they were.
     fn learn(&mut self, d: ObjId, header: &Header) -> Result<(), NoMemory>
         requires { Self.headers self.old d.0 ≡ None }

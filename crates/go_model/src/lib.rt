@@ -4,8 +4,8 @@
 //! `Values/Headers`), which outcome each node of an expression has (`Outcomes`), which rules the declarations
 //! break (`Waiting`, `Rules`), where objects are declared (`Outline`), which report a module has
 //! (`Phases`, `PackageLines`, `LineOrder`, `Report`), its status (`Status`) and how it reads (`Text`). A law
-//! is the contract of a function that does nothing. Maps of headers can be asked (`Headers`, `Ask`), and judges
-//! of expressions stand in levels above (`Forms` to `Judge`). What modules, declarations and scopes are stands in
+//! is the contract of a function that does nothing. Maps of headers can be asked (`Headers`, `Ask`), judges of
+//! expressions stand in levels above (`Forms` to `Judge`), beside them walks (`ExprWalk`), and `Rules` are both. What modules, declarations and scopes are stands in
 //! go_module, whose types are named here again.
 #![tactic(auto)]
 
@@ -14,6 +14,7 @@ mod laws;
 
 // What is known of declarations and expressions.
 mod ask;
+mod expr_walk;
 mod header;
 mod headers;
 mod judge;
@@ -33,6 +34,7 @@ mod law_tests;
 
 pub use ask::Ask;
 pub use declared_object::DeclaredObject;
+pub use expr_walk::ExprWalk;
 pub use go_module::{
     At, Block, Import, Method, Module, ObjId, ObjKind, Object, Occurrence, Package, Placed, Region,
     Scopes, Selected, SourceFile,

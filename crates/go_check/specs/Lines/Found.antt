@@ -10,12 +10,13 @@ use Rattle.go_module.specs.Names.Declarations.{Spec, declarations_in, specs_in_f
 use Rattle.go_module.specs.Names.Occurrences.{names_in_parts, nodes_in_parts}
 use Rattle.go_module.specs.NodeParts.{first_part}
 use Rattle.go_model.specs.declared.declared_object.DeclaredObject.{DeclaredObject}
-use Rattle.go_model.specs.declared.meaning.Meaning.{Meaning}
+use Rattle.go_model.specs.Outcomes.Judged.{OutcomeData}
+use Rattle.go_model.specs.Outcomes.Records.{RecData}
 use Rattle.go_model.specs.Outline.{Outline, declared_by}
-use Rattle.go_model.specs.PackageLines.{declaration_defs, expr_at, import_defs_in, occurrence_uses, written}
+use Rattle.go_model.specs.PackageLines.{import_defs_in, occurrence_uses, written}
 use Rattle.go_model.specs.Report.{LineData}
-use Rattle.go_model.specs.Outcomes.Walk.{Headers}
 use Rattle.go_names.specs.Views.{specs_view, trees_at}
+use Rattle.go_check.specs.Lines.Nodes.{def_by, expr_by}
 use Rattle.go_check.specs.declared.own_file.OwnFile.{OwnFile}
 
 -- a file of a package: whether it lies below the root of stubs, its import specs, the packages that these name, and
@@ -53,20 +54,24 @@ own_files_view files = map own_file_view files
 abbrev pub all_specs_in : List OwnFileData → List Spec
 all_specs_in files = flat_map (λ f. f.specs) files
 
+-- the nodes behind the names of all specs
+abbrev pub nodes_of_files : List OwnFileData → List Tree
+nodes_of_files files = flat_map nodes_in_parts (all_specs_in files)
+
 -- what a file declares, by the numbers of objects
 abbrev pub declared_in_file : ℕ → OwnFileData → List (ObjId × DeclaredObject)
 declared_in_file k f = map (declared_by k f.stub f.file) (map first_part f.imports ++ map (λ d. d.name) (declarations_in f.specs))
 
--- the lines of what a file declares, of its uses and of its expressions
+-- the lines of what a file declares, of its uses and of its expressions, by what says which outcome a node has
 abbrev pub import_lines : Outline → OwnFileData → List (Tree × ℕ) → List LineData
 import_lines outline f pairs = flat_map (λ pair. import_defs_in outline f.stub f.file pair.1 (parts_of pair.0)) pairs
 
-abbrev pub def_lines : Outline → (ℕ → Meaning) → Headers → OwnFileData → List LineData
-def_lines outline means headers f =
-    import_lines outline f (zip f.imports f.packages) ++ flat_map (declaration_defs f.stub f.file means headers) (declarations_in f.specs)
+abbrev pub def_lines : Outline → (Tree → OutcomeData RecData) → OwnFileData → List LineData
+def_lines outline outcome f =
+    import_lines outline f (zip f.imports f.packages) ++ flat_map (def_by outcome f.stub f.file) (declarations_in f.specs)
 
 abbrev pub use_lines : Outline → (NodeId → Option ObjId) → OwnFileData → List LineData
 use_lines outline denotes f = flat_map (occurrence_uses outline f.stub f.file denotes) (flat_map names_in_parts (written f.specs))
 
-abbrev pub expr_lines : (ℕ → Meaning) → Headers → OwnFileData → List LineData
-expr_lines means headers f = flat_map (expr_at f.stub f.file means headers) (flat_map nodes_in_parts (written f.specs))
+abbrev pub expr_lines : (Tree → OutcomeData RecData) → OwnFileData → List LineData
+expr_lines outcome f = flat_map (expr_by outcome f.stub f.file) (flat_map nodes_in_parts (written f.specs))

@@ -1,5 +1,5 @@
 -- The headers that are known behind a package.
-use Rattle.std.specs.Prelude.{Option, List, [], ◌∷◌, map}
+use Rattle.std.specs.Prelude.{List, [], ◌∷◌, map}
 use Rattle.std.specs.List.{flat_map}
 use Rattle.std.specs.Map.{lookup}
 use Rattle.std.specs.Option.{option_map_or, option_or}

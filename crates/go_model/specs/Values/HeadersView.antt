@@ -1,5 +1,4 @@
 -- What a map of headers of the program has.
-use Rattle.std.specs.Prelude.{ℕ}
 use Rattle.std.specs.Map.{lookup}
 use Rattle.std.specs.Option.{option_map}
 use Rattle.go_module.specs.Scopes.{same_object}

@@ -1,9 +1,7 @@
-use Rattle.std.proofs.Common.{◌≡◌, ◌++◌, List, drop, map}
+use Rattle.std.proofs.Common.{◌≡◌, ◌++◌, drop, map}
 use Rattle.std.specs.Prelude.{unwrap_or}
-use Rattle.go_base.specs.declared.rule.Broken.{Broken}
 use Rattle.go_tree.specs.Tree.{tree_of}
 use Rattle.go_module.specs.Broken.{broken_at}
-use Rattle.go_model.specs.declared.outcome.Spot.{Spot}
 use Rattle.go_model.specs.Outcomes.Readings.{spot_start}
 use Rattle.go_check.proofs.broken.push_spots.Given as goal
 

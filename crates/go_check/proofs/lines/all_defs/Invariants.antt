@@ -3,12 +3,12 @@ use Rattle.go_model.specs.Report.{line_view}
 use Rattle.go_model.specs.Report.{LineData}
 use Rattle.go_model.specs.LineOrder.{AreInOrder}
 use Rattle.go_check.specs.Lines.Found.{def_lines, own_files_view}
-use Rattle.go_expr.specs.OwnHeaders.{headers_by}
-use Rattle.go_expr.specs.View.{means_by}
+use Rattle.go_expr.specs.Read.{outcome_read}
+use Rattle.go_expr.specs.Walker.{outcomes_view}
 use Rattle.go_check.specs.View.{outline_view}
 use Rattle.go_check.proofs.lines.all_defs.Given as goal
 
 -- what is added, before lines of the files left in order, is in order
 abbrev pub invariant-loop-file : goal.invariant-loop-file
 invariant-loop-file l =
-    (rest : List LineData) → AreInOrder (map (def_lines (outline_view l.outline) (means_by l.around) (headers_by l.around l.known)) (own_files_view (drop l.file-index l.files))) rest → AreInOrder (map (def_lines (outline_view l.outline) (means_by l.around) (headers_by l.around l.known)) (own_files_view l.files)) (map line_view l.lines.items ++ rest)
+    (rest : List LineData) → AreInOrder (map (def_lines (outline_view l.outline) (outcome_read (outcomes_view l.walker))) (own_files_view (drop l.file-index l.files))) rest → AreInOrder (map (def_lines (outline_view l.outline) (outcome_read (outcomes_view l.walker))) (own_files_view l.files)) (map line_view l.lines.items ++ rest)

@@ -4,26 +4,30 @@ use Rattle.go_module.specs.Modules.Module.{file_view, package_view}
 use Rattle.go_module.specs.Names.Declarations.{declarations_of, specs_of}
 use Rattle.go_module.specs.Order.{IsListOf}
 use Rattle.go_module.specs.Places.{with_number}
-use Rattle.go_model.specs.Values.Rules.{broken_cycles, broken_in_files, broken_spec, broken_values}
+use Rattle.go_model.specs.Values.Rules.{broken_cycles, broken_in_files, broken_values}
 use Rattle.go_names.specs.Views.{declarations_view}
 use Rattle.go_check.specs.Lines.Found.{all_specs_in, own_files_view}
-use Rattle.go_expr.specs.OwnHeaders.{headers_by}
-use Rattle.go_expr.specs.View.{means_by, places_by}
+use Rattle.go_check.specs.Lines.Nodes.{broken_spec_by}
+use Rattle.go_expr.specs.Read.{outcome_read}
+use Rattle.go_expr.specs.View.{places_by}
+use Rattle.go_expr.specs.Walker.{outcomes_view}
 use Rattle.go_decl.specs.Waits.{marked_by}
+use Rattle.go_check.proofs.ReadLemmas.{specs_same}
 use Rattle.go_check.proofs.ValueLemmas.{specs_are}
 use Rattle.go_check.proofs.values.broken_values.Goals as goal
 
 pub returns : goal.returns
-returns c =
+returns c = λ means headers walked.
     let p = package_view c.args.own.now in
-    let means = means_by c.args.around.now in
-    let headers = headers_by c.args.around.now c.args.known.now in
+    let outcomes = outcomes_view c.args.walker.now in
     let marks = marked_by (places_by c.args.around.now) c.args.cyclic.now in
     let specs : all_specs_in (own_files_view c.args.files.now) ≡ specs_of p = ap all_specs_in c.requires.files ∙ specs_are p.stub 0 p.files p.imports in
     let cycles : c.push_cycles.new.list.items ≡ broken_cycles marks (declarations_of p) =
     c.in_ok-push_cycles.ensures ∙ ap (λ l. l ++ broken_cycles marks (declarations_view c.args.declarations.now)) c.new-found.ensures.items ∙ ap (broken_cycles marks) c.requires.declarations in
     let found : c.push_files.new.found.items ≡ broken_in_files means headers marks p =
-    c.in_ok-push_files.ensures ∙ (λ i. cycles i ++ flat_map (broken_spec means headers) (specs i)) in
+    c.in_ok-push_files.ensures
+    ∙ (λ i. cycles i ++ flat_map (broken_spec_by (outcome_read outcomes)) (specs i))
+    ∙ ap (λ l. broken_cycles marks (declarations_of p) ++ l) (specs_same means headers outcomes (specs_of p) walked) in
     let told : c.in_ok-with_numbers.field-0.items ≡ broken_values means headers marks p =
     c.in_ok-with_numbers.ensures ∙ (λ i. map (with_number (map file_view (c.deref.ensures.value i))) (c.deref-2.ensures.value i)) ∙ ap (map (with_number p.files)) found in
     subst (λ l. IsListOf l c.ordered.result.items) told c.ordered.ensures

@@ -1,13 +1,13 @@
 use Rattle.std.proofs.Common.{arith}
-use Rattle.go_model.specs.Values.Rules.{broken_spec}
+use Rattle.go_check.specs.Lines.Nodes.{broken_spec_by}
 use Rattle.go_names.specs.Views.{spec_view}
-use Rattle.go_expr.specs.OwnHeaders.{headers_by}
-use Rattle.go_expr.specs.View.{means_by}
+use Rattle.go_expr.specs.Read.{outcome_read}
+use Rattle.go_expr.specs.Walker.{outcomes_view}
 use Rattle.go_check.proofs.FoundLemmas.{drop-step}
 use Rattle.go_check.proofs.ValueLemmas.{one_spec_more}
 use Rattle.go_check.proofs.values.push_specs.Goals as goal
 
 pub loop-spec-preserved : goal.loop-spec-preserved
 loop-spec-preserved c =
-    one_spec_more (broken_spec (means_by c.args.around.now) (headers_by c.args.around.now c.args.known.now)) spec_view c.args.specs.now c.loop-spec.spec-index c.spec-item.result c.loop-spec.found.items c.push_spec.new.found.items _
+    one_spec_more (broken_spec_by (outcome_read (outcomes_view c.args.walker.now))) spec_view c.args.specs.now c.loop-spec.spec-index c.spec-item.result c.loop-spec.found.items c.push_spec.new.found.items _
     (drop-step c.args.specs.now c.loop-spec.spec-index c.spec-item.result (omega arith) c.spec-item.is) c.in_ok-push_spec.ensures c.loop-spec.invariant

@@ -4,9 +4,17 @@ use Rattle.go_module.specs.declared.places.Placed.{Placed}
 use Rattle.go_module.specs.Modules.Module.{module_view}
 use Rattle.go_load.specs.declared.load_fault.LoadFault.{LoadFault}
 use Rattle.go_load.specs.Packages.Made.{IsLoadFault}
+use Rattle.go_laws.proofs.NodeFileLemmas.{nodes_are_numbered}
+use Rattle.go_laws.proofs.NodeNumberLemmas.{node_numbers_ascend}
 use Rattle.go_command.specs.Runs.{IsFirst}
 use Rattle.go_command.proofs.RunLemmas.{first_run, whole_run}
 use Rattle.go_command.proofs.run.text_and_verdict.Goals as goal
+
+-- a module that is loaded has its numbers
+pub whole-requires : goal.whole-requires
+whole-requires g c =
+    let loads = c.in-Ok.ensures.module in
+    nodes_are_numbered (module_view c.in-Ok.module) (node_numbers_ascend loads.own loads.stubs (module_view c.in-Ok.module) loads.is_module)
 
 pub returns-in_ok-whole-in-Ok-clause-text : goal.returns-in_ok-whole-in-Ok-clause-text
 returns-in_ok-whole-in-Ok-clause-text g c =

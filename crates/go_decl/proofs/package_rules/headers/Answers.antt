@@ -8,8 +8,8 @@ use Rattle.go_expr.specs.OwnHeaders.{headers_by}
 use Rattle.go_expr.specs.View.{before_by, means_by}
 use Rattle.go_decl.proofs.package_rules.headers.Goals as goal
 
-pub returns : goal.returns
-returns c = λ d h.
+pub returns-clause-exact : goal.returns-clause-exact
+returns-clause-exact c = λ d h.
     let around = c.args.around.now in
     let own = c.rounds.new.rules.own in
     let declarations = declarations_view c.args.declarations.now in

@@ -2,18 +2,22 @@ use Rattle.std.proofs.Common.{sym, ◌∙◌, subst}
 use Rattle.std.proofs.lemmas.Result.{IfOk-weaker}
 use Rattle.go_graph.specs.Graph.{Graph, IsGraph, Path}
 use Rattle.go_names.specs.Views.{declarations_view}
-use Rattle.go_decl.proofs.WaitLemmas.{marks_are_chains, waits_graph}
+use Rattle.go_expr.specs.Read.{awaited_by, outcome_read}
+use Rattle.go_expr.specs.Walker.{outcomes_view}
+use Rattle.go_decl.proofs.WaitLemmas.{marks_are_chains, read_graph, waits_graph}
 use Rattle.go_decl.proofs.waits.cyclic_declarations.Goals as goal
 
 pub cyclic_vertices-requires : goal.cyclic_vertices-requires
 cyclic_vertices-requires c =
     let same = c.deref.ensures.value ∙ c.in_ok-waits.ensures in
-    subst IsGraph (sym same) (waits_graph c.args.around.now c.args.known.now (declarations_view c.args.declarations.now) c.requires)
+    subst IsGraph (sym same) (waits_graph c.args.around.now (declarations_view c.args.declarations.now) c.requires (awaited_by (outcome_read (outcomes_view c.args.walker.now))))
 
 pub returns-clause-exact : goal.returns-clause-exact
 returns-clause-exact c =
-    let same = c.deref.ensures.value ∙ c.in_ok-waits.ensures in
+    let declarations = declarations_view c.args.declarations.now in
     IfOk-weaker c.cyclic_vertices.result _ _
-    (λ marks exact. marks_are_chains c.args.around.now c.args.known.now (declarations_view c.args.declarations.now) c.requires marks.items
+    (λ marks exact own walked.
+    let same = c.deref.ensures.value ∙ c.in_ok-waits.ensures ∙ read_graph c.args.around.now own declarations c.requires (outcomes_view c.args.walker.now) walked in
+    marks_are_chains c.args.around.now own declarations c.requires marks.items
     (λ i. (λ e. subst (λ (g : Graph). Path g i i) same ((exact i).0 e), λ p. (exact i).1 (subst (λ (g : Graph). Path g i i) (sym same) p))))
     c.cyclic_vertices.ensures.exact

@@ -1,11 +1,11 @@
 use Rattle.std.proofs.Common.{◌≡◌, ◌++◌, drop, map}
 use Rattle.std.specs.List.{flat_map}
-use Rattle.go_model.specs.Values.Waiting.{awaited_by_nodes}
 use Rattle.go_tree.specs.Tree.{tree_of}
-use Rattle.go_expr.specs.OwnHeaders.{headers_by}
-use Rattle.go_expr.specs.View.{means_by}
+use Rattle.go_expr.specs.Read.{awaited_among, outcome_read}
+use Rattle.go_expr.specs.Walker.{outcomes_view}
 use Rattle.go_decl.proofs.waits.push_awaited.Given as goal
 
 abbrev pub invariant-loop-node : goal.invariant-loop-node
 invariant-loop-node l =
-    l.numbers ++ flat_map (awaited_by_nodes (means_by l.around) (headers_by l.around l.known)) (map tree_of (drop l.node-index l.nodes)) ≡ l.fn.numbers ++ flat_map (awaited_by_nodes (means_by l.around) (headers_by l.around l.known)) (map tree_of l.nodes)
+    let awaited = awaited_among (outcome_read (outcomes_view l.walker)) in
+    l.numbers ++ flat_map awaited (map tree_of (drop l.node-index l.nodes)) ≡ l.fn.numbers ++ flat_map awaited (map tree_of l.nodes)

@@ -1,0 +1,37 @@
+use Rattle.std.proofs.Common.{◌≡◌, ◌↔◌, Some, sym, ap, ◌∙◌, subst}
+use Rattle.go_tree.specs.Tree.{id_of}
+use Rattle.go_model.specs.Outcomes.Walk.{Headers, outcome}
+use Rattle.go_model.specs.Values.Headers.{Known}
+use Rattle.go_model.proofs.WalkedLemmas.{are_walked}
+use Rattle.go_names.specs.Views.{declarations_view}
+use Rattle.go_expr.specs.declared.around.Around.{Around}
+use Rattle.go_expr.specs.OwnHeaders.{headers_by}
+use Rattle.go_expr.specs.View.{before_by, means_by}
+use Rattle.go_expr.specs.Walker.{outcomes_view}
+use Rattle.go_check.specs.Lines.Found.{nodes_of_files, own_files_view}
+use Rattle.go_check.proofs.walked.walk_package.Goals as goal
+
+pub returns-clause-known : goal.returns-clause-known
+returns-clause-known c d h =
+    let around = c.args.around.now in
+    let rules = c.in_ok-rules.rules in
+    let after = c.walk_files.new.rules in
+    let here : rules.around.now ≡ around = c.in_ok-rules.ensures.around in
+    let there : after.around.now ≡ around = c.walk_files.ensures.world ∙ here in
+    let same : headers_by around after.own ≡ headers_by around rules.own =
+    ap (λ (a : Around). headers_by a after.own) (sym there) ∙ c.walk_files.ensures.same ∙ ap (λ (a : Around). headers_by a rules.own) here in
+    subst (λ (m : Headers). (m d ≡ Some h) ↔ Known (before_by around) (means_by around) (declarations_view c.args.declarations.now) d h) (sym same) (c.in_ok-rules.ensures.exact d h)
+
+pub returns-clause-nodes : goal.returns-clause-nodes
+returns-clause-nodes c numbered t h =
+    let around = c.args.around.now in
+    let rules = c.in_ok-rules.rules in
+    let after = c.walk_files.new.rules in
+    let nodes = nodes_of_files (own_files_view c.args.files.now) in
+    let here : rules.around.now ≡ around = c.in_ok-rules.ensures.around in
+    let there : after.around.now ≡ around = c.walk_files.ensures.world ∙ here in
+    let same : headers_by rules.around.now rules.own ≡ headers_by around after.own =
+    sym c.walk_files.ensures.same ∙ ap (λ (a : Around). headers_by a after.own) there in
+    c.in_ok-walk_files.ensures.reached (id_of t)
+    ∙ are_walked (means_by rules.around.now) (headers_by rules.around.now rules.own) nodes numbered (outcomes_view rules.walker) t h
+    ∙ (λ i. Some (outcome (means_by (here i)) (same i) t))

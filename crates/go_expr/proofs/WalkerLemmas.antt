@@ -1,0 +1,63 @@
+-- Walks over a node and its parts, one after another.
+use Rattle.std.proofs.Common.{◌≡◌, ℕ, Option, Some, List, [], ◌∷◌, ◌++◌, map, reverse, refl, sym, ap, ◌∙◌}
+use Rattle.std.specs.Prelude.{◌==◌, if◌then◌else◌}
+use Rattle.std.specs.List.{flat_map}
+use Rattle.std.proofs.lemmas.List.{map-append, reverse-append}
+use Rattle.go_tree.specs.Tree.{Tree, id_of}
+use Rattle.go_module.specs.Names.Inner.{inner_parts}
+use Rattle.go_module.specs.Names.Occurrences.{nodes_in}
+use Rattle.go_model.specs.declared.meaning.Meaning.{Meaning}
+use Rattle.go_model.specs.declared.outcome.Outcome.{Outcome}
+use Rattle.go_model.specs.Outcomes.Judged.{OutcomeData}
+use Rattle.go_model.specs.Outcomes.Records.{RecData}
+use Rattle.go_model.specs.Outcomes.View.{outcome_view}
+use Rattle.go_model.specs.Outcomes.Walk.{Headers, outcome}
+use Rattle.go_model.specs.Outcomes.Walked.{Outcomes, walked_over}
+use Rattle.go_model.proofs.WalkedLemmas.{walked-append, walked-same}
+use Rattle.go_names.proofs.WalkLemmas.{nodes_in-inner}
+
+-- one more walk, behind those over other nodes, by the same meanings and headers
+pub walked_more : (means k : ℕ → Meaning) (headers h : Headers) (nodes others all : List Tree) (old mid new : Outcomes) → k ≡ means → h ≡ headers → nodes ++ others ≡ all
+    → ((n : ℕ) → mid n ≡ walked_over means headers others old n) → ((n : ℕ) → new n ≡ walked_over k h nodes mid n) → (n : ℕ) → new n ≡ walked_over means headers all old n
+walked_more means k headers h nodes others all old mid new same_means same_headers is so_far now n =
+    now n
+    ∙ (λ i. walked_over (same_means i) (same_headers i) nodes mid n)
+    ∙ walked-same means headers nodes mid (walked_over means headers others old) so_far n
+    ∙ sym (walked-append means headers nodes others old n)
+    ∙ ap (λ (ts : List Tree). walked_over means headers ts old n) is
+
+-- what is told at a number that is that of a node
+pub told_at : (t : Tree) (made : OutcomeData RecData) (before : Option (OutcomeData RecData)) (id n : ℕ) → id ≡ id_of t → (if id == n then Some made else before) ≡ (if id_of t == n then Some made else before)
+told_at t made before id n is = ap (λ (k : ℕ). if k == n then Some made else before) is
+
+module _ (means : ℕ → Meaning) (headers : Headers) where
+  -- the nodes of a walk may be named otherwise
+  pub parts_done : (nodes all : List Tree) (old new : Outcomes) → nodes ≡ all → ((n : ℕ) → new n ≡ walked_over means headers nodes old n) → (n : ℕ) → new n ≡ walked_over means headers all old n
+  parts_done nodes all old new is now n = now n ∙ ap (λ (ts : List Tree). walked_over means headers ts old n) is
+
+  -- a node is told behind its inner parts
+  pub node_done : (t : Tree) (old inside new : Outcomes) (made : OutcomeData RecData) → ((n : ℕ) → inside n ≡ walked_over means headers (flat_map nodes_in (inner_parts t)) old n) → made ≡ outcome means headers t
+      → ((n : ℕ) → new n ≡ (if id_of t == n then Some made else inside n)) → (n : ℕ) → new n ≡ walked_over means headers (nodes_in t) old n
+  node_done t old inside new made so_far is now n =
+      now n
+      ∙ (λ i. if id_of t == n then Some (is i) else so_far n i)
+      ∙ ap (λ (nodes : List Tree). walked_over means headers nodes old n) (sym (nodes_in-inner t))
+
+  -- the outcome of one more part, the last first
+  pub outcomes_more : (x : Tree) (rest all : List Tree) (old new : List Outcome) (o : Outcome) → x ∷ rest ≡ all → map outcome_view old ≡ reverse (map (outcome means headers) rest) → outcome_view o ≡ outcome means headers x
+      → new ≡ old ++ o ∷ [] → map outcome_view new ≡ reverse (map (outcome means headers) all)
+  outcomes_more x rest all old new o is_all so_far is now =
+      ap (map outcome_view) now
+      ∙ map-append outcome_view old (o ∷ [])
+      ∙ (λ i. so_far i ++ is i ∷ [])
+      ∙ sym (reverse-append (outcome means headers x ∷ []) (map (outcome means headers) rest))
+      ∙ ap (λ (ts : List Tree). reverse (map (outcome means headers) ts)) is_all
+
+-- what is made of a list in reverse
+pub map-reverse : {A B : Type 0} (g : A → B) (xs : List A) → map g (reverse xs) ≡ reverse (map g xs)
+map-reverse g [] = refl
+map-reverse g (x ∷ xs) =
+    ap (map g) (reverse-append (x ∷ []) xs)
+    ∙ map-append g (reverse xs) (x ∷ [])
+    ∙ ap (λ l. l ++ g x ∷ []) (map-reverse g xs)
+    ∙ sym (reverse-append (g x ∷ []) (map g xs))

@@ -1,0 +1,23 @@
+use Rattle.std.proofs.Common.{◌≡◌, ℕ, map, drop, reverse}
+use Rattle.std.specs.List.{flat_map}
+use Rattle.go_module.specs.Names.Occurrences.{nodes_in}
+use Rattle.go_model.specs.Outcomes.Walk.{outcome}
+use Rattle.go_model.specs.Outcomes.Walked.{walked_over}
+use Rattle.go_model.specs.Outcomes.View.{outcome_view}
+use Rattle.go_names.specs.Views.{trees_at}
+use Rattle.go_tree.specs.Tree.{tree_of, node_count}
+use Rattle.go_expr.specs.Walker.{outcomes_view}
+use Rattle.go_expr.proofs.walker.+walk.Given as goal
+
+abbrev pub decreases-walk : goal.decreases-walk
+decreases-walk g l = node_count (tree_of l.node.now)
+
+-- the parts from the place on are done, the last first
+abbrev pub invariant-loop-place : goal.invariant-loop-place
+invariant-loop-place g l = record {
+  same : g.J.Ask.headers l.judge ≡ g.J.Ask.headers l.fn.judge;
+  means : g.J.Ask.means l.judge ≡ g.J.Ask.means l.fn.judge;
+  world : g.J.Ask.world l.judge ≡ g.J.Ask.world l.fn.judge;
+  found : map outcome_view l.outcomes.items ≡ reverse (map (outcome (g.J.Ask.means l.fn.judge) (g.J.Ask.headers l.fn.judge)) (trees_at (drop l.place l.inner.items)));
+  reached : (n : ℕ) → outcomes_view l.walker n ≡ walked_over (g.J.Ask.means l.fn.judge) (g.J.Ask.headers l.fn.judge) (flat_map nodes_in (trees_at (drop l.place l.inner.items))) (outcomes_view l.fn.walker) n;
+}

@@ -1,0 +1,93 @@
+// The headers of declarations, by the outcomes of their expressions (Go specification, "Constant declarations").
+ghost use Rattle.std.specs.Prelude.{◌≡◌, IfOk, option_and_then};
+ghost use Rattle.std.specs.Option.{option_map};
+ghost use Rattle.go_tree.specs.Tree.{tree_of};
+ghost use Rattle.go_model.specs.Outcomes.Readings as readings;
+ghost use Rattle.go_model.specs.Outcomes.Records as parts;
+ghost use Rattle.go_model.specs.Outcomes.Records.{header_view, rec_view};
+ghost use Rattle.go_model.specs.Outcomes.View.{outcome_view};
+ghost use Rattle.go_model.specs.Values.Records as records;
+ghost use Rattle.go_names.specs.Views.{declaration_view};
+ghost use Rattle.go_expr.specs.Read as read;
+ghost use Rattle.go_expr.specs.Walker.{outcomes_view};
+
+use crate::walker::Walker;
+use go_base::NoMemory;
+use go_model::{ExprWalk, Header, Outcome, Rec};
+use go_module::Built;
+use go_names::Declaration;
+use go_tree::Node;
+use std::alloc::Global;
+
+/// The header of a declaration over the headers that are known, which stay as they are. An error is want of memory.
+pub fn header_over<W: ExprWalk>(
+    alloc: Global,
+    rules: &mut W,
+    declaration: &Declaration,
+) -> Result<Option<Header>, NoMemory>
+    ensures header { IfOk result (λ header. option_map header_view header ≡ records.header_over (W.means rules.old)
+        (W.headers rules.old) (declaration_view declaration.now)) }
+    ensures same { W.headers rules.new ≡ W.headers rules.old }
+    ensures means { W.means rules.new ≡ W.means rules.old }
+    ensures world { W.world rules.new ≡ W.world rules.old }
+{
+    match bound_value(declaration) {
+        Some(value) => Ok(declared_header(record_in(rules.walk(alloc, value, None)?))),
+        None => Ok(None),
+    }
+}
+
+/// The header of a declaration by the outcomes of walks. An error is want of memory.
+pub fn header_by(walker: &Walker, declaration: &Declaration) -> Result<Option<Header>, NoMemory>
+    ensures { IfOk result (λ header. option_map header_view header
+        ≡ read.header_by (read.outcome_read (outcomes_view walker.now)) (declaration_view declaration.now)) }
+{
+    match bound_value(declaration) {
+        Some(value) => header_of(walker.found(value.id())),
+        None => Ok(None),
+    }
+}
+
+// The header of a constant that is declared with this record, which stays.
+fn header_of(found: Option<&Rec>) -> Result<Option<Header>, NoMemory>
+    ensures { IfOk result (λ header. option_map header_view header
+        ≡ option_and_then parts.declared_header (option_map (λ rec. rec_view rec.now) found.entry)) }
+{
+    match found {
+        Some(rec) => Ok(declared_header(Some(rec.clone()?))),
+        None => Ok(None),
+    }
+}
+
+// The record, where the node has one.
+fn record_in(outcome: Outcome) -> Option<Rec>
+    ensures { option_map rec_view result ≡ readings.record_in (outcome_view outcome) }
+{
+    match outcome {
+        Outcome::Found(found) => Some(found),
+        Outcome::Broken(_, _) => None,
+        Outcome::Waits(_) => None,
+        Outcome::Nothing => None,
+    }
+}
+
+// The header of a constant that is declared with this record.
+fn declared_header(found: Option<Rec>) -> Option<Header>
+    ensures { option_map header_view result
+        ≡ option_and_then parts.declared_header (option_map rec_view found) }
+{
+    let Rec { ty, value, .. } = found?;
+    Some(Header::Const(ty?, value?))
+}
+
+// The expression whose value a declaration has.
+fn bound_value<'a>(declaration: &Declaration<'a>) -> Option<&'a Node>
+    ensures { option_map (λ node. tree_of node.now) result
+        ≡ records.bound_value declaration.now.built (declaration_view declaration.now).values }
+{
+    match declaration.built {
+        Built::Pair => declaration.values.first(),
+        Built::WholeList => None,
+        Built::Itself => None,
+    }
+}

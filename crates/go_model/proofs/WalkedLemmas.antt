@@ -1,0 +1,40 @@
+-- What walks leave: one walk after another, and that each node has its outcome where a number tells its node.
+use Rattle.std.proofs.Common.{◌≡◌, ℕ, Bool, true, false, Option, Some, List, [], ◌∷◌, ◌++◌, refl, ap, ⊎_elim, arith}
+use Rattle.std.specs.Prelude.{◌==◌, Contains, if◌then◌else◌}
+use Rattle.std.proofs.lemmas.Bool.Decides.{nat_tests}
+use Rattle.go_tree.specs.Tree.{Tree, id_of}
+use Rattle.go_module.proofs.MemberLemmas.{cons_cases, contains_head, contains_none, contains_tail}
+use Rattle.go_model.specs.declared.meaning.Meaning.{Meaning}
+use Rattle.go_model.specs.Outcomes.Judged.{OutcomeData}
+use Rattle.go_model.specs.Outcomes.Records.{RecData}
+use Rattle.go_model.specs.Outcomes.Walk.{Headers, outcome}
+use Rattle.go_model.specs.Outcomes.Walked.{AreNumbered, AreWalked, Outcomes, walked_over}
+
+module _ (means : ℕ → Meaning) (headers : Headers) where
+  -- a walk over some nodes behind a walk over others is one over both
+  pub walked-append : (xs ys : List Tree) (before : Outcomes) (n : ℕ) → walked_over means headers (xs ++ ys) before n ≡ walked_over means headers xs (walked_over means headers ys before) n
+  walked-append [] ys before n = refl
+  walked-append (x ∷ xs) ys before n = ap (λ (o : Option (OutcomeData RecData)). if id_of x == n then Some (outcome means headers x) else o) (walked-append xs ys before n)
+
+  -- what was before counts number by number
+  pub walked-same : (xs : List Tree) (before other : Outcomes) → ((n : ℕ) → before n ≡ other n) → (n : ℕ) → walked_over means headers xs before n ≡ walked_over means headers xs other n
+  walked-same [] before other same n = same n
+  walked-same (x ∷ xs) before other same n = ap (λ (o : Option (OutcomeData RecData)). if id_of x == n then Some (outcome means headers x) else o) (walked-same xs before other same n)
+
+  -- each node of a walk has its outcome
+  pub are_walked : (nodes : List Tree) → AreNumbered nodes → (before : Outcomes) → AreWalked means headers nodes (walked_over means headers nodes before)
+  are_walked nodes numbered before t h = among nodes (λ u i. i) h
+    where
+      found : (u : Tree) (us : List Tree) → Contains nodes u → (Contains us t → walked_over means headers us before (id_of t) ≡ Some (outcome means headers t)) → Contains (u ∷ us) t → (b : Bool) → (id_of u == id_of t) ≡ b
+          → (if b then Some (outcome means headers u) else walked_over means headers us before (id_of t)) ≡ Some (outcome means headers t)
+      found u us in_u later i true e =
+          let same : id_of u ≡ id_of t = grind (arith, nat_tests) in
+          ap (λ (x : Tree). Some (outcome means headers x)) (numbered u t in_u h same)
+      found u us in_u later i false e = later (there i)
+        where
+          there : Contains (u ∷ us) t → Contains us t
+          there i = ⊎_elim (λ (here : u ≡ t). absurd (let same : id_of u ≡ id_of t = ap id_of here in grind (arith, nat_tests))) (λ (on : Contains us t). on) (cons_cases u us t i)
+
+      among : (us : List Tree) → ((u : Tree) → Contains us u → Contains nodes u) → Contains us t → walked_over means headers us before (id_of t) ≡ Some (outcome means headers t)
+      among [] within i = absurd (contains_none t i)
+      among (u ∷ us) within i = found u us (within u (contains_head u us u refl)) (among us (λ v j. within v (contains_tail u us v j))) i (id_of u == id_of t) refl

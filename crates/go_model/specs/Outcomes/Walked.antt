@@ -1,0 +1,43 @@
+-- Expressions (Go specification).
+-- Says what walks over expressions leave: of each node the outcome in the last walk that reached it, by the node's number;
+-- and where a number tells its node.
+use Rattle.std.specs.Prelude.{◌≡◌, ℕ, ◌==◌, Option, Some, None, List, [], ◌∷◌, Contains, if◌then◌else◌, slice_get}
+use Rattle.std.specs.List.{flat_map}
+use Rattle.go_tree.specs.Tree.{Tree, id_of}
+use Rattle.go_module.specs.Modules.Module.{ModuleData, PackageData}
+use Rattle.go_module.specs.Names.Declarations.{specs_of}
+use Rattle.go_module.specs.Names.Occurrences.{nodes_in_parts}
+use Rattle.go_model.specs.declared.meaning.Meaning.{Meaning}
+use Rattle.go_model.specs.Outcomes.Judged.{OutcomeData}
+use Rattle.go_model.specs.Outcomes.Records.{RecData}
+use Rattle.go_model.specs.Outcomes.Walk.{Headers, outcome}
+
+-- the outcome of each node that a walk reached, by the node's number
+abbrev pub Outcomes : Type 0
+Outcomes = ℕ → Option (OutcomeData RecData)
+
+-- no node was reached
+abbrev pub no_outcomes : Outcomes
+no_outcomes n = None
+
+-- behind a walk that reached these nodes: of several with one number the outcome of the first, and of the others that
+-- before
+abbrev pub walked_over : (ℕ → Meaning) → Headers → List Tree → Outcomes → Outcomes
+walked_over means headers [] before n = before n
+walked_over means headers (t ∷ ts) before n = if id_of t == n then Some (outcome means headers t) else walked_over means headers ts before n
+
+-- each of these nodes has its outcome over the headers
+abbrev pub AreWalked : (ℕ → Meaning) → Headers → List Tree → Outcomes → Type 0
+AreWalked means headers nodes outcomes = (t : Tree) → Contains nodes t → outcomes (id_of t) ≡ Some (outcome means headers t)
+
+-- no two of these nodes have one number
+abbrev pub AreNumbered : List Tree → Type 0
+AreNumbered nodes = (s t : Tree) → Contains nodes s → Contains nodes t → id_of s ≡ id_of t → s ≡ t
+
+-- the nodes of the types and the expressions of a package's declarations
+abbrev pub nodes_of : PackageData → List Tree
+nodes_of p = flat_map nodes_in_parts (specs_of p)
+
+-- no two of these nodes have one number, package by package
+abbrev pub NodesAreNumbered : ModuleData → Type 0
+NodesAreNumbered m = (k : ℕ) (p : PackageData) → slice_get m.packages k ≡ Some p → AreNumbered (nodes_of p)
