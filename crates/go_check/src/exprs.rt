@@ -24,11 +24,7 @@ use go_tree::Node;
 use std::alloc::Global;
 
 /// The line of each expression in a file. An error is want of memory.
-pub fn found_exprs(
-    alloc: Global,
-    file: &OwnFile,
-    walker: &Walker,
-) -> Result<Vec<Line>, NoMemory>
+pub fn found_exprs(alloc: Global, file: &OwnFile, walker: &Walker) -> Result<Vec<Line>, NoMemory>
     ensures { IfOk result (λ lines. map line_view lines.items
         ≡ expr_lines (outcome_read (outcomes_view walker.now)) (own_file_view file.now)) }
 {

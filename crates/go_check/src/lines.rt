@@ -110,11 +110,7 @@ fn all_uses(
 }
 
 // The lines of expressions, file after file.
-fn all_exprs(
-    alloc: Global,
-    files: &[OwnFile],
-    walker: &Walker,
-) -> Result<Vec<Line>, NoMemory>
+fn all_exprs(alloc: Global, files: &[OwnFile], walker: &Walker) -> Result<Vec<Line>, NoMemory>
     ensures { IfOk result (λ lines. AreInOrder (map (expr_lines (outcome_read (outcomes_view walker.now)))
         (own_files_view files.now)) (map line_view lines.items)) }
 {

@@ -51,11 +51,7 @@ pub fn walk_package(
 }
 
 // Walks over the specs of these files, the last first.
-fn walk_files<W: ExprWalk>(
-    alloc: Global,
-    rules: &mut W,
-    files: &[OwnFile],
-) -> Result<(), NoMemory>
+fn walk_files<W: ExprWalk>(alloc: Global, rules: &mut W, files: &[OwnFile]) -> Result<(), NoMemory>
     ensures reached { OnOk result ((n : ℕ) → W.outcomes rules.new n
         ≡ walked_over (W.means rules.old) (W.headers rules.old)
         (nodes_of_files (own_files_view files.now)) (W.outcomes rules.old) n) }

@@ -180,7 +180,9 @@ fn each_of_many_packages_has_its_report(rt: HostRuntime) -> Result<(), Fail> {
     )?;
     for before in 0..999u32 {
         let number = before + 1;
-        let own = format!(in alloc; "package\tm/p{number}\tp\taccepted\ndef\tp{number}/a.go:3:8\t_\tpackage\tm/p{before}\n")?;
+        let own = format!(in alloc;
+            "package\tm/p{number}\tp\taccepted\ndef\tp{number}/a.go:3:8\t_\tpackage\tm/p{before}\n"
+        )?;
         accepted.push_str(own.as_str())?;
         refused.push_str(format!(in alloc; "package\tm/p{number}\tp\tskipped\n")?.as_str())?;
     }

@@ -84,12 +84,7 @@ impl Judge for PackageRules<'_> {}
 impl ExprWalk for PackageRules<'_> {
     ghost outcomes = { λ rules. outcomes_view rules.walker };
 
-    fn walk(
-        &mut self,
-        alloc: Global,
-        node: &Node,
-        want: Option<Ty>,
-    ) -> Result<Outcome, NoMemory> {
+    fn walk(&mut self, alloc: Global, node: &Node, want: Option<Ty>) -> Result<Outcome, NoMemory> {
         let mut judge = PackageJudge {
             around: self.around,
             known: &self.own,

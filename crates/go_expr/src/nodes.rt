@@ -19,11 +19,7 @@ pub fn nodes_in<'a>(alloc: Global, node: &'a Node) -> Result<Vec<&'a Node>, NoMe
 }
 
 // Pushes the nodes of an expression or a type.
-fn push_nodes<'a>(
-    alloc: Global,
-    node: &'a Node,
-    list: &mut Vec<&'a Node>,
-) -> Result<(), NoMemory>
+fn push_nodes<'a>(alloc: Global, node: &'a Node, list: &mut Vec<&'a Node>) -> Result<(), NoMemory>
     ensures { OnOk result (trees_at list.new.items ≡ trees_at list.old.items ++ nodes_in (tree_of node.now)) }
 {
     list.push(node)?;

@@ -4,9 +4,9 @@
 //! `Values/Headers`), which outcome each node of an expression has (`Outcomes`), which rules the declarations
 //! break (`Waiting`, `Rules`), where objects are declared (`Outline`), which report a module has
 //! (`Phases`, `PackageLines`, `LineOrder`, `Report`), its status (`Status`) and how it reads (`Text`). A law
-//! is the contract of a function that does nothing. Maps of headers can be asked (`Headers`, `Ask`), judges of
-//! expressions stand in levels above (`Forms` to `Judge`), beside them walks (`ExprWalk`), and `Rules` are both. What modules, declarations and scopes are stands in
-//! go_module, whose types are named here again.
+//! is the contract of a function that does nothing. Maps of headers can be asked (`Headers`, `Ask`); judges of
+//! expressions stand in levels above (`Forms` to `Judge`), beside them walks (`ExprWalk`), and `Rules` are both.
+//! What modules, declarations and scopes are stands in go_module, whose types are named here again.
 #![tactic(auto)]
 
 // Laws.
