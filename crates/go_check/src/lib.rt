@@ -14,6 +14,7 @@ mod own_file;
 
 // Values, and the rules on them.
 mod broken;
+mod rulebook;
 mod values;
 mod walked;
 

@@ -14,9 +14,10 @@ ghost use Rattle.go_expr.specs.Walker.{outcomes_view};
 ghost use Rattle.go_check.specs.Lines.Found.{nodes_of_files, own_files_view};
 
 use crate::own_file::OwnFile;
+use crate::rulebook::Rulebook;
 use go_base::NoMemory;
-use go_decl::{PackageRules, headers};
-use go_expr::{Around, Walker};
+use go_decl::rounds;
+use go_expr::{Around, PackageJudge, Walker};
 use go_model::{ExprWalk, Headers};
 use go_names::{Declaration, Spec};
 use go_tree::Node;
@@ -44,10 +45,33 @@ pub fn walk_package(
         → AreWalked (means_by around.now) (headers_by around.now walked.known)
         (nodes_of_files (own_files_view files.now)) (outcomes_view walked.walker)) }
 {
-    let mut rules = headers(alloc, around, declarations)?;
-    walk_files(alloc, &mut rules, files)?;
-    let PackageRules { own, walker, .. } = rules;
+    let mut book = known_headers(alloc, around, declarations)?;
+    walk_files(alloc, &mut book, files)?;
+    let Rulebook { judge, walker } = book;
+    let PackageJudge { own, .. } = judge;
     Ok(Walked { known: own, walker })
+}
+
+// The rules of a package behind which all headers are known that its declarations have.
+fn known_headers<'a>(
+    alloc: Global,
+    around: &'a Around<'a>,
+    declarations: &[Declaration],
+) -> Result<Rulebook<'a>, NoMemory>
+    ensures around { IfOk result (λ book. book.judge.around.now ≡ around.now) }
+    ensures exact { IfOk result (λ book. (d : ℕ) (h : HeaderData)
+        → (headers_by around.now book.judge.own d ≡ Some h)
+        ↔ Known (before_by around.now) (means_by around.now) (declarations_view declarations.now) d h) }
+{
+    let mut book = Rulebook {
+        judge: PackageJudge {
+            around,
+            own: Headers::new(alloc),
+        },
+        walker: Walker::new(alloc),
+    };
+    rounds(alloc, &mut book, declarations)?;
+    Ok(book)
 }
 
 // Walks over the specs of these files, the last first.

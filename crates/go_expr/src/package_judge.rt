@@ -11,14 +11,14 @@ use go_module::ObjId;
 use go_tree::NodeId;
 
 /// What identifiers mean in a package, and the headers of its declarations so far.
-#[derive(Clone, Copy)]
+#[derive(Drop)]
 pub struct PackageJudge<'a> {
     pub around: &'a Around<'a>,
-    pub known: &'a Headers,
+    pub own: Headers,
 }
 
 impl Ask for PackageJudge<'_> {
-    ghost headers = { λ judge. headers_by judge.around.now judge.known.now };
+    ghost headers = { λ judge. headers_by judge.around.now judge.own };
 
     ghost means = { λ judge. means_by judge.around.now };
 
@@ -27,7 +27,7 @@ impl Ask for PackageJudge<'_> {
     ghost world = { λ judge. judge.around.now };
 
     fn ask(&mut self, d: ObjId) -> Result<Option<Header>, NoMemory> {
-        match self.around.header(self.known, d) {
+        match self.around.header(&self.own, d) {
             Some(header) => Ok(Some(header.clone()?)),
             None => Ok(None),
         }

@@ -30,6 +30,8 @@ mod report;
 
 // Tests.
 #[cfg(test)]
+mod headers_tests;
+#[cfg(test)]
 mod law_tests;
 
 pub use ask::Ask;

@@ -3,7 +3,7 @@ use Rattle.go_model.specs.declared.meaning.Meaning.{Meaning}
 use Rattle.go_names.specs.Views.{declarations_view}
 use Rattle.go_decl.specs.Rounds.{IsSettled}
 use Rattle.go_decl.proofs.RoundLemmas.{backed_same, backed_twice, exact_after}
-use Rattle.go_decl.proofs.rounds.add_rounds.Goals as goal
+use Rattle.go_decl.proofs.headers.add_rounds.Goals as goal
 
 pub loop-init : goal.loop-init
 loop-init g c =

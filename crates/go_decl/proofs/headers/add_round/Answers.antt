@@ -9,8 +9,8 @@ use Rattle.go_names.specs.Views.{declaration_view, declarations_view}
 use Rattle.go_decl.specs.Rounds.{IsBacked, IsSettled, open_in}
 use Rattle.go_decl.proofs.RoundLemmas.{backed_twice}
 use Rattle.go_decl.proofs.PlaceLemmas.{declared_place}
-use Rattle.go_decl.proofs.rounds.add_round.Goals as goal
-use Rattle.go_decl.proofs.rounds.add_round.Goals.{then-branch, else-branch}
+use Rattle.go_decl.proofs.headers.add_round.Goals as goal
+use Rattle.go_decl.proofs.headers.add_round.Goals.{then-branch, else-branch}
 
 pub loop-place-preserved : goal.loop-place-preserved
 loop-place-preserved g c =

@@ -8,7 +8,7 @@ use Rattle.go_model.specs.Outcomes.Walk.{Headers}
 use Rattle.go_names.specs.Views.{declaration_view, declarations_view}
 use Rattle.go_decl.specs.Rounds.{IsSettled}
 use Rattle.go_decl.proofs.RoundLemmas.{at_place, backed_one, declared_at, fewer_open, found_over, is_known, is_vacant, learnt_over, settled_none}
-use Rattle.go_decl.proofs.rounds.add_one.Goals as goal
+use Rattle.go_decl.proofs.headers.add_one.Goals as goal
 
 pub returns-then-is_some-clause-settled : goal.returns-then-is_some-clause-settled
 returns-then-is_some-clause-settled g c = λ _ d at h vacant _.

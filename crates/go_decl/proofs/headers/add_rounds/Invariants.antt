@@ -1,7 +1,7 @@
 use Rattle.std.proofs.Common.{◌≡◌}
 use Rattle.go_decl.specs.Rounds.{IsBacked, open_in}
 use Rattle.go_names.specs.Views.{declarations_view}
-use Rattle.go_decl.proofs.rounds.add_rounds.Given as goal
+use Rattle.go_decl.proofs.headers.add_rounds.Given as goal
 
 abbrev pub invariant-loop : goal.invariant-loop
 invariant-loop g l = record {

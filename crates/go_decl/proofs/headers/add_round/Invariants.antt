@@ -4,7 +4,7 @@ use Rattle.go_base.specs.declared.ids.ObjId.{ObjId}
 use Rattle.go_module.specs.Scopes.{same_object}
 use Rattle.go_decl.specs.Rounds.{IsBacked, IsSettled, open_in}
 use Rattle.go_names.specs.Views.{declarations_view}
-use Rattle.go_decl.proofs.rounds.add_round.Given as goal
+use Rattle.go_decl.proofs.headers.add_round.Given as goal
 
 abbrev pub invariant-loop-place : goal.invariant-loop-place
 invariant-loop-place g l = record {
