@@ -19,15 +19,14 @@ use Rattle.go_model.specs.Outcomes.Records.{HeaderData, RecData, declared_header
 use Rattle.go_model.specs.Outcomes.Walk.{Headers, outcome}
 use Rattle.go_model.specs.Outcomes.Walked.{AreWalked, Outcomes, nodes_of}
 use Rattle.go_model.specs.Outline.{Outline}
-use Rattle.go_model.specs.PackageLines.{declaration_defs, expr_at, line_at, record_line, told_as, written}
+use Rattle.go_model.specs.PackageLines.{declaration_defs, def_by, expr_at, expr_by, line_at, record_line, told_as, written}
 use Rattle.go_model.specs.Report.{defined}
-use Rattle.go_model.specs.Values.Records.{bound_value, header_over, record_of}
-use Rattle.go_model.specs.Values.Rules.{broken_in, broken_node, broken_spec, unequal_sides}
+use Rattle.go_model.specs.Values.Records.{bound_value, header_by, header_over, record_by, record_of}
+use Rattle.go_model.specs.Values.Rules.{broken_by, broken_in, broken_node, broken_spec, broken_spec_by, unequal_sides}
 use Rattle.go_model.proofs.FlatLemmas.{filter_within, flat_cases, flat_contains, flat_map-same, map-same, map_cases, only_is}
-use Rattle.go_expr.specs.Read.{header_by, nodes_under, outcome_read, record_by}
+use Rattle.go_expr.specs.Read.{nodes_under, outcome_read}
 use Rattle.go_expr.proofs.ReadLemmas.{read_is}
 use Rattle.go_check.specs.Lines.Found.{OwnFileData, all_specs_in, def_lines, expr_lines, import_lines, nodes_of_files}
-use Rattle.go_check.specs.Lines.Nodes.{broken_by, broken_spec_by, def_by, expr_by}
 
 -- a node is a node in itself
 self_in : (t : Tree) → Contains (nodes_in t) t

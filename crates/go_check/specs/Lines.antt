@@ -2,4 +2,3 @@
 pub mod Found
 pub mod Ordered
 pub mod Sources
-pub mod Nodes

@@ -7,9 +7,10 @@ ghost use Rattle.go_tree.specs.Tree.{tree_of};
 ghost use Rattle.go_module.specs.Broken.{broken_at};
 ghost use Rattle.go_model.specs.Outcomes.Readings.{broken_spots, part_start, spot_start};
 ghost use Rattle.go_names.specs.Views.{spec_view};
-ghost use Rattle.go_expr.specs.Read.{outcome_read, record_by};
+ghost use Rattle.go_expr.specs.Read.{outcome_read};
+ghost use Rattle.go_model.specs.Values.Records.{record_by};
 ghost use Rattle.go_expr.specs.Walker.{outcomes_view};
-ghost use Rattle.go_check.specs.Lines.Nodes.{are_unequal_by, broken_by, broken_spec_by};
+ghost use Rattle.go_model.specs.Values.Rules.{are_unequal_by, broken_by, broken_spec_by};
 
 use crate::rules::UNEQUAL_SIDES;
 use go_base::{Broken, NoMemory, Rule};

@@ -13,7 +13,7 @@ ghost use Rattle.go_names.specs.Views.{declaration_view, declarations_view, tree
 ghost use Rattle.go_check.specs.Lines.Found.{def_lines, import_lines, own_file_view};
 ghost use Rattle.go_expr.specs.Read.{outcome_read};
 ghost use Rattle.go_expr.specs.Walker.{outcomes_view};
-ghost use Rattle.go_check.specs.Lines.Nodes.{def_by};
+ghost use Rattle.go_model.specs.PackageLines.{def_by};
 ghost use Rattle.go_check.specs.View.{outline_view};
 
 use crate::outline::Outline;

@@ -11,7 +11,7 @@ ghost use Rattle.go_model.specs.Report.{line_view};
 ghost use Rattle.go_names.specs.Views.{spec_view, trees_at};
 ghost use Rattle.go_expr.specs.Read.{outcome_read};
 ghost use Rattle.go_expr.specs.Walker.{outcomes_view};
-ghost use Rattle.go_check.specs.Lines.Nodes.{expr_by};
+ghost use Rattle.go_model.specs.PackageLines.{expr_by};
 ghost use Rattle.go_check.specs.Lines.Found.{expr_lines, own_file_view};
 
 use crate::own_file::OwnFile;

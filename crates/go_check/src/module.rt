@@ -35,8 +35,8 @@ pub struct State {
 
 /// The report of a module, package after package in import order: what its names break, else what its values
 /// break, else its lines; a package is skipped where one that it imports is not accepted. The scopes of all packages
-/// are collected before values are asked. Of no package two nodes of expressions have one number, as in each module that
-/// is loaded. An error is want of memory. The count of steps stays as it is.
+/// are collected before values are asked. It asks that in no package two nodes of types or expressions have one number, as
+/// in each module that is loaded. An error is want of memory. The count of steps stays as it is.
 pub fn check_module<L: Ledger>(
     alloc: Global,
     module: &Module,

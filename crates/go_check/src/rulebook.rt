@@ -25,6 +25,8 @@ impl Ask for Rulebook<'_> {
 
     ghost means = { λ book. means_by book.judge.around.now };
 
+    ghost outcomes = { λ book. outcomes_view book.walker };
+
     ghost World = { Around };
 
     ghost world = { λ book. book.judge.around.now };
@@ -49,8 +51,6 @@ impl Sets for Rulebook<'_> {}
 impl Judge for Rulebook<'_> {}
 
 impl ExprWalk for Rulebook<'_> {
-    ghost outcomes = { λ book. outcomes_view book.walker };
-
     fn walk(&mut self, alloc: Global, node: &Node, want: Option<Ty>) -> Result<Outcome, NoMemory> {
         self.walker.walk_node(alloc, &mut self.judge, node, want)
     }

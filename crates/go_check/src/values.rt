@@ -14,7 +14,7 @@ ghost use Rattle.go_model.specs.Outcomes.Walked.{AreWalked, nodes_of};
 ghost use Rattle.go_expr.specs.Read.{outcome_read};
 ghost use Rattle.go_expr.specs.View.{places_by};
 ghost use Rattle.go_expr.specs.Walker.{outcomes_view};
-ghost use Rattle.go_check.specs.Lines.Nodes.{broken_spec_by};
+ghost use Rattle.go_model.specs.Values.Rules.{broken_spec_by};
 ghost use Rattle.go_decl.specs.Waits.{marked_by};
 
 use crate::broken::push_spec;

@@ -38,11 +38,10 @@ pub fn walk_package(
     files: &[OwnFile],
     declarations: &[Declaration],
 ) -> Result<Walked, NoMemory>
+    requires { AreNumbered (nodes_of_files (own_files_view files.now)) }
     ensures known { IfOk result (λ walked. (d : ℕ) (h : HeaderData) → (headers_by around.now walked.known d ≡ Some h)
         ↔ Known (before_by around.now) (means_by around.now) (declarations_view declarations.now) d h) }
-    ensures nodes { IfOk result (λ walked.
-        AreNumbered (nodes_of_files (own_files_view files.now))
-        → AreWalked (means_by around.now) (headers_by around.now walked.known)
+    ensures nodes { IfOk result (λ walked. AreWalked (means_by around.now) (headers_by around.now walked.known)
         (nodes_of_files (own_files_view files.now)) (outcomes_view walked.walker)) }
 {
     let mut book = known_headers(alloc, around, declarations)?;
@@ -52,7 +51,7 @@ pub fn walk_package(
     Ok(Walked { known: own, walker })
 }
 
-// The rules of a package behind which all headers are known that its declarations have.
+// A rulebook that was told all headers that the package's declarations have.
 fn known_headers<'a>(
     alloc: Global,
     around: &'a Around<'a>,
@@ -75,72 +74,72 @@ fn known_headers<'a>(
 }
 
 // Walks over the specs of these files, the last first.
-fn walk_files<W: ExprWalk>(alloc: Global, rules: &mut W, files: &[OwnFile]) -> Result<(), NoMemory>
-    ensures reached { OnOk result ((n : ℕ) → W.outcomes rules.new n
-        ≡ walked_over (W.means rules.old) (W.headers rules.old)
-        (nodes_of_files (own_files_view files.now)) (W.outcomes rules.old) n) }
-    ensures same { W.headers rules.new ≡ W.headers rules.old }
-    ensures means { W.means rules.new ≡ W.means rules.old }
-    ensures world { W.world rules.new ≡ W.world rules.old }
+fn walk_files<W: ExprWalk>(alloc: Global, walks: &mut W, files: &[OwnFile]) -> Result<(), NoMemory>
+    ensures reached { OnOk result ((n : ℕ) → W.outcomes walks.new n
+        ≡ walked_over (W.means walks.old) (W.headers walks.old)
+        (nodes_of_files (own_files_view files.now)) (W.outcomes walks.old) n) }
+    ensures same { W.headers walks.new ≡ W.headers walks.old }
+    ensures means { W.means walks.new ≡ W.means walks.old }
+    ensures world { W.world walks.new ≡ W.world walks.old }
 {
     for place in (0..files.len()).rev() {
-        walk_specs(alloc, rules, &files[place].specs)?;
+        walk_specs(alloc, walks, &files[place].specs)?;
     }
     Ok(())
 }
 
 // Walks over these specs, the last first.
-fn walk_specs<W: ExprWalk>(alloc: Global, rules: &mut W, specs: &[Spec]) -> Result<(), NoMemory>
-    ensures reached { OnOk result ((n : ℕ) → W.outcomes rules.new n
-        ≡ walked_over (W.means rules.old) (W.headers rules.old) (flat_map nodes_in_parts (specs_view specs.now))
-        (W.outcomes rules.old) n) }
-    ensures same { W.headers rules.new ≡ W.headers rules.old }
-    ensures means { W.means rules.new ≡ W.means rules.old }
-    ensures world { W.world rules.new ≡ W.world rules.old }
+fn walk_specs<W: ExprWalk>(alloc: Global, walks: &mut W, specs: &[Spec]) -> Result<(), NoMemory>
+    ensures reached { OnOk result ((n : ℕ) → W.outcomes walks.new n
+        ≡ walked_over (W.means walks.old) (W.headers walks.old) (flat_map nodes_in_parts (specs_view specs.now))
+        (W.outcomes walks.old) n) }
+    ensures same { W.headers walks.new ≡ W.headers walks.old }
+    ensures means { W.means walks.new ≡ W.means walks.old }
+    ensures world { W.world walks.new ≡ W.world walks.old }
 {
     for place in (0..specs.len()).rev() {
-        walk_spec(alloc, rules, &specs[place])?;
+        walk_spec(alloc, walks, &specs[place])?;
     }
     Ok(())
 }
 
 // Walks over the expressions and the type of a spec.
-fn walk_spec<W: ExprWalk>(alloc: Global, rules: &mut W, spec: &Spec) -> Result<(), NoMemory>
-    ensures reached { OnOk result ((n : ℕ) → W.outcomes rules.new n
-        ≡ walked_over (W.means rules.old) (W.headers rules.old) (nodes_in_parts (spec_view spec.now))
-        (W.outcomes rules.old) n) }
-    ensures same { W.headers rules.new ≡ W.headers rules.old }
-    ensures means { W.means rules.new ≡ W.means rules.old }
-    ensures world { W.world rules.new ≡ W.world rules.old }
+fn walk_spec<W: ExprWalk>(alloc: Global, walks: &mut W, spec: &Spec) -> Result<(), NoMemory>
+    ensures reached { OnOk result ((n : ℕ) → W.outcomes walks.new n
+        ≡ walked_over (W.means walks.old) (W.headers walks.old) (nodes_in_parts (spec_view spec.now))
+        (W.outcomes walks.old) n) }
+    ensures same { W.headers walks.new ≡ W.headers walks.old }
+    ensures means { W.means walks.new ≡ W.means walks.old }
+    ensures world { W.world walks.new ≡ W.world walks.old }
 {
-    walk_nodes(alloc, rules, spec.values)?;
-    walk_nodes(alloc, rules, spec.types)
+    walk_nodes(alloc, walks, spec.values)?;
+    walk_nodes(alloc, walks, spec.types)
 }
 
 // Walks over these expressions and types, the last first.
-fn walk_nodes<W: ExprWalk>(alloc: Global, rules: &mut W, nodes: &[Node]) -> Result<(), NoMemory>
-    ensures reached { OnOk result ((n : ℕ) → W.outcomes rules.new n
-        ≡ walked_over (W.means rules.old) (W.headers rules.old) (flat_map nodes_in (map tree_of nodes.now))
-        (W.outcomes rules.old) n) }
-    ensures same { W.headers rules.new ≡ W.headers rules.old }
-    ensures means { W.means rules.new ≡ W.means rules.old }
-    ensures world { W.world rules.new ≡ W.world rules.old }
+fn walk_nodes<W: ExprWalk>(alloc: Global, walks: &mut W, nodes: &[Node]) -> Result<(), NoMemory>
+    ensures reached { OnOk result ((n : ℕ) → W.outcomes walks.new n
+        ≡ walked_over (W.means walks.old) (W.headers walks.old) (flat_map nodes_in (map tree_of nodes.now))
+        (W.outcomes walks.old) n) }
+    ensures same { W.headers walks.new ≡ W.headers walks.old }
+    ensures means { W.means walks.new ≡ W.means walks.old }
+    ensures world { W.world walks.new ≡ W.world walks.old }
 {
     for place in (0..nodes.len()).rev() {
-        walk_one(alloc, rules, &nodes[place])?;
+        walk_one(alloc, walks, &nodes[place])?;
     }
     Ok(())
 }
 
 // Walks over an expression or a type.
-fn walk_one<W: ExprWalk>(alloc: Global, rules: &mut W, node: &Node) -> Result<(), NoMemory>
-    ensures reached { OnOk result ((n : ℕ) → W.outcomes rules.new n
-        ≡ walked_over (W.means rules.old) (W.headers rules.old) (nodes_in (tree_of node.now))
-        (W.outcomes rules.old) n) }
-    ensures same { W.headers rules.new ≡ W.headers rules.old }
-    ensures means { W.means rules.new ≡ W.means rules.old }
-    ensures world { W.world rules.new ≡ W.world rules.old }
+fn walk_one<W: ExprWalk>(alloc: Global, walks: &mut W, node: &Node) -> Result<(), NoMemory>
+    ensures reached { OnOk result ((n : ℕ) → W.outcomes walks.new n
+        ≡ walked_over (W.means walks.old) (W.headers walks.old) (nodes_in (tree_of node.now))
+        (W.outcomes walks.old) n) }
+    ensures same { W.headers walks.new ≡ W.headers walks.old }
+    ensures means { W.means walks.new ≡ W.means walks.old }
+    ensures world { W.world walks.new ≡ W.world walks.old }
 {
-    rules.walk(alloc, node, None)?;
+    walks.walk(alloc, node, None)?;
     Ok(())
 }

@@ -23,14 +23,13 @@ use Rattle.go_model.specs.declared.headers.Headers.{Headers as HeaderMap}
 use Rattle.go_model.specs.Outcomes.Records.{HeaderData, RecData}
 use Rattle.go_model.specs.Outcomes.Walk.{outcome}
 use Rattle.go_model.specs.Outcomes.Walked.{AreWalked, Outcomes}
-use Rattle.go_model.specs.Values.Waiting.{Chain, Waits, awaited_by, awaited_by_nodes, more, one}
+use Rattle.go_model.specs.Values.Waiting.{Chain, Waits, awaited_among, awaited_by, awaited_by_nodes, awaited_under, more, one}
 use Rattle.go_model.proofs.OutcomeLemmas.{outcome_stays}
 use Rattle.go_expr.specs.declared.around.Around.{Around}
 use Rattle.go_expr.proofs.AwaitedLemmas.{awaited_means}
 use Rattle.go_model.proofs.FlatLemmas.{flat_contains, flat_map-same, map-same}
 use Rattle.go_expr.proofs.ReadLemmas.{read_is}
-use Rattle.go_expr.specs.Read as read
-use Rattle.go_expr.specs.Read.{nodes_under}
+use Rattle.go_expr.specs.Read.{nodes_under, outcome_read}
 use Rattle.go_expr.specs.OwnHeaders.{headers_by}
 use Rattle.go_expr.specs.View.{IsAround, before_by, may_have_by, denotes_by, means_by, places_by}
 use Rattle.go_decl.specs.Waits.{awaited_places, mark_at, marked_by, place_list, waits_of}
@@ -260,13 +259,13 @@ module _ (around : Around) (own : HeaderMap) (declarations : List Declaration) (
           ap (mark_at marks) here.is ∙ (exact here.place).1 (subst (Path graph here.place) same back.path)
 
   -- by outcomes that walks left the graph is the same
-  pub read_graph : (outcomes : Outcomes) → AreWalked (means_by around) (headers_by around own) (flat_map nodes_under declarations) outcomes → waits_of (places_by around) (read.awaited_by (read.outcome_read outcomes)) declarations ≡ graph
-  read_graph outcomes walked = map-same (awaited_places (places_by around) (read.awaited_by (read.outcome_read outcomes))) found declarations each
+  pub read_graph : (outcomes : Outcomes) → AreWalked (means_by around) (headers_by around own) (flat_map nodes_under declarations) outcomes → waits_of (places_by around) (awaited_under (outcome_read outcomes)) declarations ≡ graph
+  read_graph outcomes walked = map-same (awaited_places (places_by around) (awaited_under (outcome_read outcomes))) found declarations each
     where
-      each : (d : Declaration) → Contains declarations d → awaited_places (places_by around) (read.awaited_by (read.outcome_read outcomes)) d ≡ found d
+      each : (d : Declaration) → Contains declarations d → awaited_places (places_by around) (awaited_under (outcome_read outcomes)) d ≡ found d
       each d in_d =
           ap (flat_map (place_list (places_by around)))
-          (flat_map-same (read.awaited_among (read.outcome_read outcomes)) (awaited_by_nodes (means_by around) (headers_by around own)) (rests_on d)
-          (λ t in_t. flat_map-same (λ node. awaited_in (read.outcome_read outcomes node)) (λ node. awaited_in (outcome (means_by around) (headers_by around own) node)) (nodes_in t)
+          (flat_map-same (awaited_among (outcome_read outcomes)) (awaited_by_nodes (means_by around) (headers_by around own)) (rests_on d)
+          (λ t in_t. flat_map-same (λ node. awaited_in (outcome_read outcomes node)) (λ node. awaited_in (outcome (means_by around) (headers_by around own) node)) (nodes_in t)
           (λ node in_node. ap awaited_in (read_is (means_by around) (headers_by around own) (flat_map nodes_under declarations) outcomes walked node
           (flat_contains nodes_under declarations d node in_d (flat_contains nodes_in (rests_on d) t node in_t in_node))))))

@@ -18,7 +18,7 @@ use indexmap::IndexMap;
 use std::alloc::Global;
 
 /// Finds the headers of declarations in rounds, and tells them to the rules. Of several declarations with one number
-/// the first is meant. An error is want of memory; some headers may be known then.
+/// the first is meant. An error is want of memory; some of these headers may be known then, and no others.
 pub fn rounds<R: Rules>(
     alloc: Global,
     rules: &mut R,
@@ -26,6 +26,8 @@ pub fn rounds<R: Rules>(
 ) -> Result<(), NoMemory>
     ensures exact { OnOk result ((d : ℕ) (h : HeaderData) → (R.headers rules.new d ≡ Some h)
         ↔ Known (R.headers rules.old) (R.means rules.old) (declarations_view declarations.now) d h) }
+    ensures backed { IsBacked (R.headers rules.old) (R.means rules.old) (declarations_view declarations.now)
+        (R.headers rules.new) }
     ensures means { R.means rules.new ≡ R.means rules.old }
     ensures world { R.world rules.new ≡ R.world rules.old }
 {
@@ -44,6 +46,8 @@ fn add_rounds<R: Rules>(
     requires places { ArePlaces (declarations_view declarations.now) places.now.entries }
     ensures exact { OnOk result ((d : ℕ) (h : HeaderData) → (R.headers rules.new d ≡ Some h)
         ↔ Known (R.headers rules.old) (R.means rules.old) (declarations_view declarations.now) d h) }
+    ensures backed { IsBacked (R.headers rules.old) (R.means rules.old) (declarations_view declarations.now)
+        (R.headers rules.new) }
     ensures means { R.means rules.new ≡ R.means rules.old }
     ensures world { R.world rules.new ≡ R.world rules.old }
 {
@@ -59,8 +63,8 @@ fn add_round<R: Rules>(
     declarations: &[Declaration],
 ) -> Result<bool, NoMemory>
     requires places { ArePlaces (declarations_view declarations.now) places.now.entries }
-    ensures backed { OnOk result (IsBacked (R.headers rules.old) (R.means rules.old)
-        (declarations_view declarations.now) (R.headers rules.new)) }
+    ensures backed { IsBacked (R.headers rules.old) (R.means rules.old) (declarations_view declarations.now)
+        (R.headers rules.new) }
     ensures fewer { IfOk result (λ added. IsTrue added
         → open_in (R.headers rules.new) (declarations_view declarations.now)
         < open_in (R.headers rules.old) (declarations_view declarations.now)) }
@@ -88,8 +92,8 @@ fn add_one<R: Rules>(
 ) -> Result<bool, NoMemory>
     requires places { ArePlaces (declarations_view declarations.now) places.now.entries }
     requires within { place < length declarations.now }
-    ensures backed { OnOk result (IsBacked (R.headers rules.old) (R.means rules.old)
-        (declarations_view declarations.now) (R.headers rules.new)) }
+    ensures backed { IsBacked (R.headers rules.old) (R.means rules.old) (declarations_view declarations.now)
+        (R.headers rules.new) }
     ensures fewer { IfOk result (λ added. IsTrue added
         → open_in (R.headers rules.new) (declarations_view declarations.now)
         < open_in (R.headers rules.old) (declarations_view declarations.now)) }

@@ -6,10 +6,10 @@ ghost use Rattle.go_tree.specs.Tree.{tree_of};
 ghost use Rattle.go_model.specs.declared.headers.Headers.{Headers as HeaderMap};
 ghost use Rattle.go_model.specs.Outcomes.Readings.{awaited_in};
 ghost use Rattle.go_model.specs.Outcomes.Walked.{AreWalked};
-ghost use Rattle.go_model.specs.Values.Waiting.{Chain};
+ghost use Rattle.go_model.specs.Values.Waiting.{Chain, awaited_among, awaited_under};
 ghost use Rattle.go_decl.specs.Waits.{awaited_places, marked_by, place_list, waits_of};
 ghost use Rattle.go_expr.specs.OwnHeaders.{headers_by};
-ghost use Rattle.go_expr.specs.Read.{awaited_among, awaited_by, nodes_under, outcome_read};
+ghost use Rattle.go_expr.specs.Read.{nodes_under, outcome_read};
 ghost use Rattle.go_expr.specs.View.{IsAround, means_by, places_by};
 ghost use Rattle.go_expr.specs.Walker.{outcomes_view};
 
@@ -60,7 +60,7 @@ fn waits_of(
     declarations: &[Declaration],
 ) -> Result<Vec<Numbers>, NoMemory>
     ensures { IfOk result (λ waits. waits.items ≡ waits_of (places_by around.now)
-        (awaited_by (outcome_read (outcomes_view walker.now))) (declarations_view declarations.now)) }
+        (awaited_under (outcome_read (outcomes_view walker.now))) (declarations_view declarations.now)) }
 {
     let mut waits = Vec::new(alloc);
     for declaration in declarations {
@@ -77,7 +77,7 @@ fn awaited_places(
     declaration: &Declaration,
 ) -> Result<Numbers, NoMemory>
     ensures { IfOk result (λ places. places ≡ awaited_places (places_by around.now)
-        (awaited_by (outcome_read (outcomes_view walker.now))) (declaration_view declaration.now)) }
+        (awaited_under (outcome_read (outcomes_view walker.now))) (declaration_view declaration.now)) }
 {
     let numbers = awaited_by(alloc, walker, declaration)?;
     places_in(alloc, around, numbers.as_slice())
@@ -111,7 +111,7 @@ fn awaited_by(
     declaration: &Declaration,
 ) -> Result<Numbers, NoMemory>
     ensures { IfOk result (λ numbers. numbers
-        ≡ awaited_by (outcome_read (outcomes_view walker.now)) (declaration_view declaration.now)) }
+        ≡ awaited_under (outcome_read (outcomes_view walker.now)) (declaration_view declaration.now)) }
 {
     let mut numbers = Numbers::new(alloc);
     push_awaited(alloc, walker, declaration.types, &mut numbers)?;

@@ -1,9 +1,11 @@
 -- Walks over a node and its parts, one after another.
-use Rattle.std.proofs.Common.{◌≡◌, ℕ, Option, Some, List, [], ◌∷◌, ◌++◌, map, reverse, refl, sym, ap, ◌∙◌}
+use Rattle.std.proofs.Common.{◌≡◌, ℕ, zero, suc, Bor, Option, Some, List, [], ◌∷◌, ◌++◌, Contains, drop, map, reverse, refl, sym, ap, ◌∙◌, subst}
 use Rattle.std.specs.Prelude.{◌==◌, if◌then◌else◌}
 use Rattle.std.specs.List.{flat_map}
 use Rattle.std.proofs.lemmas.List.{map-append, reverse-append}
-use Rattle.go_tree.specs.Tree.{Tree, id_of}
+use Rattle.std.proofs.lemmas.List.Elements.{Contains-append_left, Contains-append_right}
+use Rattle.go_tree.specs.declared.node.Node.{Node}
+use Rattle.go_tree.specs.Tree.{Tree, id_of, tree_of}
 use Rattle.go_module.specs.Names.Inner.{inner_parts}
 use Rattle.go_module.specs.Names.Occurrences.{nodes_in}
 use Rattle.go_model.specs.declared.meaning.Meaning.{Meaning}
@@ -12,8 +14,10 @@ use Rattle.go_model.specs.Outcomes.Judged.{OutcomeData}
 use Rattle.go_model.specs.Outcomes.Records.{RecData}
 use Rattle.go_model.specs.Outcomes.View.{outcome_view}
 use Rattle.go_model.specs.Outcomes.Walk.{Headers, outcome}
-use Rattle.go_model.specs.Outcomes.Walked.{Outcomes, walked_over}
-use Rattle.go_model.proofs.WalkedLemmas.{walked-append, walked-same}
+use Rattle.go_model.specs.Outcomes.Walked.{ArePartly, Outcomes, walked_over}
+use Rattle.go_model.proofs.WalkedLemmas.{partly_more, walked-append, walked-same}
+use Rattle.go_module.proofs.MemberLemmas.{contains_none, contains_tail}
+use Rattle.go_names.specs.Views.{trees_at}
 use Rattle.go_names.proofs.WalkLemmas.{nodes_in-inner}
 
 -- one more walk, behind those over other nodes, by the same meanings and headers
@@ -29,6 +33,29 @@ walked_more means k headers h nodes others all old mid new same_means same_heade
 -- what is told at a number that is that of a node
 pub told_at : (t : Tree) (made : OutcomeData RecData) (before : Option (OutcomeData RecData)) (id n : ℕ) → id ≡ id_of t → (if id == n then Some made else before) ≡ (if id_of t == n then Some made else before)
 told_at t made before id n is = ap (λ (k : ℕ). if k == n then Some made else before) is
+
+-- the nodes of the parts from a place on, and those of one part, are nodes of the whole
+rest_of : (n : ℕ) (parts : List (Bor Node)) (s : Tree) → Contains (flat_map nodes_in (trees_at (drop n parts))) s → Contains (flat_map nodes_in (trees_at parts)) s
+rest_of zero parts s h = h
+rest_of (suc n) [] s h = absurd (contains_none s h)
+rest_of (suc n) (part ∷ parts) s h = Contains-append_right (nodes_in (tree_of part.now)) (flat_map nodes_in (trees_at parts)) s (rest_of n parts s h)
+
+pub rest_within : (n : ℕ) (parts : List (Bor Node)) (t : Tree) → trees_at parts ≡ inner_parts t → (s : Tree) → Contains (flat_map nodes_in (trees_at (drop n parts))) s → Contains (nodes_in t) s
+rest_within n parts t are s h =
+    subst (λ (nodes : List Tree). Contains nodes s) (sym (nodes_in-inner t))
+    (contains_tail t (flat_map nodes_in (inner_parts t)) s (subst (λ (ps : List Tree). Contains (flat_map nodes_in ps) s) are (rest_of n parts s h)))
+
+pub part_within : (n : ℕ) (parts : List (Bor Node)) (part : Bor Node) (rest : List (Bor Node)) (t : Tree) → trees_at parts ≡ inner_parts t → part ∷ rest ≡ drop n parts → (s : Tree) → Contains (nodes_in (tree_of part.now)) s → Contains (nodes_in t) s
+part_within n parts part rest t are at s h =
+    rest_within n parts t are s
+    (subst (λ (ps : List (Bor Node)). Contains (flat_map nodes_in (trees_at ps)) s) at (Contains-append_left (nodes_in (tree_of part.now)) (flat_map nodes_in (trees_at rest)) s h))
+
+-- a walk over a part that broke off, by the same meanings and headers
+pub partly_next : (means k : ℕ → Meaning) (headers h : Headers) (part node : Tree) (old mid new : Outcomes) → k ≡ means → h ≡ headers → ((s : Tree) → Contains (nodes_in part) s → Contains (nodes_in node) s)
+    → ArePartly means headers (nodes_in node) old mid → ArePartly k h (nodes_in part) mid new → ArePartly means headers (nodes_in node) old new
+partly_next means k headers h part node old mid new same_means same_headers within so_far last =
+    partly_more means headers (nodes_in part) (nodes_in node) old mid new within so_far
+    (subst (λ (m : ℕ → Meaning). ArePartly m headers (nodes_in part) mid new) same_means (subst (λ (hs : Headers). ArePartly k hs (nodes_in part) mid new) same_headers last))
 
 module _ (means : ℕ → Meaning) (headers : Headers) where
   -- the nodes of a walk may be named otherwise

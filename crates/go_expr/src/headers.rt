@@ -8,7 +8,7 @@ ghost use Rattle.go_model.specs.Outcomes.Records.{header_view, rec_view};
 ghost use Rattle.go_model.specs.Outcomes.View.{outcome_view};
 ghost use Rattle.go_model.specs.Values.Records as records;
 ghost use Rattle.go_names.specs.Views.{declaration_view};
-ghost use Rattle.go_expr.specs.Read as read;
+ghost use Rattle.go_expr.specs.Read.{outcome_read};
 ghost use Rattle.go_expr.specs.Walker.{outcomes_view};
 
 use crate::walker::Walker;
@@ -22,17 +22,17 @@ use std::alloc::Global;
 /// The header of a declaration over the headers that are known, which stay as they are. An error is want of memory.
 pub fn header_over<W: ExprWalk>(
     alloc: Global,
-    rules: &mut W,
+    walks: &mut W,
     declaration: &Declaration,
 ) -> Result<Option<Header>, NoMemory>
-    ensures header { IfOk result (λ header. option_map header_view header ≡ records.header_over (W.means rules.old)
-        (W.headers rules.old) (declaration_view declaration.now)) }
-    ensures same { W.headers rules.new ≡ W.headers rules.old }
-    ensures means { W.means rules.new ≡ W.means rules.old }
-    ensures world { W.world rules.new ≡ W.world rules.old }
+    ensures header { IfOk result (λ header. option_map header_view header ≡ records.header_over (W.means walks.old)
+        (W.headers walks.old) (declaration_view declaration.now)) }
+    ensures same { W.headers walks.new ≡ W.headers walks.old }
+    ensures means { W.means walks.new ≡ W.means walks.old }
+    ensures world { W.world walks.new ≡ W.world walks.old }
 {
     match bound_value(declaration) {
-        Some(value) => Ok(declared_header(record_in(rules.walk(alloc, value, None)?))),
+        Some(value) => Ok(declared_header(record_in(walks.walk(alloc, value, None)?))),
         None => Ok(None),
     }
 }
@@ -40,7 +40,7 @@ pub fn header_over<W: ExprWalk>(
 /// The header of a declaration by the outcomes of walks. An error is want of memory.
 pub fn header_by(walker: &Walker, declaration: &Declaration) -> Result<Option<Header>, NoMemory>
     ensures { IfOk result (λ header. option_map header_view header
-        ≡ read.header_by (read.outcome_read (outcomes_view walker.now)) (declaration_view declaration.now)) }
+        ≡ records.header_by (outcome_read (outcomes_view walker.now)) (declaration_view declaration.now)) }
 {
     match bound_value(declaration) {
         Some(value) => header_of(walker.found(value.id())),

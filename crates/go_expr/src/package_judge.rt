@@ -1,5 +1,6 @@
 // The headers that are known so far, as a judge of expressions.
 ghost use Rattle.std.specs.Prelude.{◌≡◌};
+ghost use Rattle.go_model.specs.Outcomes.Walked.{no_outcomes};
 ghost use Rattle.go_expr.specs.declared.around.Around.{Around};
 ghost use Rattle.go_expr.specs.OwnHeaders.{headers_by};
 ghost use Rattle.go_expr.specs.View.{means_by};
@@ -21,6 +22,9 @@ impl Ask for PackageJudge<'_> {
     ghost headers = { λ judge. headers_by judge.around.now judge.own };
 
     ghost means = { λ judge. means_by judge.around.now };
+
+    // A judge does not walk.
+    ghost outcomes = { λ _. no_outcomes };
 
     ghost World = { Around };
 

@@ -1,5 +1,5 @@
 // Walks over expressions and types, node by node (Go specification, "Expressions").
-ghost use Rattle.std.specs.Prelude.{◌≡◌, ℕ, None, IfOk, OnOk, map};
+ghost use Rattle.std.specs.Prelude.{◌≡◌, ℕ, None, IfOk, OnErr, OnOk, map};
 ghost use Rattle.std.specs.Prelude.{option_and_then};
 ghost use Rattle.std.specs.Option.{option_map};
 ghost use Rattle.go_tree.specs.Tree.{tree_of};
@@ -8,7 +8,7 @@ ghost use Rattle.go_model.specs.Outcomes.Readings.{record_in};
 ghost use Rattle.go_model.specs.Outcomes.Records.{rec_view};
 ghost use Rattle.go_model.specs.Outcomes.View.{outcome_view};
 ghost use Rattle.go_model.specs.Outcomes.Walk as walk;
-ghost use Rattle.go_model.specs.Outcomes.Walked.{walked_over};
+ghost use Rattle.go_model.specs.Outcomes.Walked.{ArePartly, walked_over};
 ghost use Rattle.go_expr.specs.Outcomes.{both_of, only_of, outcome_by_parts};
 ghost use Rattle.go_expr.specs.Outcomes.{parentheses_by_parts, selector_by_parts, sum_by_parts};
 ghost use Rattle.go_expr.specs.Walker.{outcomes_view};
@@ -43,8 +43,9 @@ impl Walker {
     }
 
     /// The outcome of a node over the headers of the judge, which stays as it is, also on an error. The walk reaches the
-    /// node and each expression and type in it. `_want` is the type of the variable or the result to which the value is
-    /// given; nothing is built yet that looks at it. An error is want of memory; some outcomes may be new then.
+    /// node and all nodes in it, the name of a package before a `.` too. `_want` is the type of the variable or the result
+    /// to which the value is given; nothing is built yet that looks at it. An error is want of memory; some of these nodes
+    /// may have their outcomes then.
     pub fn walk_node<J: Judge>(
         &mut self,
         alloc: Global,
@@ -56,6 +57,8 @@ impl Walker {
             ≡ walk.outcome (J.means judge.old) (J.headers judge.old) (tree_of node.now)) }
         ensures reached { OnOk result ((n : ℕ) → outcomes_view self.new n ≡ walked_over (J.means judge.old)
             (J.headers judge.old) (nodes_in (tree_of node.now)) (outcomes_view self.old) n) }
+        ensures err { OnErr result (ArePartly (J.means judge.old) (J.headers judge.old) (nodes_in (tree_of node.now))
+            (outcomes_view self.old) (outcomes_view self.new)) }
         ensures same { J.headers judge.new ≡ J.headers judge.old }
         ensures means { J.means judge.new ≡ J.means judge.old }
         ensures world { J.world judge.new ≡ J.world judge.old }
@@ -70,7 +73,8 @@ impl Walker {
         self.table.get(&id)
     }
 
-    /// The record of a node by its outcome, None exactly where no walk gave it one.
+    /// The record of a node, None exactly where the last walk that reached it gave it none, or none did. Over more headers
+    /// records stay.
     pub fn found(&self, id: NodeId) -> Option<&Rec>
         ensures { option_map (λ rec. rec_view rec.now) result
             ≡ option_and_then record_in (outcomes_view self.now id.0) }
@@ -96,6 +100,8 @@ fn walk<J: Judge>(
         ≡ walk.outcome (J.means judge.old) (J.headers judge.old) (tree_of node.now)) }
     ensures reached { OnOk result ((n : ℕ) → outcomes_view walker.new n ≡ walked_over (J.means judge.old)
         (J.headers judge.old) (nodes_in (tree_of node.now)) (outcomes_view walker.old) n) }
+    ensures err { OnErr result (ArePartly (J.means judge.old) (J.headers judge.old) (nodes_in (tree_of node.now))
+        (outcomes_view walker.old) (outcomes_view walker.new)) }
     ensures same { J.headers judge.new ≡ J.headers judge.old }
     ensures means { J.means judge.new ≡ J.means judge.old }
     ensures world { J.world judge.new ≡ J.world judge.old }

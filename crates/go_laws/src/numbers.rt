@@ -13,8 +13,7 @@ pub fn node_numbers_ascend()
     ensures { (own stubs : Folder) (m : ModuleData) → IsModule own stubs m → NodeNumbersAscend m }
 {}
 
-/// In a module that is loaded no two nodes of the types and the expressions of a package's declarations have one number,
-/// so outcomes that are kept by number are those of their nodes.
+/// In a module that is loaded no two nodes of the types and the expressions of a package's declarations have one number.
 pub fn nodes_are_numbered()
     ensures { (own stubs : Folder) (m : ModuleData) → IsModule own stubs m → NodesAreNumbered m }
 {}

@@ -1,5 +1,5 @@
 -- What walks leave: one walk after another, and that each node has its outcome where a number tells its node.
-use Rattle.std.proofs.Common.{◌≡◌, ℕ, Bool, true, false, Option, Some, List, [], ◌∷◌, ◌++◌, refl, ap, ⊎_elim, arith}
+use Rattle.std.proofs.Common.{◌≡◌, ℕ, Bool, true, false, Option, Some, List, [], ◌∷◌, ◌++◌, refl, ap, ⊎_elim, arith, ◌∙◌}
 use Rattle.std.specs.Prelude.{◌==◌, Contains, if◌then◌else◌}
 use Rattle.std.proofs.lemmas.Bool.Decides.{nat_tests}
 use Rattle.go_tree.specs.Tree.{Tree, id_of}
@@ -8,7 +8,7 @@ use Rattle.go_model.specs.declared.meaning.Meaning.{Meaning}
 use Rattle.go_model.specs.Outcomes.Judged.{OutcomeData}
 use Rattle.go_model.specs.Outcomes.Records.{RecData}
 use Rattle.go_model.specs.Outcomes.Walk.{Headers, outcome}
-use Rattle.go_model.specs.Outcomes.Walked.{AreNumbered, AreWalked, Outcomes, walked_over}
+use Rattle.go_model.specs.Outcomes.Walked.{AreNumbered, ArePartly, AreWalked, IsLeft, Outcomes, as_before, of_node, walked_over}
 
 module _ (means : ℕ → Meaning) (headers : Headers) where
   -- a walk over some nodes behind a walk over others is one over both
@@ -38,3 +38,32 @@ module _ (means : ℕ → Meaning) (headers : Headers) where
       among : (us : List Tree) → ((u : Tree) → Contains us u → Contains nodes u) → Contains us t → walked_over means headers us before (id_of t) ≡ Some (outcome means headers t)
       among [] within i = absurd (contains_none t i)
       among (u ∷ us) within i = found u us (within u (contains_head u us u refl)) (among us (λ v j. within v (contains_tail u us v j))) i (id_of u == id_of t) refl
+
+  -- a walk over some nodes leaves of each number what it had, or the outcome of one of them
+  walked_cases : (nodes : List Tree) (before : Outcomes) (n : ℕ) → IsLeft means headers nodes before (walked_over means headers nodes before) n
+  walked_cases [] before n = as_before refl
+  walked_cases (x ∷ xs) before n = by_number (id_of x == n) refl (walked_cases xs before n)
+    where
+      by_number : (b : Bool) → (id_of x == n) ≡ b → IsLeft means headers xs before (walked_over means headers xs before) n → IsLeft means headers (x ∷ xs) before (walked_over means headers (x ∷ xs) before) n
+      by_number true e later = of_node x (contains_head x xs x refl) (grind (arith, nat_tests)) (ap (λ b. if b then Some (outcome means headers x) else walked_over means headers xs before n) e)
+      by_number false e (as_before was) = as_before (ap (λ b. if b then Some (outcome means headers x) else walked_over means headers xs before n) e ∙ was)
+      by_number false e (of_node t h at is) = of_node t (contains_tail x xs t h) at (ap (λ b. if b then Some (outcome means headers x) else walked_over means headers xs before n) e ∙ is)
+
+  pub partly_walked : (nodes all : List Tree) (before after : Outcomes) → ((t : Tree) → Contains nodes t → Contains all t) → ((n : ℕ) → after n ≡ walked_over means headers nodes before n) → ArePartly means headers all before after
+  partly_walked nodes all before after within now n = by_case (walked_cases nodes before n)
+    where
+      by_case : IsLeft means headers nodes before (walked_over means headers nodes before) n → IsLeft means headers all before after n
+      by_case (as_before was) = as_before (now n ∙ was)
+      by_case (of_node t h at is) = of_node t (within t h) at (now n ∙ is)
+
+  -- where nothing is walked, and behind one walk more that broke off
+  pub partly_same : (nodes : List Tree) (before : Outcomes) → ArePartly means headers nodes before before
+  partly_same nodes before n = as_before refl
+
+  pub partly_more : (nodes all : List Tree) (before mid after : Outcomes) → ((t : Tree) → Contains nodes t → Contains all t) → ArePartly means headers all before mid → ArePartly means headers nodes mid after → ArePartly means headers all before after
+  partly_more nodes all before mid after within first last n = by_case (last n) (first n)
+    where
+      by_case : IsLeft means headers nodes mid after n → IsLeft means headers all before mid n → IsLeft means headers all before after n
+      by_case (of_node t h at is) so_far = of_node t (within t h) at is
+      by_case (as_before same) (as_before was) = as_before (same ∙ was)
+      by_case (as_before same) (of_node t h at is) = of_node t h at (same ∙ is)

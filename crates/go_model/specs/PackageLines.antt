@@ -24,8 +24,9 @@ use Rattle.go_model.specs.Outline.{Outline, declared_at, named_by, path_at}
 use Rattle.go_model.specs.LineOrder.{AreInOrder}
 use Rattle.go_model.specs.Report.{DefinedData, constant, imported, WhatData, defined, used, expression, LineData, NamedData}
 use Rattle.go_model.specs.Outcomes.Records.{HeaderData, RecData, constant as ConstantHeader}
-use Rattle.go_model.specs.Outcomes.Walk.{Headers}
-use Rattle.go_model.specs.Values.Records.{header_over, record_of}
+use Rattle.go_model.specs.Outcomes.Judged.{OutcomeData}
+use Rattle.go_model.specs.Outcomes.Walk.{Headers, outcome}
+use Rattle.go_model.specs.Values.Records.{header_by, record_by}
 
 -- the specs that are written, and no copies
 abbrev pub written : List Spec → List Spec
@@ -50,9 +51,13 @@ import_defs outline stub f i = import_defs_in outline stub f i.imported (parts_o
 abbrev pub told_as : HeaderData → DefinedData
 told_as (ConstantHeader type value) = constant type value
 
+-- by whatever says which outcome a node has
+abbrev pub def_by : (Tree → OutcomeData RecData) → Bool → FileData → Declaration → List LineData
+def_by outcome stub f d =
+    option_map_or (λ h. line_at stub f (start_of d.name) (defined (name_text d.name) (told_as h)) ∷ []) (header_by outcome d) []
+
 abbrev pub declaration_defs : Bool → FileData → (ℕ → Meaning) → Headers → Declaration → List LineData
-declaration_defs stub f means headers d =
-    option_map_or (λ h. line_at stub f (start_of d.name) (defined (name_text d.name) (told_as h)) ∷ []) (header_over means headers d) []
+declaration_defs stub f means headers d = def_by (outcome means headers) stub f d
 
 abbrev pub defs_in : Outline → Bool → (ℕ → Meaning) → Headers → ℕ → FileData → List Importing → List LineData
 defs_in outline stub means headers file f imports =
@@ -87,8 +92,11 @@ abbrev pub record_line : Bool → FileData → ℕ → ℕ → Option RecData �
 record_line stub f from to found =
     option_map_or (λ r. line_at stub f from (expression (record { line = line_of f.bytes to; col = column_of f.bytes to }) r.mode r.type r.value) ∷ []) found []
 
+abbrev pub expr_by : (Tree → OutcomeData RecData) → Bool → FileData → Tree → List LineData
+expr_by outcome stub f t = record_line stub f (start_of t) (end_of t) (record_by outcome t)
+
 abbrev pub expr_at : Bool → FileData → (ℕ → Meaning) → Headers → Tree → List LineData
-expr_at stub f means headers t = record_line stub f (start_of t) (end_of t) (record_of means headers t)
+expr_at stub f means headers t = expr_by (outcome means headers) stub f t
 
 abbrev pub exprs_in : Bool → (ℕ → Meaning) → Headers → ℕ → FileData → List LineData
 exprs_in stub means headers file f = flat_map (expr_at stub f means headers) (flat_map nodes_in_parts (written (specs_in_file file f.tree)))

@@ -4,6 +4,7 @@ ghost use Rattle.std.specs.Option.{option_map};
 ghost use Rattle.go_model.specs.declared.meaning.Meaning.{Meaning};
 ghost use Rattle.go_model.specs.Outcomes.Records.{header_view};
 ghost use Rattle.go_model.specs.Outcomes.Walk as walk;
+ghost use Rattle.go_model.specs.Outcomes.Walked.{Outcomes};
 
 use crate::header::Header;
 use go_base::NoMemory;
@@ -18,6 +19,10 @@ pub trait Ask {
     /// the map knows no identifiers. It stands here, since a call of `ask` keeps it.
     ghost means: { Self → ℕ → Meaning };
 
+    /// The outcomes that walks over expressions left, by the numbers of nodes; nothing where no walk keeps any. They stand
+    /// here, since a call of `ask` keeps them.
+    ghost outcomes: { Self → Outcomes };
+
     /// What stays while headers are asked and told: its type.
     ghost World: { Type 0 };
 
@@ -25,10 +30,11 @@ pub trait Ask {
     ghost world: { Self → World };
 
     /// The header of a declaration, None exactly where the map has none. An error is want of memory. The map, the
-    /// meanings, and what else stays are as before, also on an error.
+    /// meanings, the outcomes, and what else stays are as before, also on an error.
     fn ask(&mut self, d: ObjId) -> Result<Option<Header>, NoMemory>
         ensures answer { IfOk result (λ header. option_map header_view header ≡ headers self.old d.0) }
         ensures same { headers self.new ≡ headers self.old }
         ensures means { means self.new ≡ means self.old }
+        ensures outcomes { outcomes self.new ≡ outcomes self.old }
         ensures world { world self.new ≡ world self.old };
 }

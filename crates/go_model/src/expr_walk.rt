@@ -1,11 +1,11 @@
 // Walks over expressions (Go specification, "Expressions").
-ghost use Rattle.std.specs.Prelude.{◌≡◌, ℕ, IfOk, OnOk};
+ghost use Rattle.std.specs.Prelude.{◌≡◌, ℕ, IfOk, OnErr, OnOk};
 ghost use Rattle.std.specs.Option.{option_map};
 ghost use Rattle.go_tree.specs.Tree.{tree_of};
 ghost use Rattle.go_module.specs.Names.Occurrences.{nodes_in};
 ghost use Rattle.go_model.specs.Outcomes.View.{outcome_view};
 ghost use Rattle.go_model.specs.Outcomes.Walk as walk;
-ghost use Rattle.go_model.specs.Outcomes.Walked.{Outcomes, walked_over};
+ghost use Rattle.go_model.specs.Outcomes.Walked.{ArePartly, walked_over};
 
 use crate::ask::Ask;
 use crate::outcome::Outcome;
@@ -16,22 +16,22 @@ use std::alloc::Global;
 
 /// Who walks over expressions and types, and keeps the outcomes of their nodes.
 pub trait ExprWalk: Ask {
-    /// The outcome of each node in the last walk that reached it, by the node's number.
-    ghost outcomes: { Self → Outcomes };
-
-    /// The outcome of a node over the headers, which stay, as the meanings do, also on an error. The walk reaches the node
-    /// and each expression and type in it. `want` is the type of the variable or the result to which the value is given;
-    /// nothing is built yet that looks at it. An error is want of memory; some of the outcomes may be new then.
+    /// The outcome of a node over the headers, which stay, as the meanings do, also on an error. The walk reaches the
+    /// node and all nodes in it, the name of a package before a `.` too. `want` is the type of the variable or the result
+    /// to which the value is given; nothing is built yet that looks at it. An error is want of memory; some of
+    /// these nodes may have their outcomes then.
     fn walk(&mut self, alloc: Global, node: &Node, want: Option<Ty>) -> Result<Outcome, NoMemory>
         ensures outcome { IfOk result (λ found. outcome_view found
             ≡ walk.outcome (Self.means self.old) (Self.headers self.old) (tree_of node.now)) }
-        ensures reached { OnOk result ((n : ℕ) → outcomes self.new n ≡ walked_over (Self.means self.old)
-            (Self.headers self.old) (nodes_in (tree_of node.now)) (outcomes self.old) n) }
+        ensures reached { OnOk result ((n : ℕ) → Self.outcomes self.new n ≡ walked_over (Self.means self.old)
+            (Self.headers self.old) (nodes_in (tree_of node.now)) (Self.outcomes self.old) n) }
+        ensures err { OnErr result (ArePartly (Self.means self.old) (Self.headers self.old)
+            (nodes_in (tree_of node.now)) (Self.outcomes self.old) (Self.outcomes self.new)) }
         ensures same { Self.headers self.new ≡ Self.headers self.old }
         ensures means { Self.means self.new ≡ Self.means self.old }
         ensures world { Self.world self.new ≡ Self.world self.old };
 
     /// The outcome of a node in the last walk that reached it, None exactly where none did.
     fn outcome(&self, id: NodeId) -> Option<&Outcome>
-        ensures { option_map (λ found. outcome_view found.now) result ≡ outcomes self.now id.0 };
+        ensures { option_map (λ found. outcome_view found.now) result ≡ Self.outcomes self.now id.0 };
 }

@@ -3,6 +3,7 @@ ghost use Rattle.std.specs.Prelude.{◌≡◌, ℕ, [], ◌∷◌, None, OnErr, 
 ghost use Rattle.std.specs.Option.{option_map};
 ghost use Rattle.go_model.specs.declared.meaning.Meaning.TheVariants.{Other};
 ghost use Rattle.go_model.specs.Outcomes.Records.{header_view};
+ghost use Rattle.go_model.specs.Outcomes.Walked.{no_outcomes};
 ghost use Rattle.go_model.specs.Values.Headers.{headers_of};
 ghost use Rattle.go_model.specs.Values.HeadersView.{headers_view};
 
@@ -53,6 +54,9 @@ impl Ask for Headers {
 
     // A map alone knows no identifiers.
     ghost means = { λ _ _. Other };
+
+    // Nor does it walk.
+    ghost outcomes = { λ _. no_outcomes };
 
     ghost World = { Unit {0} };
 

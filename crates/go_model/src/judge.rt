@@ -33,12 +33,14 @@ pub trait Judge: Sets {}
 
 /// A judge that walks over expressions and is told headers.
 pub trait Rules: Judge + ExprWalk {
-    /// Adds the header of a declaration that has none. An error is want of memory, and leaves the headers as they were.
+    /// Adds the header of a declaration that has none. The meanings, the outcomes, and what else stays are as before. An
+    /// error is want of memory, and leaves the headers as they were.
     fn learn(&mut self, d: ObjId, header: &Header) -> Result<(), NoMemory>
         requires { Self.headers self.old d.0 ≡ None }
         ensures learned { OnOk result ((e : ℕ) → Self.headers self.new e
             ≡ headers_of (Self.headers self.old) ((d.0, header_view header.now) ∷ []) e) }
         ensures err { OnErr result ((e : ℕ) → Self.headers self.new e ≡ Self.headers self.old e) }
         ensures means { Self.means self.new ≡ Self.means self.old }
+        ensures outcomes { Self.outcomes self.new ≡ Self.outcomes self.old }
         ensures world { Self.world self.new ≡ Self.world self.old };
 }

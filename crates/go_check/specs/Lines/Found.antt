@@ -13,10 +13,9 @@ use Rattle.go_model.specs.declared.declared_object.DeclaredObject.{DeclaredObjec
 use Rattle.go_model.specs.Outcomes.Judged.{OutcomeData}
 use Rattle.go_model.specs.Outcomes.Records.{RecData}
 use Rattle.go_model.specs.Outline.{Outline, declared_by}
-use Rattle.go_model.specs.PackageLines.{import_defs_in, occurrence_uses, written}
+use Rattle.go_model.specs.PackageLines.{def_by, expr_by, import_defs_in, occurrence_uses, written}
 use Rattle.go_model.specs.Report.{LineData}
 use Rattle.go_names.specs.Views.{specs_view, trees_at}
-use Rattle.go_check.specs.Lines.Nodes.{def_by, expr_by}
 use Rattle.go_check.specs.declared.own_file.OwnFile.{OwnFile}
 
 -- a file of a package: whether it lies below the root of stubs, its import specs, the packages that these name, and

@@ -20,11 +20,19 @@ Outcomes = ℕ → Option (OutcomeData RecData)
 abbrev pub no_outcomes : Outcomes
 no_outcomes n = None
 
--- behind a walk that reached these nodes: of several with one number the outcome of the first, and of the others that
--- before
+-- behind a walk that reached these nodes: at the number of a node its outcome, of several with one number that of the
+-- first; a number of none of them keeps what it had
 abbrev pub walked_over : (ℕ → Meaning) → Headers → List Tree → Outcomes → Outcomes
 walked_over means headers [] before n = before n
 walked_over means headers (t ∷ ts) before n = if id_of t == n then Some (outcome means headers t) else walked_over means headers ts before n
+
+-- what a number has behind a walk over these nodes that broke off: what it had, or the outcome of one of the nodes
+pub data IsLeft (means : ℕ → Meaning) (headers : Headers) (nodes : List Tree) (before after : Outcomes) (n : ℕ) : Type 0 where
+  as_before : after n ≡ before n → IsLeft means headers nodes before after n
+  of_node : (t : Tree) → Contains nodes t → id_of t ≡ n → after n ≡ Some (outcome means headers t) → IsLeft means headers nodes before after n
+
+abbrev pub ArePartly : (ℕ → Meaning) → Headers → List Tree → Outcomes → Outcomes → Type 0
+ArePartly means headers nodes before after = (n : ℕ) → IsLeft means headers nodes before after n
 
 -- each of these nodes has its outcome over the headers
 abbrev pub AreWalked : (ℕ → Meaning) → Headers → List Tree → Outcomes → Type 0

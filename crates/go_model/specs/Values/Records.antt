@@ -7,13 +7,14 @@ use Rattle.go_model.specs.declared.meaning.Meaning.{Meaning}
 use Rattle.go_module.specs.declared.declaration.Built.{Built}
 use Rattle.go_module.specs.declared.declaration.Built.TheVariants.{Itself, Pair, WholeList}
 use Rattle.go_module.specs.Names.Declarations.{Declaration}
+use Rattle.go_model.specs.Outcomes.Judged.{OutcomeData}
 use Rattle.go_model.specs.Outcomes.Readings.{record_in}
 use Rattle.go_model.specs.Outcomes.Records.{HeaderData, RecData, declared_header}
 use Rattle.go_model.specs.Outcomes.Walk.{Headers, outcome}
 
--- the record of an expression over the headers, where it has one
-abbrev pub record_of : (ℕ → Meaning) → Headers → Tree → Option RecData
-record_of means headers t = record_in (outcome means headers t)
+-- by whatever says which outcome a node has: the record of an expression, where it has one
+abbrev pub record_by : (Tree → OutcomeData RecData) → Tree → Option RecData
+record_by outcome t = record_in (outcome t)
 
 -- the expression whose value a declaration has: that which stands for its name
 abbrev pub bound_value : Built → List Tree → Option Tree
@@ -21,6 +22,13 @@ bound_value Pair values = slice_get values 0
 bound_value WholeList values = None
 bound_value Itself values = None
 
--- the header of a declaration over the headers: by the record of the expression whose value it has
+-- and the header of a declaration, by the record of the expression whose value it has
+abbrev pub header_by : (Tree → OutcomeData RecData) → Declaration → Option HeaderData
+header_by outcome d = option_and_then declared_header (option_and_then (record_by outcome) (bound_value d.built d.values))
+
+-- both over the headers
+abbrev pub record_of : (ℕ → Meaning) → Headers → Tree → Option RecData
+record_of means headers t = record_by (outcome means headers) t
+
 abbrev pub header_over : (ℕ → Meaning) → Headers → Declaration → Option HeaderData
-header_over means headers d = option_and_then declared_header (option_and_then (record_of means headers) (bound_value d.built d.values))
+header_over means headers d = header_by (outcome means headers) d

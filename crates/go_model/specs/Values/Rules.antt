@@ -13,9 +13,11 @@ use Rattle.go_module.specs.Places.{with_number}
 use Rattle.go_module.specs.Modules.Module.{PackageData}
 use Rattle.go_module.specs.Names.Declarations.{Declaration, Spec, declarations_of, number_of, specs_of}
 use Rattle.go_module.specs.Names.Occurrences.{nodes_in}
+use Rattle.go_model.specs.Outcomes.Judged.{OutcomeData}
 use Rattle.go_model.specs.Outcomes.Readings.{broken_spots}
+use Rattle.go_model.specs.Outcomes.Records.{RecData}
 use Rattle.go_model.specs.Outcomes.Walk.{Headers, outcome}
-use Rattle.go_model.specs.Values.Records.{record_of}
+use Rattle.go_model.specs.Values.Records.{record_by}
 
 abbrev pub cyclic_declaration : Rule
 cyclic_declaration = record { family = C; number = 1 }
@@ -30,24 +32,38 @@ cyclic_at cyclic d = told_if cyclic (broken_at d.file (start_of d.name) cyclic_d
 abbrev pub broken_cycles : (ℕ → Bool) → List Declaration → List Broken
 broken_cycles cyclic declarations = flat_map (λ d. cyclic_at (cyclic (number_of d).0) d) declarations
 
--- what a node breaks, by its outcome, in the file at a place among those of its package: told where the node breaks it, or
--- at the offset at which a copy is told
+-- by whatever says which outcome a node has: what the nodes of an expression or a type break, in the file at a place among
+-- those of its package: told where a node breaks it, or at the offset at which a copy is told
+module _ (outcome : Tree → OutcomeData RecData) where
+  abbrev pub broken_by : ℕ → Option ℕ → Tree → List Broken
+  broken_by file told t = flat_map (λ node. broken_spots file told node (outcome node)) (nodes_in t)
+
+  -- R37: the spec whose numbers of names and of expressions differ, where all its expressions have records
+  abbrev pub are_unequal_by : List Tree → List Tree → Bool
+  are_unequal_by names values = not (length names == length values) && list_all (λ value. is_some (record_by outcome value)) values
+
+  abbrev pub unequal_by : Spec → List Broken
+  unequal_by spec = told_if (are_unequal_by spec.names spec.values) (broken_at spec.file (start_of spec.node) unequal_sides)
+
+  -- what a spec breaks
+  abbrev pub broken_spec_by : Spec → List Broken
+  broken_spec_by spec = unequal_by spec ++ flat_map (broken_by spec.file spec.told_at) (spec.types ++ spec.values)
+
+-- what a node, the nodes of an expression or a type, and a spec break over the headers
 abbrev pub broken_node : ℕ → Option ℕ → (ℕ → Meaning) → Headers → Tree → List Broken
 broken_node file told means headers t = broken_spots file told t (outcome means headers t)
 
 abbrev pub broken_in : ℕ → Option ℕ → (ℕ → Meaning) → Headers → Tree → List Broken
-broken_in file told means headers t = flat_map (broken_node file told means headers) (nodes_in t)
+broken_in file told means headers t = broken_by (outcome means headers) file told t
 
--- R37: the spec whose numbers of names and of expressions differ, where all its expressions have records
 abbrev pub are_unequal : (ℕ → Meaning) → Headers → List Tree → List Tree → Bool
-are_unequal means headers names values = not (length names == length values) && list_all (λ value. is_some (record_of means headers value)) values
+are_unequal means headers names values = are_unequal_by (outcome means headers) names values
 
 abbrev pub unequal_at : (ℕ → Meaning) → Headers → Spec → List Broken
-unequal_at means headers spec = told_if (are_unequal means headers spec.names spec.values) (broken_at spec.file (start_of spec.node) unequal_sides)
+unequal_at means headers spec = unequal_by (outcome means headers) spec
 
--- what a spec breaks
 abbrev pub broken_spec : (ℕ → Meaning) → Headers → Spec → List Broken
-broken_spec means headers spec = unequal_at means headers spec ++ flat_map (broken_in spec.file spec.told_at means headers) (spec.types ++ spec.values)
+broken_spec means headers spec = broken_spec_by (outcome means headers) spec
 
 -- what the values of a package break, by the places of its files
 abbrev pub broken_in_files : (ℕ → Meaning) → Headers → (ℕ → Bool) → PackageData → List Broken

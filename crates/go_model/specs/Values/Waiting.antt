@@ -6,17 +6,26 @@ use Rattle.go_tree.specs.Tree.{Tree}
 use Rattle.go_model.specs.declared.meaning.Meaning.{Meaning}
 use Rattle.go_module.specs.Names.Declarations.{Declaration, rests_on}
 use Rattle.go_module.specs.Names.Occurrences.{nodes_in}
+use Rattle.go_model.specs.Outcomes.Judged.{OutcomeData}
 use Rattle.go_model.specs.Outcomes.Readings.{awaited_in}
+use Rattle.go_model.specs.Outcomes.Records.{RecData}
 use Rattle.go_model.specs.Outcomes.Walk.{Headers, outcome}
 use Rattle.go_model.specs.Values.Declared.{declared_as}
 
--- the declarations whose headers the nodes of an expression or a type wait for
-abbrev pub awaited_by_nodes : (ℕ → Meaning) → Headers → Tree → List ℕ
-awaited_by_nodes means headers t = flat_map (λ node. awaited_in (outcome means headers node)) (nodes_in t)
+-- by whatever says which outcome a node has: the declarations whose headers the nodes of an expression or a type wait for
+abbrev pub awaited_among : (Tree → OutcomeData RecData) → Tree → List ℕ
+awaited_among outcome t = flat_map (λ node. awaited_in (outcome node)) (nodes_in t)
 
--- those for which nodes wait in the parts that the header of a declaration rests on
+-- and those for which nodes wait in the parts that the header of a declaration rests on
+abbrev pub awaited_under : (Tree → OutcomeData RecData) → Declaration → List ℕ
+awaited_under outcome d = flat_map (awaited_among outcome) (rests_on d)
+
+-- both over the headers
+abbrev pub awaited_by_nodes : (ℕ → Meaning) → Headers → Tree → List ℕ
+awaited_by_nodes means headers t = awaited_among (outcome means headers) t
+
 abbrev pub awaited_by : (ℕ → Meaning) → Headers → Declaration → List ℕ
-awaited_by means headers d = flat_map (awaited_by_nodes means headers) (rests_on d)
+awaited_by means headers d = awaited_under (outcome means headers) d
 
 -- the declaration d waits for the declaration e: a node of the parts that its header rests on waits for the header of e
 pub record Waits (means : ℕ → Meaning) (declarations : List Declaration) (headers : Headers) (d e : ℕ) : Type 0 where

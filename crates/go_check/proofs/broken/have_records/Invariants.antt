@@ -1,7 +1,8 @@
 use Rattle.std.proofs.Common.{◌≡◌, drop, is_some, map}
 use Rattle.std.specs.List.{list_all}
 use Rattle.go_tree.specs.Tree.{tree_of}
-use Rattle.go_expr.specs.Read.{outcome_read, record_by}
+use Rattle.go_expr.specs.Read.{outcome_read}
+use Rattle.go_model.specs.Values.Records.{record_by}
 use Rattle.go_expr.specs.Walker.{outcomes_view}
 use Rattle.go_check.proofs.broken.have_records.Given as goal
 

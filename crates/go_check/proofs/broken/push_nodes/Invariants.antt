@@ -3,7 +3,7 @@ use Rattle.std.specs.List.{flat_map}
 use Rattle.go_tree.specs.Tree.{tree_of}
 use Rattle.go_expr.specs.Read.{outcome_read}
 use Rattle.go_expr.specs.Walker.{outcomes_view}
-use Rattle.go_check.specs.Lines.Nodes.{broken_by}
+use Rattle.go_model.specs.Values.Rules.{broken_by}
 use Rattle.go_check.proofs.broken.push_nodes.Given as goal
 
 abbrev pub invariant-loop-node : goal.invariant-loop-node

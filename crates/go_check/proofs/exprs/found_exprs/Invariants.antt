@@ -6,7 +6,7 @@ use Rattle.go_module.specs.Names.Occurrences.{nodes_in_parts}
 use Rattle.go_names.specs.Views.{specs_view}
 use Rattle.go_expr.specs.Read.{outcome_read}
 use Rattle.go_expr.specs.Walker.{outcomes_view}
-use Rattle.go_check.specs.Lines.Nodes.{expr_by}
+use Rattle.go_model.specs.PackageLines.{expr_by}
 use Rattle.go_check.proofs.exprs.found_exprs.Given as goal
 
 -- what is pushed, with the lines of the specs left, are those of all specs

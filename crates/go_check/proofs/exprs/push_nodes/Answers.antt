@@ -4,7 +4,7 @@ use Rattle.go_module.specs.Modules.Module.{file_view}
 use Rattle.go_model.specs.Report.{line_view}
 use Rattle.go_expr.specs.Read.{outcome_read}
 use Rattle.go_expr.specs.Walker.{outcomes_view}
-use Rattle.go_check.specs.Lines.Nodes.{expr_by}
+use Rattle.go_model.specs.PackageLines.{expr_by}
 use Rattle.go_check.proofs.ExprLemmas.{nodes_more}
 use Rattle.go_check.proofs.FoundLemmas.{drop-step}
 use Rattle.go_check.proofs.exprs.push_nodes.Goals as goal

@@ -1,6 +1,5 @@
 use Rattle.std.proofs.Common.{List, ◌++◌, map, drop}
-use Rattle.go_model.specs.Report.{line_view}
-use Rattle.go_model.specs.Report.{LineData}
+use Rattle.go_model.specs.Report.{LineData, line_view}
 use Rattle.go_model.specs.LineOrder.{AreInOrder}
 use Rattle.go_check.specs.Lines.Found.{expr_lines, own_files_view}
 use Rattle.go_expr.specs.Read.{outcome_read}

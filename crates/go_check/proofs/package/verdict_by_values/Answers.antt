@@ -22,6 +22,9 @@ use Rattle.go_check.proofs.ValueLemmas.{nodes_are}
 use Rattle.go_check.proofs.VerdictLemmas.{breaks, denotes_are, means_are, refused_values, sound_names, sound_verdict}
 use Rattle.go_check.proofs.package.verdict_by_values.Goals as goal
 
+pub walk_package-requires : goal.walk_package-requires
+walk_package-requires c = subst AreNumbered (nodes_are (own_files_view c.args.files.now) (package_view c.args.own.now) c.requires.files) c.requires.numbered
+
 pub returns-then-breaks_none : goal.returns-then-breaks_none
 returns-then-breaks_none c =
     let p = package_view c.args.own.now in
@@ -33,7 +36,7 @@ returns-then-breaks_none c =
     let headers = headers_by around known in
     let outcomes = outcomes_view c.in_ok-walked.walked.walker in
     let nodes = nodes_are (own_files_view c.args.files.now) p c.requires.files in
-    let walked : AreWalked means headers (nodes_of p) outcomes = subst (λ ts. AreWalked means headers ts outcomes) (sym nodes) (c.in_ok-walked.ensures.nodes (subst AreNumbered nodes c.requires.numbered)) in
+    let walked : AreWalked means headers (nodes_of p) outcomes = subst (λ ts. AreWalked means headers ts outcomes) (sym nodes) c.in_ok-walked.ensures.nodes in
     let cyclic = marked_by (places_by around) c.in_ok-cyclic.cyclic.items in
     let list = c.in_ok-list.list.items in
     let chains = c.in_ok-cyclic.ensures.exact known (under_walked means headers outcomes p declarations c.requires.declarations walked) in
@@ -63,7 +66,7 @@ returns c m k at outline uses =
     let headers = headers_by around known in
     let outcomes = outcomes_view c.in_ok-walked.walked.walker in
     let nodes = nodes_are (own_files_view c.args.files.now) p c.requires.files in
-    let walked : AreWalked means headers (nodes_of p) outcomes = subst (λ ts. AreWalked means headers ts outcomes) (sym nodes) (c.in_ok-walked.ensures.nodes (subst AreNumbered nodes c.requires.numbered)) in
+    let walked : AreWalked means headers (nodes_of p) outcomes = subst (λ ts. AreWalked means headers ts outcomes) (sym nodes) c.in_ok-walked.ensures.nodes in
     let cyclic = marked_by (places_by around) c.in_ok-cyclic.cyclic.items in
     let list = c.in_ok-list.list.items in
     let chains = c.in_ok-cyclic.ensures.exact known (under_walked means headers outcomes p declarations c.requires.declarations walked) in

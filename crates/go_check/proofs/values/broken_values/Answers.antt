@@ -4,10 +4,9 @@ use Rattle.go_module.specs.Modules.Module.{file_view, package_view}
 use Rattle.go_module.specs.Names.Declarations.{declarations_of, specs_of}
 use Rattle.go_module.specs.Order.{IsListOf}
 use Rattle.go_module.specs.Places.{with_number}
-use Rattle.go_model.specs.Values.Rules.{broken_cycles, broken_in_files, broken_values}
+use Rattle.go_model.specs.Values.Rules.{broken_cycles, broken_in_files, broken_spec_by, broken_values}
 use Rattle.go_names.specs.Views.{declarations_view}
 use Rattle.go_check.specs.Lines.Found.{all_specs_in, own_files_view}
-use Rattle.go_check.specs.Lines.Nodes.{broken_spec_by}
 use Rattle.go_expr.specs.Read.{outcome_read}
 use Rattle.go_expr.specs.View.{places_by}
 use Rattle.go_expr.specs.Walker.{outcomes_view}

@@ -1,6 +1,6 @@
 use Rattle.std.proofs.Common.{◌≡◌, ◌++◌, drop}
 use Rattle.std.specs.List.{flat_map}
-use Rattle.go_check.specs.Lines.Nodes.{broken_spec_by}
+use Rattle.go_model.specs.Values.Rules.{broken_spec_by}
 use Rattle.go_check.specs.Lines.Found.{all_specs_in, own_files_view}
 use Rattle.go_expr.specs.Read.{outcome_read}
 use Rattle.go_expr.specs.Walker.{outcomes_view}

@@ -1,5 +1,5 @@
 use Rattle.std.proofs.Common.{arith}
-use Rattle.go_check.specs.Lines.Nodes.{broken_spec_by}
+use Rattle.go_model.specs.Values.Rules.{broken_spec_by}
 use Rattle.go_names.specs.Views.{spec_view}
 use Rattle.go_expr.specs.Read.{outcome_read}
 use Rattle.go_expr.specs.Walker.{outcomes_view}

@@ -25,9 +25,9 @@ loop-place-preserved g c =
       same = c.walk_specs.ensures.same ∙ inv.same;
       means = c.walk_specs.ensures.means ∙ inv.means;
       world = c.walk_specs.ensures.world ∙ inv.world;
-      reached = walked_more (g.W.Ask.means c.args.rules.now) (g.W.Ask.means c.loop-place.rules) (g.W.Ask.headers c.args.rules.now) (g.W.Ask.headers c.loop-place.rules)
+      reached = walked_more (g.W.Ask.means c.args.walks.now) (g.W.Ask.means c.loop-place.walks) (g.W.Ask.headers c.args.walks.now) (g.W.Ask.headers c.loop-place.walks)
           (flat_map nodes_in_parts (specs_view c.deref.result.now)) (nodes_of_files rest) (nodes_of_files (own_files_view (drop i files)))
-          (g.W.ExprWalk.outcomes c.args.rules.now) (g.W.ExprWalk.outcomes c.loop-place.rules) (g.W.ExprWalk.outcomes c.walk_specs.new.rules) inv.means inv.same
+          (g.W.Ask.outcomes c.args.walks.now) (g.W.Ask.outcomes c.loop-place.walks) (g.W.Ask.outcomes c.walk_specs.new.walks) inv.means inv.same
           (ap (λ (l : List Spec). flat_map nodes_in_parts (specs_view l) ++ nodes_of_files rest) c.deref.ensures.value
           ∙ ap (λ (f : OwnFile). flat_map nodes_in_parts (specs_view f.specs.items) ++ nodes_of_files rest) (sym c.index-files-place.is)
           ∙ sym (flat_map-append nodes_in_parts own (all_specs_in rest))

@@ -8,8 +8,8 @@ use Rattle.go_check.proofs.walked.walk_nodes.Given as goal
 -- what stands from the place on is walked, the last first
 abbrev pub invariant-loop-place : goal.invariant-loop-place
 invariant-loop-place g l = record {
-  same : g.W.Ask.headers l.rules ≡ g.W.Ask.headers l.fn.rules;
-  means : g.W.Ask.means l.rules ≡ g.W.Ask.means l.fn.rules;
-  world : g.W.Ask.world l.rules ≡ g.W.Ask.world l.fn.rules;
-  reached : (n : ℕ) → g.W.ExprWalk.outcomes l.rules n ≡ walked_over (g.W.Ask.means l.fn.rules) (g.W.Ask.headers l.fn.rules) (flat_map nodes_in (map tree_of (drop l.place l.nodes))) (g.W.ExprWalk.outcomes l.fn.rules) n;
+  same : g.W.Ask.headers l.walks ≡ g.W.Ask.headers l.fn.walks;
+  means : g.W.Ask.means l.walks ≡ g.W.Ask.means l.fn.walks;
+  world : g.W.Ask.world l.walks ≡ g.W.Ask.world l.fn.walks;
+  reached : (n : ℕ) → g.W.Ask.outcomes l.walks n ≡ walked_over (g.W.Ask.means l.fn.walks) (g.W.Ask.headers l.fn.walks) (flat_map nodes_in (map tree_of (drop l.place l.nodes))) (g.W.Ask.outcomes l.fn.walks) n;
 }

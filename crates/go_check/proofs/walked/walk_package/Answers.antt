@@ -15,7 +15,7 @@ pub returns-clause-known : goal.returns-clause-known
 returns-clause-known c d h =
     let around = c.args.around.now in
     let book = c.in_ok-book.book in
-    let after = c.walk_files.new.rules in
+    let after = c.walk_files.new.walks in
     let here : book.judge.around.now ≡ around = c.in_ok-book.ensures.around in
     let there : after.judge.around.now ≡ around = c.walk_files.ensures.world ∙ here in
     let same : headers_by around after.judge.own ≡ headers_by around book.judge.own =
@@ -23,15 +23,15 @@ returns-clause-known c d h =
     subst (λ (m : Headers). (m d ≡ Some h) ↔ Known (before_by around) (means_by around) (declarations_view c.args.declarations.now) d h) (sym same) (c.in_ok-book.ensures.exact d h)
 
 pub returns-clause-nodes : goal.returns-clause-nodes
-returns-clause-nodes c numbered t h =
+returns-clause-nodes c t h =
     let around = c.args.around.now in
     let book = c.in_ok-book.book in
-    let after = c.walk_files.new.rules in
+    let after = c.walk_files.new.walks in
     let nodes = nodes_of_files (own_files_view c.args.files.now) in
     let here : book.judge.around.now ≡ around = c.in_ok-book.ensures.around in
     let there : after.judge.around.now ≡ around = c.walk_files.ensures.world ∙ here in
     let same : headers_by book.judge.around.now book.judge.own ≡ headers_by around after.judge.own =
     sym c.walk_files.ensures.same ∙ ap (λ (a : Around). headers_by a after.judge.own) there in
     c.in_ok-walk_files.ensures.reached (id_of t)
-    ∙ are_walked (means_by book.judge.around.now) (headers_by book.judge.around.now book.judge.own) nodes numbered (outcomes_view book.walker) t h
+    ∙ are_walked (means_by book.judge.around.now) (headers_by book.judge.around.now book.judge.own) nodes c.requires (outcomes_view book.walker) t h
     ∙ (λ i. Some (outcome (means_by (here i)) (same i) t))

@@ -12,8 +12,8 @@ returns-clause-reached g c =
     let spec = spec_view c.args.spec.now in
     OnOk-map c.walk_nodes-2.result _ _
     (λ now.
-    walked_more (g.W.Ask.means c.args.rules.now) (g.W.Ask.means c.walk_nodes.new.rules) (g.W.Ask.headers c.args.rules.now) (g.W.Ask.headers c.walk_nodes.new.rules)
+    walked_more (g.W.Ask.means c.args.walks.now) (g.W.Ask.means c.walk_nodes.new.walks) (g.W.Ask.headers c.args.walks.now) (g.W.Ask.headers c.walk_nodes.new.walks)
     (flat_map nodes_in spec.types) (flat_map nodes_in spec.values) (flat_map nodes_in (spec.types ++ spec.values))
-    (g.W.ExprWalk.outcomes c.args.rules.now) (g.W.ExprWalk.outcomes c.walk_nodes.new.rules) (g.W.ExprWalk.outcomes c.walk_nodes-2.new.rules)
+    (g.W.Ask.outcomes c.args.walks.now) (g.W.Ask.outcomes c.walk_nodes.new.walks) (g.W.Ask.outcomes c.walk_nodes-2.new.walks)
     c.walk_nodes.ensures.means c.walk_nodes.ensures.same (sym (flat_map-append nodes_in spec.types spec.values)) c.in_ok-walk_nodes.ensures.reached now)
     c.walk_nodes-2.ensures.reached

@@ -20,8 +20,8 @@ loop-place-preserved g c =
       same = c.walk_spec.ensures.same ∙ inv.same;
       means = c.walk_spec.ensures.means ∙ inv.means;
       world = c.walk_spec.ensures.world ∙ inv.world;
-      reached = walked_more (g.W.Ask.means c.args.rules.now) (g.W.Ask.means c.loop-place.rules) (g.W.Ask.headers c.args.rules.now) (g.W.Ask.headers c.loop-place.rules)
+      reached = walked_more (g.W.Ask.means c.args.walks.now) (g.W.Ask.means c.loop-place.walks) (g.W.Ask.headers c.args.walks.now) (g.W.Ask.headers c.loop-place.walks)
           (nodes_in_parts (spec_view x)) (flat_map nodes_in_parts (specs_view (drop c.loop-place.place xs))) (flat_map nodes_in_parts (specs_view (drop i xs)))
-          (g.W.ExprWalk.outcomes c.args.rules.now) (g.W.ExprWalk.outcomes c.loop-place.rules) (g.W.ExprWalk.outcomes c.walk_spec.new.rules) inv.means inv.same
+          (g.W.Ask.outcomes c.args.walks.now) (g.W.Ask.outcomes c.loop-place.walks) (g.W.Ask.outcomes c.walk_spec.new.walks) inv.means inv.same
           (ap (λ (l : List Spec). flat_map nodes_in_parts (specs_view l)) at) inv.reached c.in_ok-walk_spec.ensures.reached;
     }

@@ -35,11 +35,11 @@ returns-in_ok-learn-in-Some-clause-backed g c =
     let h = header_view c.in-Some.header in
     let there = declared_at c.args.declarations.now c.args.place c.index-declarations-place.result c.requires.within c.index-declarations-place.is in
     let is = at_place declarations c.args.places.now.entries c.requires.places d c.args.place (c.stands_at.ensures.0 c.if-not-stands_at.false) declaration there in
-    let kept : g.R.Ask.headers c.header_over.new.rules ≡ headers = c.header_over.ensures.same ∙ c.ask.ensures.same in
+    let kept : g.R.Ask.headers c.header_over.new.walks ≡ headers = c.header_over.ensures.same ∙ c.ask.ensures.same in
     backed_one headers means declarations (g.R.Ask.headers c.learn.new.self) d.0 h declaration is.declared
     (is_vacant c.in_ok-ask.field-0 (headers d.0) c.if-is_some.ensures c.in_ok-ask.ensures.answer)
     (found_over means (g.R.Ask.means c.ask.new.self) headers (g.R.Ask.headers c.ask.new.self) declaration c.in_ok-header.field-0 (Some c.in-Some.header) c.ask.ensures.means c.ask.ensures.same c.in_ok-header.ensures.header c.in-Some.is)
-    (learnt_over headers (g.R.Ask.headers c.header_over.new.rules) (g.R.Ask.headers c.learn.new.self) d.0 h kept c.in_ok-learn-in-Some.ensures.learned)
+    (learnt_over headers (g.R.Ask.headers c.header_over.new.walks) (g.R.Ask.headers c.learn.new.self) d.0 h kept c.in_ok-learn-in-Some.ensures.learned)
 
 pub returns-in_ok-learn-in-Some-clause-fewer : goal.returns-in_ok-learn-in-Some-clause-fewer
 returns-in_ok-learn-in-Some-clause-fewer g c = λ _.
@@ -50,9 +50,9 @@ returns-in_ok-learn-in-Some-clause-fewer g c = λ _.
     let h = header_view c.in-Some.header in
     let there = declared_at c.args.declarations.now c.args.place c.index-declarations-place.result c.requires.within c.index-declarations-place.is in
     let is = at_place declarations c.args.places.now.entries c.requires.places d c.args.place (c.stands_at.ensures.0 c.if-not-stands_at.false) declaration there in
-    let kept : g.R.Ask.headers c.header_over.new.rules ≡ headers = c.header_over.ensures.same ∙ c.ask.ensures.same in
+    let kept : g.R.Ask.headers c.header_over.new.walks ≡ headers = c.header_over.ensures.same ∙ c.ask.ensures.same in
     fewer_open headers (g.R.Ask.headers c.learn.new.self) d.0 h
-    (learnt_over headers (g.R.Ask.headers c.header_over.new.rules) (g.R.Ask.headers c.learn.new.self) d.0 h kept c.in_ok-learn-in-Some.ensures.learned)
+    (learnt_over headers (g.R.Ask.headers c.header_over.new.walks) (g.R.Ask.headers c.learn.new.self) d.0 h kept c.in_ok-learn-in-Some.ensures.learned)
     declarations declaration is.declared
     (is_vacant c.in_ok-ask.field-0 (headers d.0) c.if-is_some.ensures c.in_ok-ask.ensures.answer)
 
@@ -64,6 +64,6 @@ returns-in-None-clause-settled g c = λ _ d at.
     let declaration = declaration_view c.index-declarations-place.result in
     let there = declared_at c.args.declarations.now c.args.place c.index-declarations-place.result c.requires.within c.index-declarations-place.is in
     let is = at_place declarations c.args.places.now.entries c.requires.places d c.args.place at declaration there in
-    let kept : g.R.Ask.headers c.header_over.new.rules ≡ headers = c.header_over.ensures.same ∙ c.ask.ensures.same in
+    let kept : g.R.Ask.headers c.header_over.new.walks ≡ headers = c.header_over.ensures.same ∙ c.ask.ensures.same in
     subst (λ (m : Headers). IsSettled m means declarations m d.0) (sym kept)
     (settled_none headers means declarations d.0 declaration is.declared (found_over means (g.R.Ask.means c.ask.new.self) headers (g.R.Ask.headers c.ask.new.self) declaration c.in_ok-header.field-0 None c.ask.ensures.means c.ask.ensures.same c.in_ok-header.ensures.header c.in-None.is))

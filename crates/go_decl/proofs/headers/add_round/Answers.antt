@@ -52,3 +52,8 @@ returns-clause-settled g c = λ e d h vacant follows.
     let same = length-map c.args.declarations.now declaration_view in
     let here : lookup (same_object (record { 0 = d })) c.args.places.now.entries ≡ Some at.place = c.requires.places (record { 0 = d }) ∙ at.is in
     c.loop-place.invariant.settled e at.place (omega arith) (record { 0 = d }) here h vacant follows
+
+pub returns-in_err-add_one-clause-backed : goal.returns-in_err-add_one-clause-backed
+returns-in_err-add_one-clause-backed g c =
+    backed_twice (g.R.Ask.headers c.args.rules.now) (g.R.Ask.means c.args.rules.now) (declarations_view c.args.declarations.now) (g.R.Ask.headers c.loop-place.rules) (g.R.Ask.headers c.add_one.new.rules) (g.R.Ask.means c.loop-place.rules)
+    c.loop-place.invariant.means c.loop-place.invariant.backed c.add_one.ensures.backed

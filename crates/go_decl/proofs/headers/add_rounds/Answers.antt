@@ -32,3 +32,13 @@ returns-clause-exact g c =
     exact_after old means declarations headers
     (backed_twice old means declarations (g.R.Ask.headers c.loop.rules) headers (g.R.Ask.means c.loop.rules) inv.means inv.backed did.backed)
     (subst (λ (k : ℕ → Meaning). (d : ℕ) → IsSettled headers k declarations headers d) inv.means (did.settled c.if-branch.false))
+
+pub returns-in_err-add_round-clause-backed : goal.returns-in_err-add_round-clause-backed
+returns-in_err-add_round-clause-backed g c =
+    backed_twice (g.R.Ask.headers c.args.rules.now) (g.R.Ask.means c.args.rules.now) (declarations_view c.args.declarations.now) (g.R.Ask.headers c.loop.rules) (g.R.Ask.headers c.add_round.new.rules) (g.R.Ask.means c.loop.rules)
+    c.loop.invariant.means c.loop.invariant.backed c.add_round.ensures.backed
+
+pub returns-clause-backed : goal.returns-clause-backed
+returns-clause-backed g c =
+    backed_twice (g.R.Ask.headers c.args.rules.now) (g.R.Ask.means c.args.rules.now) (declarations_view c.args.declarations.now) (g.R.Ask.headers c.loop.rules) (g.R.Ask.headers c.add_round.new.rules) (g.R.Ask.means c.loop.rules)
+    c.loop.invariant.means c.loop.invariant.backed c.add_round.ensures.backed

@@ -2,7 +2,8 @@ use Rattle.std.proofs.Common.{sym, ◌∙◌, subst}
 use Rattle.std.proofs.lemmas.Result.{IfOk-weaker}
 use Rattle.go_graph.specs.Graph.{Graph, IsGraph, Path}
 use Rattle.go_names.specs.Views.{declarations_view}
-use Rattle.go_expr.specs.Read.{awaited_by, outcome_read}
+use Rattle.go_model.specs.Values.Waiting.{awaited_under}
+use Rattle.go_expr.specs.Read.{outcome_read}
 use Rattle.go_expr.specs.Walker.{outcomes_view}
 use Rattle.go_decl.proofs.WaitLemmas.{marks_are_chains, read_graph, waits_graph}
 use Rattle.go_decl.proofs.waits.cyclic_declarations.Goals as goal
@@ -10,7 +11,7 @@ use Rattle.go_decl.proofs.waits.cyclic_declarations.Goals as goal
 pub cyclic_vertices-requires : goal.cyclic_vertices-requires
 cyclic_vertices-requires c =
     let same = c.deref.ensures.value ∙ c.in_ok-waits.ensures in
-    subst IsGraph (sym same) (waits_graph c.args.around.now (declarations_view c.args.declarations.now) c.requires (awaited_by (outcome_read (outcomes_view c.args.walker.now))))
+    subst IsGraph (sym same) (waits_graph c.args.around.now (declarations_view c.args.declarations.now) c.requires (awaited_under (outcome_read (outcomes_view c.args.walker.now))))
 
 pub returns-clause-exact : goal.returns-clause-exact
 returns-clause-exact c =

@@ -1,4 +1,4 @@
-use Rattle.std.proofs.Common.{◌≡◌, ◌-◌, ◌∷◌, Bor, List, drop, map, reverse, refl, sym, ap, ◌∙◌, suc, arith}
+use Rattle.std.proofs.Common.{◌≡◌, ◌-◌, ◌∷◌, Bor, List, drop, map, reverse, refl, sym, ap, ◌∙◌, subst, suc, arith}
 use Rattle.std.specs.Map.{lookup}
 use Rattle.std.specs.Option.{option_map}
 use Rattle.std.proofs.Math.Seq.{drop-cons}
@@ -17,7 +17,10 @@ use Rattle.go_names.specs.Views.{trees_at}
 use Rattle.go_expr.specs.Outcomes.{outcome_by_parts}
 use Rattle.go_expr.specs.Walker.{outcomes_view}
 use Rattle.go_expr.proofs.NodeOutcomeLemmas.{by_parts_is}
-use Rattle.go_expr.proofs.WalkerLemmas.{map-reverse, node_done, outcomes_more, parts_done, told_at, walked_more}
+use Rattle.go_expr.proofs.WalkerLemmas.{map-reverse, node_done, outcomes_more, part_within, partly_next, parts_done, rest_within, told_at, walked_more}
+use Rattle.go_model.proofs.WalkedLemmas.{partly_walked}
+use Rattle.go_model.specs.Outcomes.Walked.{ArePartly}
+use Rattle.go_expr.proofs.ResultLemmas.{on_err}
 use Rattle.go_expr.proofs.walker.+walk.Goals as goal
 
 pub walk-requires : goal.walk-requires
@@ -81,3 +84,71 @@ returns-clause-reached g t c =
     ap (λ es. option_map outcome_view (lookup (same_node (record { 0 = n })) es)) c.in_ok-insert.ensures.entries
     ∙ mapped_behind_node outcome_view c.loop-place.walker.table.entries c.id.result c.in_ok-clone.field-0 n
     ∙ told_at node (outcome_view c.in_ok-clone.field-0) (outcomes_view c.loop-place.walker n) c.id.result.0 n c.id.ensures)
+
+-- where it breaks off: in the walk over a part, and behind it; and behind the walks over all parts
+
+pub returns-in_err-walk-clause-err : goal.returns-in_err-walk-clause-err
+returns-in_err-walk-clause-err g t c =
+    let inv = c.loop-place.invariant in
+    let means = g.J.Ask.means c.args.judge.now in
+    let headers = g.J.Ask.headers c.args.judge.now in
+    let node = tree_of c.args.node.now in
+    let inner = c.in_ok-inner.inner.items in
+    let so_far = partly_walked means headers (flat_map nodes_in (trees_at (drop c.loop-place.place inner))) (nodes_in node) (outcomes_view c.args.walker.now) (outcomes_view c.loop-place.walker) (rest_within c.loop-place.place inner node c.in_ok-inner.ensures) inv.reached in
+    let i = c.loop-place.place - 1 in
+    let part = c.index.result.now in
+    let next : suc i ≡ c.loop-place.place = omega arith in
+    let at : part ∷ drop c.loop-place.place inner ≡ drop i inner =
+    sym (drop-cons inner i part (omega (arith, c.in_ok-inner.inner.ok.0)) ∙ (λ j. sym c.index.ensures j ∷ drop (next j) inner)) in
+    let next_walk = partly_next means (g.J.Ask.means c.loop-place.judge) headers (g.J.Ask.headers c.loop-place.judge) (tree_of part.now) node (outcomes_view c.args.walker.now) (outcomes_view c.loop-place.walker) (outcomes_view c.walk.new.walker)
+    inv.means inv.same (part_within i inner part (drop c.loop-place.place inner) node c.in_ok-inner.ensures at) so_far in
+    on_err c.from_residual-in_err-walk.result _ (next_walk c.in_err-walk.ensures.err)
+
+pub returns-in_err-push-clause-err : goal.returns-in_err-push-clause-err
+returns-in_err-push-clause-err g t c =
+    let inv = c.loop-place.invariant in
+    let means = g.J.Ask.means c.args.judge.now in
+    let headers = g.J.Ask.headers c.args.judge.now in
+    let node = tree_of c.args.node.now in
+    let inner = c.in_ok-inner.inner.items in
+    let so_far = partly_walked means headers (flat_map nodes_in (trees_at (drop c.loop-place.place inner))) (nodes_in node) (outcomes_view c.args.walker.now) (outcomes_view c.loop-place.walker) (rest_within c.loop-place.place inner node c.in_ok-inner.ensures) inv.reached in
+    let i = c.loop-place.place - 1 in
+    let part = c.index.result.now in
+    let next : suc i ≡ c.loop-place.place = omega arith in
+    let at : part ∷ drop c.loop-place.place inner ≡ drop i inner =
+    sym (drop-cons inner i part (omega (arith, c.in_ok-inner.inner.ok.0)) ∙ (λ j. sym c.index.ensures j ∷ drop (next j) inner)) in
+    let next_walk = partly_next means (g.J.Ask.means c.loop-place.judge) headers (g.J.Ask.headers c.loop-place.judge) (tree_of part.now) node (outcomes_view c.args.walker.now) (outcomes_view c.loop-place.walker) (outcomes_view c.walk.new.walker)
+    inv.means inv.same (part_within i inner part (drop c.loop-place.place inner) node c.in_ok-inner.ensures at) so_far in
+    on_err c.from_residual-in_err-push.result _
+    (next_walk (partly_walked (g.J.Ask.means c.loop-place.judge) (g.J.Ask.headers c.loop-place.judge) (nodes_in (tree_of part.now)) (nodes_in (tree_of part.now)) (outcomes_view c.loop-place.walker) (outcomes_view c.walk.new.walker) (λ s h. h) c.in_ok-walk.ensures.reached))
+
+pub returns-in_err-made-clause-err : goal.returns-in_err-made-clause-err
+returns-in_err-made-clause-err g t c =
+    let inv = c.loop-place.invariant in
+    let means = g.J.Ask.means c.args.judge.now in
+    let headers = g.J.Ask.headers c.args.judge.now in
+    let node = tree_of c.args.node.now in
+    let inner = c.in_ok-inner.inner.items in
+    let so_far = partly_walked means headers (flat_map nodes_in (trees_at (drop c.loop-place.place inner))) (nodes_in node) (outcomes_view c.args.walker.now) (outcomes_view c.loop-place.walker) (rest_within c.loop-place.place inner node c.in_ok-inner.ensures) inv.reached in
+    on_err c.from_residual-in_err-made.result _ so_far
+
+pub returns-in_err-clone-clause-err : goal.returns-in_err-clone-clause-err
+returns-in_err-clone-clause-err g t c =
+    let inv = c.loop-place.invariant in
+    let means = g.J.Ask.means c.args.judge.now in
+    let headers = g.J.Ask.headers c.args.judge.now in
+    let node = tree_of c.args.node.now in
+    let inner = c.in_ok-inner.inner.items in
+    let so_far = partly_walked means headers (flat_map nodes_in (trees_at (drop c.loop-place.place inner))) (nodes_in node) (outcomes_view c.args.walker.now) (outcomes_view c.loop-place.walker) (rest_within c.loop-place.place inner node c.in_ok-inner.ensures) inv.reached in
+    on_err c.from_residual-in_err-clone.result _ so_far
+
+pub returns-in_err-insert-clause-err : goal.returns-in_err-insert-clause-err
+returns-in_err-insert-clause-err g t c =
+    let inv = c.loop-place.invariant in
+    let means = g.J.Ask.means c.args.judge.now in
+    let headers = g.J.Ask.headers c.args.judge.now in
+    let node = tree_of c.args.node.now in
+    let inner = c.in_ok-inner.inner.items in
+    let so_far = partly_walked means headers (flat_map nodes_in (trees_at (drop c.loop-place.place inner))) (nodes_in node) (outcomes_view c.args.walker.now) (outcomes_view c.loop-place.walker) (rest_within c.loop-place.place inner node c.in_ok-inner.ensures) inv.reached in
+    on_err c.from_residual-in_err-insert.result _
+    (subst (λ es. ArePartly means headers (nodes_in node) (outcomes_view c.args.walker.now) (λ n. option_map outcome_view (lookup (same_node (record { 0 = n })) es))) (sym c.in_err-insert.ensures.err) so_far)
