@@ -29,23 +29,33 @@ fn words(alloc: Global, texts: &[&str]) -> Result<Vec<Word>, AllocError> {
     Ok(words)
 }
 
-// These files in memory, where no two of them have one path.
-fn mem_files(alloc: Global, files: &[File]) -> Result<Vec<MemFile>, Fail>
+fn mem_file(alloc: Global, root: &str, path: &str, text: &str) -> Result<MemFile, AllocError> {
+    Ok(MemFile {
+        root: word(alloc, root)?,
+        path: Name::new(String::from_str(alloc, path)?),
+        bytes: Bytes::new(text.as_bytes().to_vec(alloc)?),
+    })
+}
+
+// These files, where no two of them have one path.
+fn distinct(list: Vec<MemFile>) -> Result<Vec<MemFile>, Fail>
     ensures { IfOk result (λ list. HasDistinctPaths list.items) }
 {
-    let mut list = Vec::new(alloc);
-    for (root, path, text) in files {
-        list.push(MemFile {
-            root: word(alloc, root)?,
-            path: Name::new(String::from_str(alloc, path)?),
-            bytes: Bytes::new(text.as_bytes().to_vec(alloc)?),
-        })?;
-    }
     if has_distinct_paths(&list) {
         Ok(list)
     } else {
         Err(Fail::from("two files of one path"))
     }
+}
+
+fn mem_files(alloc: Global, files: &[File]) -> Result<Vec<MemFile>, Fail>
+    ensures { IfOk result (λ list. HasDistinctPaths list.items) }
+{
+    let mut list = Vec::new(alloc);
+    for (root, path, text) in files {
+        list.push(mem_file(alloc, root, path, text)?)?;
+    }
+    distinct(list)
 }
 
 fn counted_run<L: Ledger, T: Tree, S: Sink>(
@@ -136,11 +146,12 @@ fn a_put_that_fails_leaves_a_prefix(rt: HostRuntime) -> Result<(), Fail> {
 
 // The run on the module m of these files.
 fn checked_files(alloc: Global, sources: &[(String, String)]) -> Result<(Status, SureSink), Fail> {
-    let mut files = vec![in alloc; GO_MOD]?;
+    let mut list = Vec::new(alloc);
+    list.push(mem_file(alloc, GO_MOD.0, GO_MOD.1, GO_MOD.2)?)?;
     for (path, text) in sources {
-        files.push(("r", path.as_str(), text.as_str()))?;
+        list.push(mem_file(alloc, "r", path.as_str(), text.as_str())?)?;
     }
-    let mut tree = SureTree::new(mem_files(alloc, &files)?);
+    let mut tree = SureTree::new(distinct(list)?);
     let mut out = SureSink::new(alloc);
     let status = run(alloc, &words(alloc, &["r"])?, &mut tree, &mut out);
     Ok((status, out))
