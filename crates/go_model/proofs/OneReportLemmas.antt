@@ -47,26 +47,26 @@ module _ (before : Headers) (means : ℕ → Meaning) (declarations : List Decla
 
 module _ (m : ModuleData) (k : ℕ) (p : PackageData) (before : Headers) where
   same_headers : (v w : Headers) (xs ys : List Broken) → BreaksValues m k p before v xs → BreaksValues m k p before w ys → v ≡ w
-  same_headers v w xs ys a b = one_map before (meaning_in m k p before) (declarations_of p) v w a.cyclic b.cyclic a.has_headers b.has_headers
+  same_headers v w xs ys a b = one_map before (meaning_in m k p) (declarations_of p) v w a.cyclic b.cyclic a.has_headers b.has_headers
 
   same_values : (v w : Headers) (xs ys : List Broken) → BreaksValues m k p before v xs → BreaksValues m k p before w ys → xs ≡ ys
   same_values v w xs ys a b =
-      let means = meaning_in m k p before in
+      let means = meaning_in m k p in
       let headers = same_headers v w xs ys a b in
       let marks = one_mark before means (declarations_of p) v w a.cyclic b.cyclic a.has_headers b.has_headers in
       let there : IsListOf (broken_values means v a.cyclic p) ys = subst (λ (c : ℕ → Bool). IsListOf (broken_values means v c p) ys) (sym marks) (subst (λ (hs : Headers). IsListOf (broken_values means hs b.cyclic p) ys) (sym headers) b.is_list) in
       one_list (broken_values means v a.cyclic p) xs ys a.is_list there
 
   -- a package has one list of lines at most
-  one_lines : (headers : Headers) (xs ys : List LineData) → ArePackageLines m k p before headers xs → ArePackageLines m k p before headers ys → xs ≡ ys
+  one_lines : (headers : Headers) (xs ys : List LineData) → ArePackageLines m k p headers xs → ArePackageLines m k p headers ys → xs ≡ ys
   one_lines headers xs ys a b =
       let defs : a.defs ≡ b.defs = one_list_in_order _ a.defs b.defs a.are_defs b.are_defs in
       let uses : a.uses ≡ b.uses = one_list_in_order _ a.uses b.uses a.are_uses b.are_uses in
       let exprs : a.exprs ≡ b.exprs = one_list_in_order _ a.exprs b.exprs a.are_exprs b.are_exprs in
       a.all ∙ (λ i. defs i ++ (uses i ++ exprs i)) ∙ sym b.all
 
-  same_lines : (v w : Headers) (xs ys : List LineData) → v ≡ w → ArePackageLines m k p before v xs → ArePackageLines m k p before w ys → xs ≡ ys
-  same_lines v w xs ys same a b = one_lines v xs ys a (subst (λ (hs : Headers). ArePackageLines m k p before hs ys) (sym same) b)
+  same_lines : (v w : Headers) (xs ys : List LineData) → v ≡ w → ArePackageLines m k p v xs → ArePackageLines m k p w ys → xs ≡ ys
+  same_lines v w xs ys same a b = one_lines v xs ys a (subst (λ (hs : Headers). ArePackageLines m k p hs ys) (sym same) b)
 
   -- a verdict and what is known behind it
   record Given : Type 0 where
@@ -84,7 +84,10 @@ module _ (m : ModuleData) (k : ℕ) (p : PackageData) (before : Headers) where
   one_verdict x y after later (by_names b bs i) (by_values w c cs j) = absurd (no_list (broken_names (known_in m) k p) b bs j.sound_names i)
   one_verdict x y after later (by_names b bs i) (sound w ys j there) = absurd (no_list (broken_names (known_in m) k p) b bs j.sound_names i)
   one_verdict x y after later (by_values v b bs i) (by_names c cs j) = absurd (no_list (broken_names (known_in m) k p) c cs i.sound_names j)
-  one_verdict x y after later (by_values v b bs i) (by_values w c cs j) = ap (λ list. given (refused (map (placed_by p) list)) before) (same_values v w (b ∷ bs) (c ∷ cs) i j)
+  one_verdict x y after later (by_values v b bs i) (by_values w c cs j) =
+      let headers : v ≡ w = same_headers v w (b ∷ bs) (c ∷ cs) i j in
+      let lists : b ∷ bs ≡ c ∷ cs = same_values v w (b ∷ bs) (c ∷ cs) i j in
+      λ n. given (refused (map (placed_by p) (lists n))) (headers n)
   one_verdict x y after later (by_values v b bs i) (sound w ys j there) = absurd (let same = same_values v w (b ∷ bs) [] i j in cc same)
   one_verdict x y after later (sound v xs i here) (by_names c cs j) = absurd (no_list (broken_names (known_in m) k p) c cs i.sound_names j)
   one_verdict x y after later (sound v xs i here) (by_values w c cs j) = absurd (let same = same_values v w [] (c ∷ cs) i j in cc same)

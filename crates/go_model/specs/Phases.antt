@@ -36,20 +36,21 @@ pub record HasHeaders (before : Headers) (means : ℕ → Meaning) (declarations
 pub record BreaksValues (m : ModuleData) (k : ℕ) (p : PackageData) (before headers : Headers) (list : List Broken) : Type 0 where
   pub sound_names : broken_names (known_in m) k p ≡ []
   pub cyclic : ℕ → Bool
-  pub has_headers : HasHeaders before (meaning_in m k p before) (declarations_of p) headers cyclic
-  pub is_list : IsListOf (broken_values (meaning_in m k p before) headers cyclic p) list
+  pub has_headers : HasHeaders before (meaning_in m k p) (declarations_of p) headers cyclic
+  pub is_list : IsListOf (broken_values (meaning_in m k p) headers cyclic p) list
 
 -- the lines of the package at a place, over these headers
-abbrev pub ArePackageLines : ModuleData → ℕ → PackageData → Headers → Headers → List LineData → Type 0
-ArePackageLines m k p before headers lines = AreLines (outline_of m) k p (λ id. lookup (same_node id) (uses_table m k p)) (meaning_in m k p before) headers lines
+abbrev pub ArePackageLines : ModuleData → ℕ → PackageData → Headers → List LineData → Type 0
+ArePackageLines m k p headers lines = AreLines (outline_of m) k p (λ id. lookup (same_node id) (uses_table m k p)) (meaning_in m k p) headers lines
 
--- the verdict on the package at a place, whose imports are accepted, and the headers of accepted packages behind it
+-- the verdict on the package at a place, whose imports are accepted, and the headers that are known behind it: those of
+-- a package whose names are sound too, accepted or not
 pub data IsVerdict (m : ModuleData) (k : ℕ) (p : PackageData) (before : Headers) : VerdictData → Headers → Type 0 where
   by_names : (b : Broken) (bs : List Broken) → IsListOf (broken_names (known_in m) k p) (b ∷ bs)
       → IsVerdict m k p before (refused (map (placed_by p) (b ∷ bs))) before
   by_values : (headers : Headers) (b : Broken) (bs : List Broken) → BreaksValues m k p before headers (b ∷ bs)
-      → IsVerdict m k p before (refused (map (placed_by p) (b ∷ bs))) before
-  sound : (headers : Headers) (lines : List LineData) → BreaksValues m k p before headers [] → ArePackageLines m k p before headers lines
+      → IsVerdict m k p before (refused (map (placed_by p) (b ∷ bs))) headers
+  sound : (headers : Headers) (lines : List LineData) → BreaksValues m k p before headers [] → ArePackageLines m k p headers lines
       → IsVerdict m k p before (accepted lines (named_in (outline_of m) lines)) headers
 
 abbrev pub is_accepted : VerdictData → Bool

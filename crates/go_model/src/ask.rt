@@ -1,10 +1,10 @@
 // Maps of headers that can be asked (Go specification, "Declarations and scope").
-ghost use Rattle.std.specs.Prelude.{◌≡◌, ℕ, IfOk};
+ghost use Rattle.std.specs.Prelude.{◌≡◌, Bool, false, IfOk};
 ghost use Rattle.std.specs.Option.{option_map};
-ghost use Rattle.go_model.specs.declared.meaning.Meaning.{Meaning};
 ghost use Rattle.go_model.specs.Outcomes.Records.{header_view};
 ghost use Rattle.go_model.specs.Outcomes.Walk as walk;
 ghost use Rattle.go_model.specs.Outcomes.Walked.{Outcomes};
+ghost use Rattle.go_model.specs.Values.Meaning.{Names};
 
 use crate::header::Header;
 use go_base::NoMemory;
@@ -15,13 +15,16 @@ pub trait Ask {
     /// What the map has for each declaration, by its number.
     ghost headers: { Self → walk.Headers };
 
-    /// What identifiers mean, by the numbers of their nodes, in the package whose expressions are judged; nothing where
-    /// the map knows no identifiers. It stands here, since a call of `ask` keeps it.
-    ghost means: { Self → ℕ → Meaning };
+    /// What identifiers denote in the package whose expressions are judged, and the objects there; nothing where the map
+    /// knows no identifiers. It stands here, since a call of `ask` keeps it.
+    ghost names: { Self → Names };
 
     /// The outcomes that walks over expressions left, by the numbers of nodes; nothing where no walk keeps any. They stand
     /// here, since a call of `ask` keeps them.
     ghost outcomes: { Self → Outcomes };
+
+    /// Whether want of memory was met while a header was told: then each call that can answer it does.
+    ghost is_spent: { Self → Bool };
 
     /// What stays while headers are asked and told: its type.
     ghost World: { Type 0 };
@@ -30,11 +33,13 @@ pub trait Ask {
     ghost world: { Self → World };
 
     /// The header of a declaration, None exactly where the map has none. An error is want of memory. The map, the
-    /// meanings, the outcomes, and what else stays are as before, also on an error.
+    /// names, the outcomes, and what else stays are as before, also on an error.
     fn ask(&mut self, d: ObjId) -> Result<Option<Header>, NoMemory>
         ensures answer { IfOk result (λ header. option_map header_view header ≡ headers self.old d.0) }
         ensures same { headers self.new ≡ headers self.old }
-        ensures means { means self.new ≡ means self.old }
+        ensures names { names self.new ≡ names self.old }
         ensures outcomes { outcomes self.new ≡ outcomes self.old }
+        ensures unspent { IfOk result (λ header. is_spent self.old ≡ false) }
+        ensures spent { is_spent self.new ≡ is_spent self.old }
         ensures world { world self.new ≡ world self.old };
 }

@@ -1,11 +1,12 @@
 // Walks over expressions (Go specification, "Expressions").
-ghost use Rattle.std.specs.Prelude.{◌≡◌, ℕ, IfOk, OnErr, OnOk};
+ghost use Rattle.std.specs.Prelude.{◌≡◌, ℕ, false, IfOk, OnErr, OnOk};
 ghost use Rattle.std.specs.Option.{option_map};
 ghost use Rattle.go_tree.specs.Tree.{tree_of};
 ghost use Rattle.go_module.specs.Names.Occurrences.{nodes_in};
 ghost use Rattle.go_model.specs.Outcomes.View.{outcome_view};
 ghost use Rattle.go_model.specs.Outcomes.Walk as walk;
 ghost use Rattle.go_model.specs.Outcomes.Walked.{ArePartly, walked_over};
+ghost use Rattle.go_model.specs.Values.Meaning.{AreThere, meaning_by};
 
 use crate::ask::Ask;
 use crate::outcome::Outcome;
@@ -16,19 +17,22 @@ use std::alloc::Global;
 
 /// Who walks over expressions and types, and keeps the outcomes of their nodes.
 pub trait ExprWalk: Ask {
-    /// The outcome of a node over the headers, which stay, as the meanings do, also on an error. The walk reaches the
-    /// node and all nodes in it, the name of a package before a `.` too. `want` is the type of the variable or the result
-    /// to which the value is given; nothing is built yet that looks at it. An error is want of memory; some of
-    /// these nodes may have their outcomes then.
+    /// The outcome of a node over the headers, which stay, as the names do, also on an error. It asks that each object
+    /// that is denoted is there. The walk reaches the node and all nodes in it, the name of a package before a `.` too.
+    /// `want` is the type of the variable or the result to which the value is given; nothing is built yet that looks at
+    /// it. An error is want of memory; some of these nodes may have their outcomes then.
     fn walk(&mut self, alloc: Global, node: &Node, want: Option<Ty>) -> Result<Outcome, NoMemory>
+        requires { AreThere (Self.names self.old) }
         ensures outcome { IfOk result (λ found. outcome_view found
-            ≡ walk.outcome (Self.means self.old) (Self.headers self.old) (tree_of node.now)) }
-        ensures reached { OnOk result ((n : ℕ) → Self.outcomes self.new n ≡ walked_over (Self.means self.old)
+            ≡ walk.outcome (meaning_by (Self.names self.old)) (Self.headers self.old) (tree_of node.now)) }
+        ensures reached { OnOk result ((n : ℕ) → Self.outcomes self.new n ≡ walked_over (meaning_by (Self.names self.old))
             (Self.headers self.old) (nodes_in (tree_of node.now)) (Self.outcomes self.old) n) }
-        ensures err { OnErr result (ArePartly (Self.means self.old) (Self.headers self.old)
+        ensures err { OnErr result (ArePartly (meaning_by (Self.names self.old)) (Self.headers self.old)
             (nodes_in (tree_of node.now)) (Self.outcomes self.old) (Self.outcomes self.new)) }
         ensures same { Self.headers self.new ≡ Self.headers self.old }
-        ensures means { Self.means self.new ≡ Self.means self.old }
+        ensures names { Self.names self.new ≡ Self.names self.old }
+        ensures unspent { IfOk result (λ found. Self.is_spent self.old ≡ false) }
+        ensures spent { Self.is_spent self.new ≡ Self.is_spent self.old }
         ensures world { Self.world self.new ≡ Self.world self.old };
 
     /// The outcome of a node in the last walk that reached it, None exactly where none did.

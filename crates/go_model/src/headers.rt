@@ -1,11 +1,11 @@
 // Maps of headers (Go specification, "Declarations and scope").
-ghost use Rattle.std.specs.Prelude.{◌≡◌, ℕ, [], ◌∷◌, None, OnErr, OnOk};
+ghost use Rattle.std.specs.Prelude.{◌≡◌, ℕ, [], ◌∷◌, None, false, OnErr, OnOk};
 ghost use Rattle.std.specs.Option.{option_map};
-ghost use Rattle.go_model.specs.declared.meaning.Meaning.TheVariants.{Other};
 ghost use Rattle.go_model.specs.Outcomes.Records.{header_view};
 ghost use Rattle.go_model.specs.Outcomes.Walked.{no_outcomes};
 ghost use Rattle.go_model.specs.Values.Headers.{headers_of};
 ghost use Rattle.go_model.specs.Values.HeadersView.{headers_view};
+ghost use Rattle.go_model.specs.Values.Meaning.{no_names};
 
 use crate::ask::Ask;
 use crate::header::Header;
@@ -53,10 +53,13 @@ impl Ask for Headers {
     ghost headers = { headers_view };
 
     // A map alone knows no identifiers.
-    ghost means = { λ _ _. Other };
+    ghost names = { λ _. no_names };
 
     // Nor does it walk.
     ghost outcomes = { λ _. no_outcomes };
+
+    // Want of memory in `add` leaves it as it was.
+    ghost is_spent = { λ _. false };
 
     ghost World = { Unit {0} };
 

@@ -5,7 +5,7 @@ use go_module::ObjId;
 /// What an identifier means in a package that is checked.
 #[derive(Clone, Copy, Debug, PartialEq, Eq)]
 pub enum Meaning {
-    /// a declaration of the package, or one of a package before that has a header
+    /// a constant that is declared in the package, or in one that it imports
     Declared(ObjId),
     /// a predeclared identifier
     Predeclared,

@@ -1,42 +1,68 @@
 -- Declarations and scope; Qualified identifiers; Predeclared identifiers (Go specification).
--- Decides what an identifier means in a package that is checked, by the object that it denotes and by the
--- headers that are known of packages before it.
-use Rattle.std.specs.Prelude.{ℕ, ◌||◌, Bool, is_some, if◌then◌else◌, List, [], Option, None, Some}
+-- Decides what an identifier means in a package that is checked, by the object that it denotes. No header is asked.
+use Rattle.std.specs.Prelude.{◌≡◌, ℕ, if◌then◌else◌, List, [], IsSome, Option, None, Some}
 use Rattle.std.specs.Map.{lookup}
-use Rattle.go_module.specs.IndexMap.{insert_all}
+use Rattle.std.specs.Option.{option_map_or}
+use Rattle.go_base.specs.declared.ids.ObjId.{ObjId}
 use Rattle.go_tree.specs.declared.node.NodeId.{NodeId}
+use Rattle.go_module.specs.declared.object.Object.{Object}
+use Rattle.go_module.specs.declared.object.ObjKind.{ObjKind}
+use Rattle.go_module.specs.declared.object.ObjKind.TheVariants.{Const}
+use Rattle.go_module.specs.IndexMap.{insert_all}
+use Rattle.go_module.specs.Modules.Module.{ModuleData, PackageData}
+use Rattle.go_module.specs.Names.Imports.{known_in}
+use Rattle.go_module.specs.Names.Tables.{objects_in, uses_of}
+use Rattle.go_module.specs.Scopes.{same_node, same_object}
 use Rattle.go_model.specs.declared.meaning.Meaning.{Meaning}
 use Rattle.go_model.specs.declared.meaning.Meaning.TheVariants.{Declared, Predeclared, Other}
-use Rattle.go_base.specs.declared.ids.ObjId.{ObjId}
-use Rattle.go_module.specs.Names.Declarations.{Declaration, declarations_of}
-use Rattle.go_module.specs.Modules.Module.{ModuleData, PackageData}
 use Rattle.go_model.specs.Outline.{is_predeclared}
-use Rattle.go_model.specs.Outcomes.Walk.{Headers}
-use Rattle.go_model.specs.Values.Declared.{declared_as}
-use Rattle.go_module.specs.Scopes.{same_node}
-use Rattle.go_module.specs.Names.Imports.{known_in}
-use Rattle.go_module.specs.Names.Tables.{uses_of}
 
--- the object that each identifier of the package at a place denotes, by the identifier's node
+-- the object that each identifier denotes, by the number of the identifier's node; and the objects, by their numbers
+pub record Names : Type 0 where
+  pub denotes : ℕ → Option ObjId
+  pub objects : ℕ → Option Object
+
+-- nothing is denoted
+abbrev pub no_names : Names
+no_names = record { denotes = λ id. None; objects = λ d. None }
+
+-- each object that is denoted is there
+abbrev pub AreThere : Names → Type 0
+AreThere names = (id : ℕ) (d : ObjId) → names.denotes id ≡ Some d → IsSome (names.objects d.0)
+
+-- what an object that is no universe name means, by its kind: a constant has a header
+abbrev pub kind_meaning : ObjId → ObjKind → Meaning
+kind_meaning d Const = Declared d
+kind_meaning d kind = Other
+
+abbrev pub object_meaning : (ℕ → Option Object) → ObjId → Meaning
+object_meaning objects d = if is_predeclared d then Predeclared else option_map_or (λ object. kind_meaning d object.kind) (objects d.0) Other
+
+abbrev pub denoted_meaning : (ℕ → Option Object) → Option ObjId → Meaning
+denoted_meaning objects None = Other
+denoted_meaning objects (Some d) = object_meaning objects d
+
+-- what an identifier means, by the number of its node
+abbrev pub meaning_by : Names → ℕ → Meaning
+meaning_by names id = denoted_meaning names.objects (names.denotes id)
+
+-- by tables
+abbrev pub names_by : List (NodeId × ObjId) → List (ObjId × Object) → Names
+names_by uses objects = record {
+  denotes = λ id. lookup (same_node (record { 0 = id })) uses;
+  objects = λ d. lookup (same_object (record { 0 = d })) objects;
+}
+
+-- the object that each identifier of the package at a place denotes, by the identifier's node, and the objects
 abbrev pub uses_table : ModuleData → ℕ → PackageData → List (NodeId × ObjId)
 uses_table m k p = insert_all same_node [] (uses_of (known_in m) k p)
 
--- whether an object is one of these declarations, or has a header before
-abbrev pub may_have_header : Headers → List Declaration → ObjId → Bool
-may_have_header before declarations d = is_some (declared_as declarations d.0) || is_some (before d.0)
+abbrev pub objects_table : ModuleData → ℕ → PackageData → List (ObjId × Object)
+objects_table m k p = insert_all same_object [] (objects_in (known_in m) k p)
 
--- what an object means, by which objects may have a header
-abbrev pub object_meaning : (ObjId → Bool) → ObjId → Meaning
-object_meaning may_have d = if is_predeclared d then Predeclared else (if may_have d then Declared d else Other)
-
-abbrev pub denoted_meaning : (ObjId → Bool) → Option ObjId → Meaning
-denoted_meaning may_have None = Other
-denoted_meaning may_have (Some d) = object_meaning may_have d
-
--- what an identifier means, by the objects of identifiers
-abbrev pub meaning_by : List (NodeId × ObjId) → (ObjId → Bool) → ℕ → Meaning
-meaning_by uses may_have id = denoted_meaning may_have (lookup (same_node (record { 0 = id })) uses)
+abbrev pub names_in : ModuleData → ℕ → PackageData → Names
+names_in m k p = names_by (uses_table m k p) (objects_table m k p)
 
 -- what each identifier of the package at a place means, by the number of its node
-abbrev pub meaning_in : ModuleData → ℕ → PackageData → Headers → ℕ → Meaning
-meaning_in m k p before = meaning_by (uses_table m k p) (may_have_header before (declarations_of p))
+abbrev pub meaning_in : ModuleData → ℕ → PackageData → ℕ → Meaning
+meaning_in m k p = meaning_by (names_in m k p)
