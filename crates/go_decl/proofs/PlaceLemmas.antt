@@ -10,11 +10,8 @@ use Rattle.indexmap.specs.IndexMap.{insert_entry}
 use Rattle.go_base.specs.declared.ids.ObjId.{ObjId}
 use Rattle.go_module.specs.Names.Declarations.{Declaration, number_of, numbers_of}
 use Rattle.go_module.specs.Scopes.{same_object}
-use Rattle.go_model.specs.Outcomes.Records.{HeaderData}
-use Rattle.go_model.specs.Outcomes.Walk.{Headers}
 use Rattle.go_model.specs.Values.Declared.{declared_as}
-use Rattle.go_expr.specs.Places.{place_among}
-use Rattle.go_expr.specs.View.{open_place}
+use Rattle.go_decl.specs.Places.{place_among}
 use Rattle.go_model.proofs.EntryLemmas.{found_behind, same_is}
 
 -- the first place at which a test passes, element by element
@@ -84,62 +81,6 @@ module _ {X Y : Type 0} (g : X → Y) (f : Y → ObjId) where
       ∙ ap (cond (same_object d (f (g x))) (Some (n - 1))) (so_far d ∙ ap (λ k. place_from k rest d) (sym after))
       ∙ sym (place_from_more (n - 1) (f (g x)) rest d)
       ∙ ap (λ numbers. place_from (n - 1) numbers d) (sym split)
-
--- the same, of those that have no header before
-abbrev pub open_from : Headers → ℕ → List ObjId → ObjId → Option ℕ
-open_from before n numbers d = if is_some (before d.0) then None else place_from n numbers d
-
-module _ {X Y : Type 0} (g : X → Y) (f : Y → ObjId) (before : Headers) where
-  -- an object that has a header before is none that has none
-  other_object : (k d : ObjId) (b : Bool) → is_some (before k.0) ≡ b → is_some (before d.0) ≡ not b → same_object d k ≡ false
-  other_object k d b at there = by_test (same_object d k) refl
-    where
-      by_test : (c : Bool) → same_object d k ≡ c → c ≡ false
-      by_test false e = refl
-      by_test true e = let same : is_some (before d.0) ≡ is_some (before k.0) = ap (λ (x : ObjId). is_some (before x.0)) (same_is d k e) in absurd (differ b (sym at ∙ sym same ∙ there))
-        where
-          differ : (c : Bool) → c ≡ not c → ⊥
-          differ true e = cc
-          differ false e = cc
-
-  -- one more declaration without a header before
-  pub one_more_open : (xs : List X) (n : ℕ) (x : X) (es new : List (ObjId × ℕ)) → 0 < n → n - 1 < length xs → x ≡ get_or xs (n - 1) x
-      → is_some (before (f (g x)).0) ≡ false
-      → new ≡ insert_entry same_object es (f (g x)) (n - 1)
-      → ((d : ObjId) → lookup (same_object d) es ≡ open_from before n (map f (map g (drop n xs))) d)
-      → (d : ObjId) → lookup (same_object d) new ≡ open_from before (n - 1) (map f (map g (drop (n - 1) xs))) d
-  one_more_open xs n x es new some lt at fresh added so_far d = by_known (is_some (before d.0)) refl
-    where
-      after : suc (n - 1) ≡ n
-      after = omega (arith, some)
-
-      rest : List ObjId
-      rest = map f (map g (drop n xs))
-
-      split : map f (map g (drop (n - 1) xs)) ≡ f (g x) ∷ rest
-      split = from_last g f xs (n - 1) x lt at ∙ ap (λ k. f (g x) ∷ map f (map g (drop k xs))) after
-
-      found : lookup (same_object d) new ≡ cond (same_object d (f (g x))) (Some (n - 1)) (lookup (same_object d) es)
-      found = ap (lookup (same_object d)) added ∙ found_behind d es (f (g x)) (n - 1)
-
-      placed : place_from (n - 1) (map f (map g (drop (n - 1) xs))) d ≡ cond (same_object d (f (g x))) (Some (n - 1)) (place_from n rest d)
-      placed =
-          ap (λ numbers. place_from (n - 1) numbers d) split
-          ∙ place_from_more (n - 1) (f (g x)) rest d
-          ∙ ap (λ k. cond (same_object d (f (g x))) (Some (n - 1)) (place_from k rest d)) after
-
-      by_known : (b : Bool) → is_some (before d.0) ≡ b → lookup (same_object d) new ≡ open_from before (n - 1) (map f (map g (drop (n - 1) xs))) d
-      by_known true is =
-          found
-          ∙ ap (λ c. cond c (Some (n - 1)) (lookup (same_object d) es)) (other_object (f (g x)) d false fresh is)
-          ∙ so_far d
-          ∙ ap (λ b. if b then None else place_from n rest d) is
-          ∙ sym (ap (λ b. if b then None else place_from (n - 1) (map f (map g (drop (n - 1) xs))) d) is)
-      by_known false is =
-          found
-          ∙ ap (cond (same_object d (f (g x))) (Some (n - 1))) (so_far d ∙ ap (λ b. if b then None else place_from n rest d) is)
-          ∙ sym placed
-          ∙ sym (ap (λ b. if b then None else place_from (n - 1) (map f (map g (drop (n - 1) xs))) d) is)
 
 -- the declaration at a place is the one that its number names
 pub record IsPlaced (declarations : List Declaration) (d : ObjId) (place : ℕ) : Type 0 where
@@ -213,49 +154,3 @@ declared_place (x ∷ xs) d declaration e = by_test (declared_place xs d declara
           is = placed_first x xs d ∙ ap (λ c. cond c (Some 0) (option_map suc (place_among (numbers_of xs) d))) other ∙ ap (option_map suc) there.is;
           within = omega (arith, there.within);
         }
-
--- a place that is open is that of a declaration without a header before
-pub record IsOpen (before : Headers) (declarations : List Declaration) (d : ObjId) (place : ℕ) : Type 0 where
-  pub fresh : before d.0 ≡ None
-  pub placed : IsPlaced declarations d place
-
-pub open_is : (before : Headers) (declarations : List Declaration) (d : ObjId) (place : ℕ) → open_place before declarations d ≡ Some place → IsOpen before declarations d place
-open_is before declarations d place e = by_header (before d.0) refl
-  where
-    by_header : (o : Option HeaderData) → before d.0 ≡ o → IsOpen before declarations d place
-    by_header (Some h) at = absurd (let never : None ≡ Some place = sym (ap (λ (x : Option HeaderData). if is_some x then None else place_among (numbers_of declarations) d) at) ∙ e in cc)
-    by_header None at = record {
-      fresh = at;
-      placed = place_declared declarations d place (sym (ap (λ (x : Option HeaderData). if is_some x then None else place_among (numbers_of declarations) d) at) ∙ e);
-    }
-
-pub has_open : (before : Headers) (declarations : List Declaration) (d : ObjId) (declaration : Declaration) → before d.0 ≡ None → declared_as declarations d.0 ≡ Some declaration → (place : ℕ) × (open_place before declarations d ≡ Some place) × (place < length declarations)
-has_open before declarations d declaration fresh declared =
-    let there = declared_place declarations d declaration declared in
-    (there.place, ap (λ (x : Option HeaderData). if is_some x then None else place_among (numbers_of declarations) d) fresh ∙ there.is, there.within)
-
--- what has a place, or a header before, is declared, or has a header before
-pub may_have_are : (before : Headers) (declarations : List Declaration) (d : ObjId) → (is_some (open_place before declarations d) || is_some (before d.0)) ≡ (is_some (declared_as declarations d.0) || is_some (before d.0))
-may_have_are before declarations d = by_header (before d.0) refl
-  where
-    some_right : (a b : Bool) → (a || true) ≡ (b || true)
-    some_right true true = refl
-    some_right true false = refl
-    some_right false true = refl
-    some_right false false = refl
-
-    one_place : (o : Option ℕ) (x : Option Declaration) → place_among (numbers_of declarations) d ≡ o → declared_as declarations d.0 ≡ x → is_some o ≡ is_some x
-    one_place None None at is = refl
-    one_place (Some n) (Some x) at is = refl
-    one_place None (Some x) at is = absurd (let there = declared_place declarations d x is in let never : None ≡ Some there.place = sym at ∙ there.is in cc)
-    one_place (Some n) None at is = absurd (let there = place_declared declarations d n at in let never : None ≡ Some there.declaration = sym is ∙ there.declared in cc)
-
-    by_header : (o : Option HeaderData) → before d.0 ≡ o → (is_some (if is_some (before d.0) then None else place_among (numbers_of declarations) d) || is_some (before d.0)) ≡ (is_some (declared_as declarations d.0) || is_some (before d.0))
-    by_header (Some h) at =
-        ap (λ (x : Option HeaderData). is_some (if is_some x then None else place_among (numbers_of declarations) d) || is_some x) at
-        ∙ some_right false (is_some (declared_as declarations d.0))
-        ∙ sym (ap (λ (x : Option HeaderData). is_some (declared_as declarations d.0) || is_some x) at)
-    by_header None at =
-        ap (λ (x : Option HeaderData). is_some (if is_some x then None else place_among (numbers_of declarations) d) || is_some x) at
-        ∙ ap (λ b. b || false) (one_place (place_among (numbers_of declarations) d) (declared_as declarations d.0) refl refl)
-        ∙ sym (ap (λ (x : Option HeaderData). is_some (declared_as declarations d.0) || is_some x) at)

@@ -16,7 +16,8 @@ use Rattle.go_model.specs.Values.Records.{header_over}
 use Rattle.go_model.specs.Values.Headers.{headers_of, Justified, Follows, Known}
 use Rattle.go_model.specs.Values.Quests.{IsPart}
 use Rattle.go_model.proofs.HeaderLemmas.{Follows-part, Follows-same, has_all, headers_of-here, headers_of-there, kept, stays}
-use Rattle.go_decl.specs.Rounds.{ArePlaces, IsBacked, IsSettled, and_open, open_in}
+use Rattle.go_decl.specs.Places.{ArePlaces}
+use Rattle.go_decl.specs.Rounds.{IsBacked, IsSettled, and_open, open_in}
 use Rattle.go_decl.proofs.PlaceLemmas.{place_declared}
 use Rattle.go_names.specs.declared.declaration.Declaration.{Declaration as OwnDeclaration}
 use Rattle.go_names.specs.Views.{declaration_view, declarations_view}

@@ -12,85 +12,18 @@ use Rattle.go_tree.specs.Tree.{Tree}
 use Rattle.go_model.specs.Names.Declarations.{Declaration, number_of, rests_on}
 use Rattle.go_model.specs.Names.Occurrences.{nodes_in}
 use Rattle.go_module.proofs.MemberLemmas.{cons_cases, contains_head, contains_none, contains_tail}
-use Rattle.go_model.specs.declared.meaning.Meaning.TheVariants.{Declared, Other, Predeclared}
-use Rattle.go_model.specs.Outline.{is_predeclared}
-use Rattle.go_model.specs.Values.HeadersView.{headers_view}
-use Rattle.go_model.specs.Values.Meaning.{denoted_meaning}
-use Rattle.go_model.specs.Outcomes.Judged.{Broken, Found, Nothing, OutcomeData}
-use Rattle.go_model.specs.Outcomes.Judged as outcomes
+use Rattle.go_model.specs.declared.meaning.Meaning.{Meaning}
 use Rattle.go_model.specs.Outcomes.Readings.{awaited_in}
-use Rattle.go_model.specs.declared.headers.Headers.{Headers as HeaderMap}
-use Rattle.go_model.specs.Outcomes.Records.{HeaderData, RecData}
-use Rattle.go_model.specs.Outcomes.Walk.{outcome}
+use Rattle.go_model.specs.Outcomes.Walk.{Headers, outcome}
 use Rattle.go_model.specs.Outcomes.Walked.{AreWalked, Outcomes}
 use Rattle.go_model.specs.Values.Waiting.{Chain, Waits, awaited_among, awaited_by, awaited_by_nodes, awaited_under, more, one}
-use Rattle.go_model.proofs.OutcomeLemmas.{outcome_stays}
-use Rattle.go_expr.specs.declared.around.Around.{Around}
-use Rattle.go_expr.proofs.AwaitedLemmas.{awaited_means}
+use Rattle.go_model.specs.Values.Declared.{declared_as}
 use Rattle.go_model.proofs.FlatLemmas.{flat_contains, flat_map-same, map-same}
 use Rattle.go_expr.proofs.ReadLemmas.{read_is}
 use Rattle.go_expr.specs.Read.{nodes_under, outcome_read}
-use Rattle.go_expr.specs.OwnHeaders.{headers_by}
-use Rattle.go_expr.specs.View.{IsAround, before_by, may_have_by, denotes_by, means_by, places_by}
+use Rattle.go_decl.specs.Places.{ArePlaces, placed_by}
 use Rattle.go_decl.specs.Waits.{awaited_places, mark_at, marked_by, place_list, waits_of}
-use Rattle.go_decl.proofs.PlaceLemmas.{IsOpen, open_is}
-
--- an identifier means a declaration alone that is declared
-chosen : (known is : Bool) (d object : ObjId) → (if known then Predeclared else (if is then Declared d else Other)) ≡ Declared object → (is ≡ true) × (d ≡ object)
-chosen true is d object e = absurd (let never : Predeclared ≡ Declared object = e in cc)
-chosen false false d object e = absurd (let never : Other ≡ Declared object = e in cc)
-chosen false true d object e = (refl, let same : Declared d ≡ Declared object = e in cc)
-
-pub denoted_may_have : (may_have : ObjId → Bool) (o : Option ObjId) (object : ObjId) → denoted_meaning may_have o ≡ Declared object → may_have object ≡ true
-denoted_may_have may_have None object e = absurd (let never : Other ≡ Declared object = e in cc)
-denoted_may_have may_have (Some d) object e =
-    let both = chosen (is_predeclared d) (may_have d) d object e in
-    ap may_have (sym both.1) ∙ both.0
-
--- an object has a place
-pub record HasPlace (places : ObjId → Option ℕ) (d : ℕ) : Type 0 where
-  pub place : ℕ
-  pub is : places (record { 0 = d }) ≡ Some place
-
-module _ (around : Around) (own : HeaderMap) where
-  -- what has no header, and is declared, has a place
-  lacking_place : (object : ObjId) → may_have_by around object ≡ true → headers_by around own object.0 ≡ None → HasPlace (places_by around) object.0
-  lacking_place object declares lacks = by_place (places_by around object) refl
-    where
-      none_before : (o p : Option HeaderData) → option_or o p ≡ None → (is_some p ≡ true) → ⊥
-      none_before None None none some = let never : false ≡ true = some in cc
-      none_before None (Some v) none some = let never : Some v ≡ None = none in cc
-      none_before (Some v) p none some = let never : Some v ≡ None = none in cc
-
-      by_place : (o : Option ℕ) → places_by around object ≡ o → HasPlace (places_by around) object.0
-      by_place (Some place) at = record { place = place; is = at }
-      by_place None at =
-          let some : is_some (before_by around object.0) ≡ true = ap (λ (o : Option ℕ). is_some o || is_some (before_by around object.0)) (sym at) ∙ declares in
-          absurd (none_before (headers_view own object.0) (before_by around object.0) lacks some)
-
-  -- what a node waits for has a place
-  awaited_place : (t : Tree) (d : ℕ) → outcome (means_by around) (headers_by around own) t ≡ outcomes.Waits d → HasPlace (places_by around) d
-  awaited_place t d e =
-      let lacks = (outcome_stays (means_by around) (headers_by around own) (headers_by around own) (λ _ _ q. q) t).lacks d e in
-      awaited_means (λ n. headers_by around own n ≡ None → HasPlace (places_by around) n) (means_by around) (headers_by around own)
-      (λ id object m. lacking_place object (denoted_may_have (may_have_by around) (denotes_by around (record { 0 = id })) object m))
-      t d e lacks
-
-  placed : (t : Tree) (x : OutcomeData RecData) → outcome (means_by around) (headers_by around own) t ≡ x → All (HasPlace (places_by around)) (awaited_in x)
-  placed t (Found v) e = All-nil (HasPlace (places_by around))
-  placed t (Broken rule spots) e = All-nil (HasPlace (places_by around))
-  placed t (outcomes.Waits d) e = All-cons (HasPlace (places_by around)) d [] (awaited_place t d e) (All-nil (HasPlace (places_by around)))
-  placed t Nothing e = All-nil (HasPlace (places_by around))
-
-  flat_placed : {X : Type 0} (f : X → List ℕ) → ((x : X) → All (HasPlace (places_by around)) (f x)) → (xs : List X) → All (HasPlace (places_by around)) (flat_map f xs)
-  flat_placed f each [] = All-nil (HasPlace (places_by around))
-  flat_placed f each (x ∷ xs) = All-append (HasPlace (places_by around)) (f x) (flat_map f xs) (each x) (flat_placed f each xs)
-
-  nodes_placed : (t : Tree) → All (HasPlace (places_by around)) (awaited_by_nodes (means_by around) (headers_by around own) t)
-  nodes_placed t = flat_placed (λ node. awaited_in (outcome (means_by around) (headers_by around own) node)) (λ node. placed node (outcome (means_by around) (headers_by around own) node) refl) (nodes_in t)
-
-  all_placed : (declaration : Declaration) → All (HasPlace (places_by around)) (awaited_by (means_by around) (headers_by around own) declaration)
-  all_placed declaration = flat_placed (awaited_by_nodes (means_by around) (headers_by around own)) nodes_placed (rests_on declaration)
+use Rattle.go_decl.proofs.PlaceLemmas.{IsPlaced, declared_place, place_declared}
 
 -- the graph of the waits
 row_declared : (f : Declaration → List ℕ) (declarations : List Declaration) (d e : ℕ) → Contains (row_at (map f declarations) d) e → (declaration : Declaration) × (slice_get declarations d ≡ Some declaration) × Contains (f declaration) e
@@ -139,133 +72,120 @@ module _ (places : ObjId → Option ℕ) where
       by_cases (inl same) later = Contains-append_left (place_list places k) (flat_map (place_list places) numbers) place (here same)
       by_cases (inr there) later = Contains-append_right (place_list places k) (flat_map (place_list places) numbers) place (later there e)
 
-module _ (around : Around) (declarations : List Declaration) (is_around : IsAround declarations around) where
-  opened : (d : ObjId) (place : ℕ) → places_by around d ≡ Some place → IsOpen (before_by around) declarations d place
-  opened d place e = open_is (before_by around) declarations d place (sym (is_around d) ∙ e)
+module _ (entries : List (ObjId × ℕ)) (declarations : List Declaration) (placed : ArePlaces declarations entries) where
+  place_is : (d : ObjId) (place : ℕ) → placed_by entries d ≡ Some place → IsPlaced declarations d place
+  place_is d place e = place_declared declarations d place (sym (placed d) ∙ e)
 
-  place_within : (d : ObjId) (place : ℕ) → places_by around d ≡ Some place → place < length declarations
-  place_within d place e = let is = (opened d place e).placed in slice_get_within declarations place is.declaration is.at
+  place_within : (d : ObjId) (place : ℕ) → placed_by entries d ≡ Some place → place < length declarations
+  place_within d place e = let is = place_is d place e in slice_get_within declarations place is.declaration is.at
+
+  -- what is declared has a place
+  record HasPlace (d : ℕ) : Type 0 where
+    place : ℕ
+    is : placed_by entries (record { 0 = d }) ≡ Some place
+
+  has_own_place : (d : ℕ) (declaration : Declaration) → declared_as declarations d ≡ Some declaration → HasPlace d
+  has_own_place d declaration e = let there = declared_place declarations (record { 0 = d }) declaration e in record { place = there.place; is = placed (record { 0 = d }) ∙ there.is }
 
   -- one place is that of one object
-  one_object : (d e : ObjId) (place : ℕ) → places_by around d ≡ Some place → places_by around e ≡ Some place → d ≡ e
+  one_object : (d e : ObjId) (place : ℕ) → placed_by entries d ≡ Some place → placed_by entries e ≡ Some place → d ≡ e
   one_object d e place at there =
-      let here = (opened d place at).placed in
-      let other = (opened e place there).placed in
+      let here = place_is d place at in
+      let other = place_is e place there in
       let one : here.declaration ≡ other.declaration = cc (here.at, other.at) in
       sym here.number ∙ ap number_of one ∙ other.number
 
-  pub waits_graph : (awaited : Declaration → List ℕ) → IsGraph (waits_of (places_by around) awaited declarations)
+  pub waits_graph : (awaited : Declaration → List ℕ) → IsGraph (waits_of (placed_by entries) awaited declarations)
   waits_graph awaited a b e =
-      let found : Declaration → List ℕ = awaited_places (places_by around) awaited in
+      let found : Declaration → List ℕ = awaited_places (placed_by entries) awaited in
       let at = row_declared found declarations a b e in
-      let is = place_of (places_by around) (awaited at.0) b at.2 in
+      let is = place_of (placed_by entries) (awaited at.0) b at.2 in
       let lt = place_within (record { 0 = is.number }) b is.is in
       omega (arith, lt, length-map declarations found)
 
-module _ (around : Around) (own : HeaderMap) (declarations : List Declaration) (is_around : IsAround declarations around) where
-  abbrev found : Declaration → List ℕ
-  found = awaited_places (places_by around) (awaited_by (means_by around) (headers_by around own))
+  module _ (means : ℕ → Meaning) (headers : Headers) where
+    abbrev found : Declaration → List ℕ
+    found = awaited_places (placed_by entries) (awaited_by means headers)
 
-  abbrev graph : Graph
-  graph = waits_of (places_by around) (awaited_by (means_by around) (headers_by around own)) declarations
+    abbrev graph : Graph
+    graph = waits_of (placed_by entries) (awaited_by means headers) declarations
 
-  -- an edge from the place of an object leads to the place of one that it waits for
-  record Leads (d : ObjId) (place : ℕ) : Type 0 where
-    pub object : ObjId
-    pub is : places_by around object ≡ Some place
-    pub waits : Waits (means_by around) declarations (headers_by around own) d.0 object.0
+    -- an edge from the place of an object leads to the place of one that it waits for
+    record Leads (d : ObjId) (place : ℕ) : Type 0 where
+      pub object : ObjId
+      pub is : placed_by entries object ≡ Some place
+      pub waits : Waits means declarations headers d.0 object.0
 
-  edge_waits : (d : ObjId) (i j : ℕ) → places_by around d ≡ Some i → HasEdge graph i j → Leads d j
-  edge_waits d i j e leads =
-      let at = row_declared found declarations i j leads in
-      let here = (opened around declarations is_around d i e).placed in
-      let one : here.declaration ≡ at.0 = cc (here.at, at.1) in
-      let is = place_of (places_by around) (awaited_by (means_by around) (headers_by around own) at.0) j at.2 in
-      record {
-        object = record { 0 = is.number };
-        is = is.is;
-        waits = record { declaration = at.0; declared = here.declared ∙ ap Some one; awaits = is.among };
-      }
+    edge_waits : (d : ObjId) (i j : ℕ) → placed_by entries d ≡ Some i → HasEdge graph i j → Leads d j
+    edge_waits d i j e leads =
+        let at = row_declared found declarations i j leads in
+        let here = place_is d i e in
+        let one : here.declaration ≡ at.0 = cc (here.at, at.1) in
+        let is = place_of (placed_by entries) (awaited_by means headers at.0) j at.2 in
+        record {
+          object = record { 0 = is.number };
+          is = is.is;
+          waits = record { declaration = at.0; declared = here.declared ∙ ap Some one; awaits = is.among };
+        }
 
-  record Reaches (i : ℕ) (d : ObjId) : Type 0 where
-    pub place : ℕ
-    pub is : places_by around d ≡ Some place
-    pub edge : HasEdge graph i place
+    waits_edge : (d e : ObjId) (i j : ℕ) → placed_by entries d ≡ Some i → placed_by entries e ≡ Some j → Waits means declarations headers d.0 e.0 → HasEdge graph i j
+    waits_edge d e i j at there w =
+        let here = place_is d i at in
+        let one : here.declaration ≡ w.declaration = cc (here.declared, w.declared) in
+        let row : row_at graph i ≡ found w.declaration = declared_row found declarations i w.declaration (here.at ∙ ap Some one) in
+        subst (λ (xs : List ℕ). Contains xs j) (sym row) (has_place (placed_by entries) (awaited_by means headers w.declaration) e.0 j w.awaits there)
 
-  awaited_has : (d e : ObjId) → Waits (means_by around) declarations (headers_by around own) d.0 e.0 → HasPlace (places_by around) e.0
-  awaited_has d e w = All-contains (HasPlace (places_by around)) (awaited_by (means_by around) (headers_by around own) w.declaration) e.0 (all_placed around own w.declaration) w.awaits
+    record Chained (d : ObjId) (place : ℕ) : Type 0 where
+      pub object : ObjId
+      pub is : placed_by entries object ≡ Some place
+      pub chain : Chain means declarations headers d.0 object.0
 
-  waits_edge : (d e : ObjId) (i : ℕ) → places_by around d ≡ Some i → Waits (means_by around) declarations (headers_by around own) d.0 e.0 → Reaches i e
-  waits_edge d e i at w =
-      let there = awaited_has d e w in
-      let here = (opened around declarations is_around d i at).placed in
-      let one : here.declaration ≡ w.declaration = cc (here.declared, w.declared) in
-      let row : row_at graph i ≡ found w.declaration = declared_row found declarations i w.declaration (here.at ∙ ap Some one) in
-      record {
-        place = there.place;
-        is = there.is;
-        edge = subst (λ (xs : List ℕ). Contains xs there.place) (sym row) (has_place (places_by around) (awaited_by (means_by around) (headers_by around own) w.declaration) e.0 there.place w.awaits there.is);
-      }
+    path_chain : (d : ObjId) (i j : ℕ) → placed_by entries d ≡ Some i → Path graph i j → Chained d j
+    path_chain d i j e (start _ leads) =
+        let next = edge_waits d i j e leads in
+        record { object = next.object; is = next.is; chain = one next.object.0 next.waits }
+    path_chain d i j e (further b _ p leads) =
+        let so_far = path_chain d i b e p in
+        let next = edge_waits so_far.object b j so_far.is leads in
+        record { object = next.object; is = next.is; chain = more so_far.object.0 next.object.0 so_far.chain next.waits }
 
-  record Chained (d : ObjId) (place : ℕ) : Type 0 where
-    pub object : ObjId
-    pub is : places_by around object ≡ Some place
-    pub chain : Chain (means_by around) declarations (headers_by around own) d.0 object.0
+    -- what stands inside a chain waits, and so is declared; what has no place ends it
+    chain_path : (d : ObjId) (e i j : ℕ) → placed_by entries d ≡ Some i → placed_by entries (record { 0 = e }) ≡ Some j → Chain means declarations headers d.0 e → Path graph i j
+    chain_path d e i j at there (one _ w) = start j (waits_edge d (record { 0 = e }) i j at there w)
+    chain_path d e i j at there (more b _ chain w) =
+        let inside = has_own_place b w.declaration w.declared in
+        further inside.place j (chain_path d b i inside.place at inside.is chain) (waits_edge (record { 0 = b }) (record { 0 = e }) inside.place j inside.is there w)
 
-  path_chain : (d : ObjId) (i j : ℕ) → places_by around d ≡ Some i → Path graph i j → Chained d j
-  path_chain d i j e (start _ leads) =
-      let next = edge_waits d i j e leads in
-      record { object = next.object; is = next.is; chain = one next.object.0 next.waits }
-  path_chain d i j e (further b _ p leads) =
-      let so_far = path_chain d i b e p in
-      let next = edge_waits so_far.object b j so_far.is leads in
-      record { object = next.object; is = next.is; chain = more so_far.object.0 next.object.0 so_far.chain next.waits }
+    -- the first of a chain waits
+    first_place : (d e : ℕ) → Chain means declarations headers d e → HasPlace d
+    first_place d e (one _ w) = has_own_place d w.declaration w.declared
+    first_place d e (more b _ chain w) = first_place d b chain
 
-  record Pathed (i : ℕ) (d : ObjId) : Type 0 where
-    pub place : ℕ
-    pub is : places_by around d ≡ Some place
-    pub path : Path graph i place
+    -- the vertices from which a path leads back are the places of what waits for itself
+    pub marks_are_chains : (marks : List Bool) → ((i : ℕ) → (is_marked marks i ≡ true) ↔ Path graph i i) → (d : ℕ) → (marked_by (placed_by entries) marks d ≡ true) ↔ Chain means declarations headers d d
+    marks_are_chains marks exact d = (to_chain (placed_by entries (record { 0 = d })) refl, to_mark)
+      where
+        to_chain : (o : Option ℕ) → placed_by entries (record { 0 = d }) ≡ o → marked_by (placed_by entries) marks d ≡ true → Chain means declarations headers d d
+        to_chain None at e = absurd (let never : false ≡ true = sym (ap (mark_at marks) at) ∙ e in cc)
+        to_chain (Some i) at e =
+            let back = path_chain (record { 0 = d }) i i at ((exact i).0 (sym (ap (mark_at marks) at) ∙ e)) in
+            let same : back.object.0 ≡ d = ap (λ (k : ObjId). k.0) (one_object back.object (record { 0 = d }) i back.is at) in
+            subst (Chain means declarations headers d) same back.chain
 
-  chain_path : (d : ObjId) (e i : ℕ) → places_by around d ≡ Some i → Chain (means_by around) declarations (headers_by around own) d.0 e → Pathed i (record { 0 = e })
-  chain_path d e i at (one _ w) =
-      let next = waits_edge d (record { 0 = e }) i at w in
-      record { place = next.place; is = next.is; path = start next.place next.edge }
-  chain_path d e i at (more b _ chain w) =
-      let so_far = chain_path d b i at chain in
-      let next = waits_edge (record { 0 = b }) (record { 0 = e }) so_far.place so_far.is w in
-      record { place = next.place; is = next.is; path = further so_far.place next.place so_far.path next.edge }
+        to_mark : Chain means declarations headers d d → marked_by (placed_by entries) marks d ≡ true
+        to_mark chain =
+            let here = first_place d d chain in
+            ap (mark_at marks) here.is ∙ (exact here.place).1 (chain_path (record { 0 = d }) d here.place here.place here.is here.is chain)
 
-  -- what a chain leads to has a place
-  chained_has : (d e : ℕ) → Chain (means_by around) declarations (headers_by around own) d e → HasPlace (places_by around) e
-  chained_has d e (one _ w) = awaited_has (record { 0 = d }) (record { 0 = e }) w
-  chained_has d e (more b _ chain w) = awaited_has (record { 0 = b }) (record { 0 = e }) w
-
-  -- the vertices from which a path leads back are the places of what waits for itself
-  pub marks_are_chains : (marks : List Bool) → ((i : ℕ) → (is_marked marks i ≡ true) ↔ Path graph i i) → (d : ℕ) → (marked_by (places_by around) marks d ≡ true) ↔ Chain (means_by around) declarations (headers_by around own) d d
-  marks_are_chains marks exact d = (to_chain (places_by around (record { 0 = d })) refl, to_mark)
-    where
-      to_chain : (o : Option ℕ) → places_by around (record { 0 = d }) ≡ o → marked_by (places_by around) marks d ≡ true → Chain (means_by around) declarations (headers_by around own) d d
-      to_chain None at e = absurd (let never : false ≡ true = sym (ap (mark_at marks) at) ∙ e in cc)
-      to_chain (Some i) at e =
-          let back = path_chain (record { 0 = d }) i i at ((exact i).0 (sym (ap (mark_at marks) at) ∙ e)) in
-          let same : back.object.0 ≡ d = ap (λ (k : ObjId). k.0) (one_object around declarations is_around back.object (record { 0 = d }) i back.is at) in
-          subst (Chain (means_by around) declarations (headers_by around own) d) same back.chain
-
-      to_mark : Chain (means_by around) declarations (headers_by around own) d d → marked_by (places_by around) marks d ≡ true
-      to_mark chain =
-          let here = chained_has d d chain in
-          let back = chain_path (record { 0 = d }) d here.place here.is chain in
-          let same : back.place ≡ here.place = (let both : Some back.place ≡ Some here.place = sym back.is ∙ here.is in cc) in
-          ap (mark_at marks) here.is ∙ (exact here.place).1 (subst (Path graph here.place) same back.path)
-
-  -- by outcomes that walks left the graph is the same
-  pub read_graph : (outcomes : Outcomes) → AreWalked (means_by around) (headers_by around own) (flat_map nodes_under declarations) outcomes → waits_of (places_by around) (awaited_under (outcome_read outcomes)) declarations ≡ graph
-  read_graph outcomes walked = map-same (awaited_places (places_by around) (awaited_under (outcome_read outcomes))) found declarations each
-    where
-      each : (d : Declaration) → Contains declarations d → awaited_places (places_by around) (awaited_under (outcome_read outcomes)) d ≡ found d
-      each d in_d =
-          ap (flat_map (place_list (places_by around)))
-          (flat_map-same (awaited_among (outcome_read outcomes)) (awaited_by_nodes (means_by around) (headers_by around own)) (rests_on d)
-          (λ t in_t. flat_map-same (λ node. awaited_in (outcome_read outcomes node)) (λ node. awaited_in (outcome (means_by around) (headers_by around own) node)) (nodes_in t)
-          (λ node in_node. ap awaited_in (read_is (means_by around) (headers_by around own) (flat_map nodes_under declarations) outcomes walked node
-          (flat_contains nodes_under declarations d node in_d (flat_contains nodes_in (rests_on d) t node in_t in_node))))))
+-- by outcomes that walks left the graph is the same
+pub read_graph : (entries : List (ObjId × ℕ)) (means : ℕ → Meaning) (headers : Headers) (declarations : List Declaration) (outcomes : Outcomes) → AreWalked means headers (flat_map nodes_under declarations) outcomes
+    → waits_of (placed_by entries) (awaited_under (outcome_read outcomes)) declarations ≡ waits_of (placed_by entries) (awaited_by means headers) declarations
+read_graph entries means headers declarations outcomes walked = map-same (awaited_places (placed_by entries) (awaited_under (outcome_read outcomes))) (awaited_places (placed_by entries) (awaited_by means headers)) declarations each
+  where
+    each : (d : Declaration) → Contains declarations d → awaited_places (placed_by entries) (awaited_under (outcome_read outcomes)) d ≡ awaited_places (placed_by entries) (awaited_by means headers) d
+    each d in_d =
+        ap (flat_map (place_list (placed_by entries)))
+        (flat_map-same (awaited_among (outcome_read outcomes)) (awaited_by_nodes means headers) (rests_on d)
+        (λ t in_t. flat_map-same (λ node. awaited_in (outcome_read outcomes node)) (λ node. awaited_in (outcome means headers node)) (nodes_in t)
+        (λ node in_node. ap awaited_in (read_is means headers (flat_map nodes_under declarations) outcomes walked node
+        (flat_contains nodes_under declarations d node in_d (flat_contains nodes_in (rests_on d) t node in_t in_node))))))

@@ -1,14 +1,10 @@
 -- Headers that are found in rounds: what the rounds keep, and when no more can be found.
 use Rattle.std.specs.Prelude.{◌≡◌, ℕ, suc, Option, Some, None, List, [], ◌∷◌}
-use Rattle.std.specs.Map.{lookup}
-use Rattle.go_base.specs.declared.ids.ObjId.{ObjId}
-use Rattle.go_module.specs.Names.Declarations.{Declaration, number_of, numbers_of}
-use Rattle.go_module.specs.Scopes.{same_object}
+use Rattle.go_module.specs.Names.Declarations.{Declaration, number_of}
 use Rattle.go_model.specs.declared.meaning.Meaning.{Meaning}
 use Rattle.go_model.specs.Outcomes.Records.{HeaderData}
 use Rattle.go_model.specs.Outcomes.Walk.{Headers}
 use Rattle.go_model.specs.Values.Headers.{Follows, headers_of, Justified}
-use Rattle.go_expr.specs.Places.{place_among}
 
 -- these headers are those of some justified list
 pub record IsBacked (before : Headers) (means : ℕ → Meaning) (declarations : List Declaration) (headers : Headers) : Type 0 where
@@ -29,7 +25,3 @@ and_open (Some h) n = n
 abbrev pub open_in : Headers → List Declaration → ℕ
 open_in headers [] = 0
 open_in headers (x ∷ xs) = and_open (headers (number_of x).0) (open_in headers xs)
-
--- entries are the places of declarations by their numbers: of several with one number that of the first
-abbrev pub ArePlaces : List Declaration → List (ObjId × ℕ) → Type 0
-ArePlaces declarations entries = (d : ObjId) → lookup (same_object d) entries ≡ place_among (numbers_of declarations) d

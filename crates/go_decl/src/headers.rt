@@ -5,34 +5,37 @@ ghost use Rattle.go_base.specs.declared.ids.ObjId.{ObjId as Object};
 ghost use Rattle.go_module.specs.Scopes.{same_object};
 ghost use Rattle.go_model.specs.Outcomes.Records.{HeaderData};
 ghost use Rattle.go_model.specs.Values.Headers.{Known};
-ghost use Rattle.go_decl.specs.Rounds.{ArePlaces, IsBacked, IsSettled, open_in};
+ghost use Rattle.go_model.specs.Values.Meaning.{AreThere, meaning_by};
+ghost use Rattle.go_decl.specs.Places.{ArePlaces};
+ghost use Rattle.go_decl.specs.Rounds.{IsBacked, IsSettled, open_in};
 ghost use Rattle.go_names.specs.Views.{declarations_view};
 
 use crate::places::places_of;
 use go_base::NoMemory;
 use go_expr::header_over;
-use go_model::{Headers, Rules};
+use go_model::Rules;
 use go_module::ObjId;
 use go_names::Declaration;
 use indexmap::IndexMap;
 use std::alloc::Global;
 
-/// Finds the headers of declarations in rounds, and tells them to the rules. Of several declarations with one number
-/// the first is meant. An error is want of memory; some of these headers may be known then, and no others.
+/// Finds the headers of declarations in rounds, and tells them to the rules. It asks that each object that is denoted is
+/// there. Of several declarations with one number the first is meant. An error is want of memory; some of these headers
+/// may be known then, and no others.
 pub fn rounds<R: Rules>(
     alloc: Global,
     rules: &mut R,
     declarations: &[Declaration],
 ) -> Result<(), NoMemory>
+    requires { AreThere (R.names rules.old) }
     ensures exact { OnOk result ((d : ℕ) (h : HeaderData) → (R.headers rules.new d ≡ Some h)
-        ↔ Known (R.headers rules.old) (R.means rules.old) (declarations_view declarations.now) d h) }
-    ensures backed { IsBacked (R.headers rules.old) (R.means rules.old) (declarations_view declarations.now)
+        ↔ Known (R.headers rules.old) (meaning_by (R.names rules.old)) (declarations_view declarations.now) d h) }
+    ensures backed { IsBacked (R.headers rules.old) (meaning_by (R.names rules.old)) (declarations_view declarations.now)
         (R.headers rules.new) }
-    ensures means { R.means rules.new ≡ R.means rules.old }
+    ensures names { R.names rules.new ≡ R.names rules.old }
     ensures world { R.world rules.new ≡ R.world rules.old }
 {
-    let none = Headers::new(alloc);
-    let places = places_of(alloc, &none, declarations)?;
+    let places = places_of(alloc, declarations)?;
     add_rounds(alloc, rules, &places, declarations)
 }
 
@@ -43,12 +46,13 @@ fn add_rounds<R: Rules>(
     places: &IndexMap<ObjId, usize>,
     declarations: &[Declaration],
 ) -> Result<(), NoMemory>
+    requires there { AreThere (R.names rules.old) }
     requires places { ArePlaces (declarations_view declarations.now) places.now.entries }
     ensures exact { OnOk result ((d : ℕ) (h : HeaderData) → (R.headers rules.new d ≡ Some h)
-        ↔ Known (R.headers rules.old) (R.means rules.old) (declarations_view declarations.now) d h) }
-    ensures backed { IsBacked (R.headers rules.old) (R.means rules.old) (declarations_view declarations.now)
+        ↔ Known (R.headers rules.old) (meaning_by (R.names rules.old)) (declarations_view declarations.now) d h) }
+    ensures backed { IsBacked (R.headers rules.old) (meaning_by (R.names rules.old)) (declarations_view declarations.now)
         (R.headers rules.new) }
-    ensures means { R.means rules.new ≡ R.means rules.old }
+    ensures names { R.names rules.new ≡ R.names rules.old }
     ensures world { R.world rules.new ≡ R.world rules.old }
 {
     while add_round(alloc, rules, places, declarations)? {}
@@ -62,15 +66,16 @@ fn add_round<R: Rules>(
     places: &IndexMap<ObjId, usize>,
     declarations: &[Declaration],
 ) -> Result<bool, NoMemory>
+    requires there { AreThere (R.names rules.old) }
     requires places { ArePlaces (declarations_view declarations.now) places.now.entries }
-    ensures backed { IsBacked (R.headers rules.old) (R.means rules.old) (declarations_view declarations.now)
+    ensures backed { IsBacked (R.headers rules.old) (meaning_by (R.names rules.old)) (declarations_view declarations.now)
         (R.headers rules.new) }
     ensures fewer { IfOk result (λ added. IsTrue added
         → open_in (R.headers rules.new) (declarations_view declarations.now)
         < open_in (R.headers rules.old) (declarations_view declarations.now)) }
     ensures settled { IfOk result (λ added. added ≡ false → (d : ℕ) → IsSettled (R.headers rules.new)
-        (R.means rules.old) (declarations_view declarations.now) (R.headers rules.new) d) }
-    ensures means { R.means rules.new ≡ R.means rules.old }
+        (meaning_by (R.names rules.old)) (declarations_view declarations.now) (R.headers rules.new) d) }
+    ensures names { R.names rules.new ≡ R.names rules.old }
     ensures world { R.world rules.new ≡ R.world rules.old }
 {
     let mut added = false;
@@ -90,9 +95,10 @@ fn add_one<R: Rules>(
     declarations: &[Declaration],
     place: usize,
 ) -> Result<bool, NoMemory>
+    requires there { AreThere (R.names rules.old) }
     requires places { ArePlaces (declarations_view declarations.now) places.now.entries }
     requires within { place < length declarations.now }
-    ensures backed { IsBacked (R.headers rules.old) (R.means rules.old) (declarations_view declarations.now)
+    ensures backed { IsBacked (R.headers rules.old) (meaning_by (R.names rules.old)) (declarations_view declarations.now)
         (R.headers rules.new) }
     ensures fewer { IfOk result (λ added. IsTrue added
         → open_in (R.headers rules.new) (declarations_view declarations.now)
@@ -100,8 +106,8 @@ fn add_one<R: Rules>(
     ensures same { IfOk result (λ added. added ≡ false → R.headers rules.new ≡ R.headers rules.old) }
     ensures settled { IfOk result (λ added. added ≡ false → (d : Object)
         → lookup (same_object d) places.now.entries ≡ Some place → IsSettled (R.headers rules.new)
-        (R.means rules.old) (declarations_view declarations.now) (R.headers rules.new) d.0) }
-    ensures means { R.means rules.new ≡ R.means rules.old }
+        (meaning_by (R.names rules.old)) (declarations_view declarations.now) (R.headers rules.new) d.0) }
+    ensures names { R.names rules.new ≡ R.names rules.old }
     ensures world { R.world rules.new ≡ R.world rules.old }
 {
     let declaration = &declarations[place];

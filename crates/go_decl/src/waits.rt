@@ -3,50 +3,50 @@ ghost use Rattle.std.specs.Prelude.{◌≡◌, ◌++◌, ◌↔◌, ℕ, true, I
 ghost use Rattle.std.specs.List.{flat_map};
 ghost use Rattle.go_names.specs.Views.{declaration_view, declarations_view};
 ghost use Rattle.go_tree.specs.Tree.{tree_of};
-ghost use Rattle.go_model.specs.declared.headers.Headers.{Headers as HeaderMap};
+ghost use Rattle.go_model.specs.declared.meaning.Meaning.{Meaning};
 ghost use Rattle.go_model.specs.Outcomes.Readings.{awaited_in};
+ghost use Rattle.go_model.specs.Outcomes.Walk.{Headers};
 ghost use Rattle.go_model.specs.Outcomes.Walked.{AreWalked};
 ghost use Rattle.go_model.specs.Values.Waiting.{Chain, awaited_among, awaited_under};
+ghost use Rattle.go_decl.specs.Places.{ArePlaces, placed_by};
 ghost use Rattle.go_decl.specs.Waits.{awaited_places, marked_by, place_list, waits_of};
-ghost use Rattle.go_expr.specs.OwnHeaders.{headers_by};
 ghost use Rattle.go_expr.specs.Read.{nodes_under, outcome_read};
-ghost use Rattle.go_expr.specs.View.{IsAround, means_by, places_by};
 ghost use Rattle.go_expr.specs.Walker.{outcomes_view};
 
 use go_base::NoMemory;
-use go_expr::{Around, Walker, nodes_in};
+use go_expr::{Walker, nodes_in};
 use go_graph::{Numbers, cyclic_vertices, is_marked};
 use go_model::Outcome;
 use go_module::ObjId;
 use go_names::Declaration;
 use go_tree::Node;
+use indexmap::IndexMap;
 use std::alloc::Global;
 
 /// For each declaration by its place, of several with one number the first, whether it waits for its own header, be it
 /// through others, by the outcomes of its nodes over the headers that are known. An error is want of memory.
 pub fn cyclic_declarations(
     alloc: Global,
-    around: &Around,
+    places: &IndexMap<ObjId, usize>,
     walker: &Walker,
     declarations: &[Declaration],
 ) -> Result<Vec<bool>, NoMemory>
-    requires { IsAround (declarations_view declarations.now) around.now }
+    requires { ArePlaces (declarations_view declarations.now) places.now.entries }
     ensures length { IfOk result (λ cyclic. length cyclic.items ≡ length declarations.now) }
-    ensures exact { IfOk result (λ cyclic. (own : HeaderMap)
-        → AreWalked (means_by around.now) (headers_by around.now own)
+    ensures exact { IfOk result (λ cyclic. (means : ℕ → Meaning) (headers : Headers) → AreWalked means headers
         (flat_map nodes_under (declarations_view declarations.now)) (outcomes_view walker.now)
-        → (d : ℕ) → (marked_by (places_by around.now) cyclic.items d ≡ true)
-        ↔ Chain (means_by around.now) (declarations_view declarations.now) (headers_by around.now own) d d) }
+        → (d : ℕ) → (marked_by (placed_by places.now.entries) cyclic.items d ≡ true)
+        ↔ Chain means (declarations_view declarations.now) headers d d) }
 {
-    let waits = waits_of(alloc, around, walker, declarations)?;
+    let waits = waits_of(alloc, places, walker, declarations)?;
     cyclic_vertices(alloc, &waits)
 }
 
 /// Whether a declaration is marked, by its number.
-pub fn is_cyclic(around: &Around, cyclic: &[bool], d: ObjId) -> bool
-    ensures { result ≡ marked_by (places_by around.now) cyclic.now d.0 }
+pub fn is_cyclic(places: &IndexMap<ObjId, usize>, cyclic: &[bool], d: ObjId) -> bool
+    ensures { result ≡ marked_by (placed_by places.now.entries) cyclic.now d.0 }
 {
-    match around.places.get(&d) {
+    match places.get(&d) {
         Some(place) => is_marked(cyclic, *place),
         None => false,
     }
@@ -55,16 +55,16 @@ pub fn is_cyclic(around: &Around, cyclic: &[bool], d: ObjId) -> bool
 // For each declaration, the places of those for whose headers the nodes of its parts wait.
 fn waits_of(
     alloc: Global,
-    around: &Around,
+    places: &IndexMap<ObjId, usize>,
     walker: &Walker,
     declarations: &[Declaration],
 ) -> Result<Vec<Numbers>, NoMemory>
-    ensures { IfOk result (λ waits. waits.items ≡ waits_of (places_by around.now)
+    ensures { IfOk result (λ waits. waits.items ≡ waits_of (placed_by places.now.entries)
         (awaited_under (outcome_read (outcomes_view walker.now))) (declarations_view declarations.now)) }
 {
     let mut waits = Vec::new(alloc);
     for declaration in declarations {
-        waits.push(awaited_places(alloc, around, walker, declaration)?)?;
+        waits.push(awaited_places(alloc, places, walker, declaration)?)?;
     }
     Ok(waits)
 }
@@ -72,34 +72,42 @@ fn waits_of(
 // The places of the declarations for whose headers the nodes of the parts of one wait.
 fn awaited_places(
     alloc: Global,
-    around: &Around,
+    places: &IndexMap<ObjId, usize>,
     walker: &Walker,
     declaration: &Declaration,
 ) -> Result<Numbers, NoMemory>
-    ensures { IfOk result (λ places. places ≡ awaited_places (places_by around.now)
+    ensures { IfOk result (λ list. list ≡ awaited_places (placed_by places.now.entries)
         (awaited_under (outcome_read (outcomes_view walker.now))) (declaration_view declaration.now)) }
 {
     let numbers = awaited_by(alloc, walker, declaration)?;
-    places_in(alloc, around, numbers.as_slice())
+    places_in(alloc, places, numbers.as_slice())
 }
 
 // The places that these numbers of declarations have.
-fn places_in(alloc: Global, around: &Around, numbers: &[usize]) -> Result<Numbers, NoMemory>
-    ensures { IfOk result (λ places. places ≡ flat_map (place_list (places_by around.now)) numbers.now) }
+fn places_in(
+    alloc: Global,
+    places: &IndexMap<ObjId, usize>,
+    numbers: &[usize],
+) -> Result<Numbers, NoMemory>
+    ensures { IfOk result (λ list. list ≡ flat_map (place_list (placed_by places.now.entries)) numbers.now) }
 {
-    let mut places = Numbers::new(alloc);
+    let mut list = Numbers::new(alloc);
     for number in numbers {
-        push_place(around, ObjId(*number), &mut places)?;
+        push_place(places, ObjId(*number), &mut list)?;
     }
-    Ok(places)
+    Ok(list)
 }
 
 // Pushes the place that an object has, if any.
-fn push_place(around: &Around, d: ObjId, places: &mut Numbers) -> Result<(), NoMemory>
-    ensures { OnOk result (places.new ≡ places.old ++ place_list (places_by around.now) d.0) }
+fn push_place(
+    places: &IndexMap<ObjId, usize>,
+    d: ObjId,
+    list: &mut Numbers,
+) -> Result<(), NoMemory>
+    ensures { OnOk result (list.new ≡ list.old ++ place_list (placed_by places.now.entries) d.0) }
 {
-    match around.places.get(&d) {
-        Some(place) => places.push(*place),
+    match places.get(&d) {
+        Some(place) => list.push(*place),
         None => Ok(()),
     }
 }

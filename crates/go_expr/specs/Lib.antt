@@ -1,7 +1,4 @@
 -- what public contracts cite
-pub mod Places
-pub mod View
-pub mod OwnHeaders
 pub mod Outcomes
 pub mod Walker
 pub mod Read

@@ -6,6 +6,7 @@ ghost use Rattle.go_model.specs.Outcomes.Readings as readings;
 ghost use Rattle.go_model.specs.Outcomes.Records as parts;
 ghost use Rattle.go_model.specs.Outcomes.Records.{header_view, rec_view};
 ghost use Rattle.go_model.specs.Outcomes.View.{outcome_view};
+ghost use Rattle.go_model.specs.Values.Meaning.{AreThere, meaning_by};
 ghost use Rattle.go_model.specs.Values.Records as records;
 ghost use Rattle.go_names.specs.Views.{declaration_view};
 ghost use Rattle.go_expr.specs.Read.{outcome_read};
@@ -19,16 +20,18 @@ use go_names::Declaration;
 use go_tree::Node;
 use std::alloc::Global;
 
-/// The header of a declaration over the headers that are known, which stay as they are. An error is want of memory.
+/// The header of a declaration over the headers that are known, which stay as they are. It asks that each object that is
+/// denoted is there. An error is want of memory.
 pub fn header_over<W: ExprWalk>(
     alloc: Global,
     walks: &mut W,
     declaration: &Declaration,
 ) -> Result<Option<Header>, NoMemory>
-    ensures header { IfOk result (λ header. option_map header_view header ≡ records.header_over (W.means walks.old)
+    requires { AreThere (W.names walks.old) }
+    ensures header { IfOk result (λ header. option_map header_view header ≡ records.header_over (meaning_by (W.names walks.old))
         (W.headers walks.old) (declaration_view declaration.now)) }
     ensures same { W.headers walks.new ≡ W.headers walks.old }
-    ensures means { W.means walks.new ≡ W.means walks.old }
+    ensures names { W.names walks.new ≡ W.names walks.old }
     ensures world { W.world walks.new ≡ W.world walks.old }
 {
     match bound_value(declaration) {

@@ -1,17 +1,15 @@
 //! What expressions come to over the headers that are known.
 //!
 //! A `Walker` walks over expressions and types and keeps the outcome of each node, by the node's number: a judge answers
-//! which headers are known and what identifiers mean, and each construct has a file of its own. `header_over` reads the
-//! header of a declaration off a walk, `header_by` off outcomes that are kept; `nodes_in` lists the nodes. `PackageJudge`
-//! is a judge over the headers of a package so far, `Around` says what identifiers mean there. How headers are found is
-//! left to go_decl, which rules are told where to go_check.
+//! which headers are known and what identifiers denote, and each construct has a file of its own. `header_over` reads the
+//! header of a declaration off a walk, `header_by` off outcomes that are kept; `nodes_in` lists the nodes. How headers
+//! are found is left to go_decl, which rules are told where to go_check.
 #![tactic(auto)]
 
 mod rules;
 
-// What identifiers mean, and what is known.
-mod around;
-mod package_judge;
+// What identifiers mean.
+mod meaning;
 
 // What a node comes to: each construct.
 mod broken;
@@ -26,8 +24,6 @@ mod headers;
 mod nodes;
 mod walker;
 
-pub use around::Around;
 pub use headers::{header_by, header_over};
 pub use nodes::nodes_in;
-pub use package_judge::PackageJudge;
 pub use walker::Walker;

@@ -19,7 +19,7 @@ pub fn name<J: Judge>(alloc: Global, judge: &mut J, meaning: Meaning) -> Result<
     ensures outcome { IfOk result (λ outcome. (parts : List (OutcomeData RecData))
         → outcome_view outcome ≡ judged (J.headers judge.old) (spec.name meaning) parts) }
     ensures same { J.headers judge.new ≡ J.headers judge.old }
-    ensures means { J.means judge.new ≡ J.means judge.old }
+    ensures names { J.names judge.new ≡ J.names judge.old }
     ensures world { J.world judge.new ≡ J.world judge.old }
 {
     match meaning {

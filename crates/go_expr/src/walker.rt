@@ -9,11 +9,13 @@ ghost use Rattle.go_model.specs.Outcomes.Records.{rec_view};
 ghost use Rattle.go_model.specs.Outcomes.View.{outcome_view};
 ghost use Rattle.go_model.specs.Outcomes.Walk as walk;
 ghost use Rattle.go_model.specs.Outcomes.Walked.{ArePartly, walked_over};
+ghost use Rattle.go_model.specs.Values.Meaning.{AreThere, meaning_by};
 ghost use Rattle.go_expr.specs.Outcomes.{both_of, only_of, outcome_by_parts};
 ghost use Rattle.go_expr.specs.Outcomes.{parentheses_by_parts, selector_by_parts, sum_by_parts};
 ghost use Rattle.go_expr.specs.Walker.{outcomes_view};
 
 use crate::literal::literal;
+use crate::meaning::meaning;
 use crate::name::name;
 use crate::parentheses::parentheses;
 use crate::selector::selector;
@@ -42,10 +44,10 @@ impl Walker {
         }
     }
 
-    /// The outcome of a node over the headers of the judge, which stays as it is, also on an error. The walk reaches the
-    /// node and all nodes in it, the name of a package before a `.` too. `_want` is the type of the variable or the result
-    /// to which the value is given; nothing is built yet that looks at it. An error is want of memory; some of these nodes
-    /// may have their outcomes then.
+    /// The outcome of a node over the headers of the judge, which stays as it is, also on an error. It asks that each
+    /// object that is denoted is there. The walk reaches the node and all nodes in it, the name of a package before a `.`
+    /// too. `_want` is the type of the variable or the result to which the value is given; nothing is built yet that looks
+    /// at it. An error is want of memory; some of these nodes may have their outcomes then.
     pub fn walk_node<J: Judge>(
         &mut self,
         alloc: Global,
@@ -53,14 +55,15 @@ impl Walker {
         node: &Node,
         _want: Option<Ty>,
     ) -> Result<Outcome, NoMemory>
+        requires { AreThere (J.names judge.old) }
         ensures outcome { IfOk result (λ found. outcome_view found
-            ≡ walk.outcome (J.means judge.old) (J.headers judge.old) (tree_of node.now)) }
-        ensures reached { OnOk result ((n : ℕ) → outcomes_view self.new n ≡ walked_over (J.means judge.old)
+            ≡ walk.outcome (meaning_by (J.names judge.old)) (J.headers judge.old) (tree_of node.now)) }
+        ensures reached { OnOk result ((n : ℕ) → outcomes_view self.new n ≡ walked_over (meaning_by (J.names judge.old))
             (J.headers judge.old) (nodes_in (tree_of node.now)) (outcomes_view self.old) n) }
-        ensures err { OnErr result (ArePartly (J.means judge.old) (J.headers judge.old) (nodes_in (tree_of node.now))
+        ensures err { OnErr result (ArePartly (meaning_by (J.names judge.old)) (J.headers judge.old) (nodes_in (tree_of node.now))
             (outcomes_view self.old) (outcomes_view self.new)) }
         ensures same { J.headers judge.new ≡ J.headers judge.old }
-        ensures means { J.means judge.new ≡ J.means judge.old }
+        ensures names { J.names judge.new ≡ J.names judge.old }
         ensures world { J.world judge.new ≡ J.world judge.old }
     {
         walk(alloc, judge, node, self)
@@ -96,14 +99,15 @@ fn walk<J: Judge>(
     node: &Node,
     walker: &mut Walker,
 ) -> Result<Outcome, NoMemory>
+    requires there { AreThere (J.names judge.old) }
     ensures outcome { IfOk result (λ found. outcome_view found
-        ≡ walk.outcome (J.means judge.old) (J.headers judge.old) (tree_of node.now)) }
-    ensures reached { OnOk result ((n : ℕ) → outcomes_view walker.new n ≡ walked_over (J.means judge.old)
+        ≡ walk.outcome (meaning_by (J.names judge.old)) (J.headers judge.old) (tree_of node.now)) }
+    ensures reached { OnOk result ((n : ℕ) → outcomes_view walker.new n ≡ walked_over (meaning_by (J.names judge.old))
         (J.headers judge.old) (nodes_in (tree_of node.now)) (outcomes_view walker.old) n) }
-    ensures err { OnErr result (ArePartly (J.means judge.old) (J.headers judge.old) (nodes_in (tree_of node.now))
+    ensures err { OnErr result (ArePartly (meaning_by (J.names judge.old)) (J.headers judge.old) (nodes_in (tree_of node.now))
         (outcomes_view walker.old) (outcomes_view walker.new)) }
     ensures same { J.headers judge.new ≡ J.headers judge.old }
-    ensures means { J.means judge.new ≡ J.means judge.old }
+    ensures names { J.names judge.new ≡ J.names judge.old }
     ensures world { J.world judge.new ≡ J.world judge.old }
 {
     let inner = inner_parts(alloc, node)?;
@@ -124,22 +128,23 @@ fn step<J: Judge>(
     node: &Node,
     outcomes: &[Outcome],
 ) -> Result<Outcome, NoMemory>
+    requires { AreThere (J.names judge.old) }
     ensures outcome { IfOk result (λ found. outcome_view found
-        ≡ outcome_by_parts (J.means judge.old) (J.headers judge.old) (tree_of node.now)
+        ≡ outcome_by_parts (meaning_by (J.names judge.old)) (J.headers judge.old) (tree_of node.now)
         (map outcome_view outcomes.now)) }
     ensures same { J.headers judge.new ≡ J.headers judge.old }
-    ensures means { J.means judge.new ≡ J.means judge.old }
+    ensures names { J.names judge.new ≡ J.names judge.old }
     ensures world { J.world judge.new ≡ J.world judge.old }
 {
     match node.kind() {
         NodeKind::IntLit => literal(alloc, node.text()),
         NodeKind::Name => {
-            let meaning = judge.meaning(node.id());
+            let meaning = meaning(judge, node.id());
             name(alloc, judge, meaning)
         }
         NodeKind::SelectorExpr => match node.both_parts() {
             Some((_, f)) => {
-                let meaning = judge.meaning(f.id());
+                let meaning = meaning(judge, f.id());
                 selector_by_parts(alloc, judge, meaning, outcomes)
             }
             None => Ok(Outcome::Nothing),
@@ -159,7 +164,7 @@ fn selector_by_parts<J: Judge>(
     ensures outcome { IfOk result (λ found. outcome_view found
         ≡ selector_by_parts (J.headers judge.old) meaning (map outcome_view outcomes.now)) }
     ensures same { J.headers judge.new ≡ J.headers judge.old }
-    ensures means { J.means judge.new ≡ J.means judge.old }
+    ensures names { J.names judge.new ≡ J.names judge.old }
     ensures world { J.world judge.new ≡ J.world judge.old }
 {
     match only(outcomes) {

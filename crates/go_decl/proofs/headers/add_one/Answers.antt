@@ -5,6 +5,7 @@ use Rattle.go_base.specs.declared.ids.ObjId.{ObjId}
 use Rattle.go_module.specs.Scopes.{same_object}
 use Rattle.go_model.specs.Outcomes.Records.{header_view}
 use Rattle.go_model.specs.Outcomes.Walk.{Headers}
+use Rattle.go_model.specs.Values.Meaning.{meaning_by}
 use Rattle.go_names.specs.Views.{declaration_view, declarations_view}
 use Rattle.go_decl.specs.Rounds.{IsSettled}
 use Rattle.go_decl.proofs.RoundLemmas.{at_place, backed_one, declared_at, fewer_open, found_over, is_known, is_vacant, learnt_over, settled_none}
@@ -28,7 +29,7 @@ returns-then-not-stands_at-clause-settled g c = λ _ d at h _ _.
 pub returns-in_ok-learn-in-Some-clause-backed : goal.returns-in_ok-learn-in-Some-clause-backed
 returns-in_ok-learn-in-Some-clause-backed g c =
     let headers = g.R.Ask.headers c.args.rules.now in
-    let means = g.R.Ask.means c.args.rules.now in
+    let means = meaning_by (g.R.Ask.names c.args.rules.now) in
     let declarations = declarations_view c.args.declarations.now in
     let declaration = declaration_view c.index-declarations-place.result in
     let d = c.number-number.result in
@@ -38,7 +39,7 @@ returns-in_ok-learn-in-Some-clause-backed g c =
     let kept : g.R.Ask.headers c.header_over.new.walks ≡ headers = c.header_over.ensures.same ∙ c.ask.ensures.same in
     backed_one headers means declarations (g.R.Ask.headers c.learn.new.self) d.0 h declaration is.declared
     (is_vacant c.in_ok-ask.field-0 (headers d.0) c.if-is_some.ensures c.in_ok-ask.ensures.answer)
-    (found_over means (g.R.Ask.means c.ask.new.self) headers (g.R.Ask.headers c.ask.new.self) declaration c.in_ok-header.field-0 (Some c.in-Some.header) c.ask.ensures.means c.ask.ensures.same c.in_ok-header.ensures.header c.in-Some.is)
+    (found_over means (meaning_by (g.R.Ask.names c.ask.new.self)) headers (g.R.Ask.headers c.ask.new.self) declaration c.in_ok-header.field-0 (Some c.in-Some.header) (ap meaning_by c.ask.ensures.names) c.ask.ensures.same c.in_ok-header.ensures.header c.in-Some.is)
     (learnt_over headers (g.R.Ask.headers c.header_over.new.walks) (g.R.Ask.headers c.learn.new.self) d.0 h kept c.in_ok-learn-in-Some.ensures.learned)
 
 pub returns-in_ok-learn-in-Some-clause-fewer : goal.returns-in_ok-learn-in-Some-clause-fewer
@@ -59,11 +60,11 @@ returns-in_ok-learn-in-Some-clause-fewer g c = λ _.
 pub returns-in-None-clause-settled : goal.returns-in-None-clause-settled
 returns-in-None-clause-settled g c = λ _ d at.
     let headers = g.R.Ask.headers c.args.rules.now in
-    let means = g.R.Ask.means c.args.rules.now in
+    let means = meaning_by (g.R.Ask.names c.args.rules.now) in
     let declarations = declarations_view c.args.declarations.now in
     let declaration = declaration_view c.index-declarations-place.result in
     let there = declared_at c.args.declarations.now c.args.place c.index-declarations-place.result c.requires.within c.index-declarations-place.is in
     let is = at_place declarations c.args.places.now.entries c.requires.places d c.args.place at declaration there in
     let kept : g.R.Ask.headers c.header_over.new.walks ≡ headers = c.header_over.ensures.same ∙ c.ask.ensures.same in
     subst (λ (m : Headers). IsSettled m means declarations m d.0) (sym kept)
-    (settled_none headers means declarations d.0 declaration is.declared (found_over means (g.R.Ask.means c.ask.new.self) headers (g.R.Ask.headers c.ask.new.self) declaration c.in_ok-header.field-0 None c.ask.ensures.means c.ask.ensures.same c.in_ok-header.ensures.header c.in-None.is))
+    (settled_none headers means declarations d.0 declaration is.declared (found_over means (meaning_by (g.R.Ask.names c.ask.new.self)) headers (g.R.Ask.headers c.ask.new.self) declaration c.in_ok-header.field-0 None (ap meaning_by c.ask.ensures.names) c.ask.ensures.same c.in_ok-header.ensures.header c.in-None.is))

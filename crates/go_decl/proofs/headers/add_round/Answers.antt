@@ -1,10 +1,11 @@
-use Rattle.std.proofs.Common.{◌≡◌, ◌∙◌, ℕ, ◌<◌, ◌≤◌, Some, sym, subst, arith, below_more}
+use Rattle.std.proofs.Common.{◌≡◌, ◌∙◌, ℕ, ◌<◌, ◌≤◌, Some, ap, sym, subst, arith, below_more}
 use Rattle.std.specs.Map.{lookup}
 use Rattle.std.proofs.lemmas.List.{length-map}
 use Rattle.go_base.specs.declared.ids.ObjId.{ObjId}
 use Rattle.go_module.specs.Scopes.{same_object}
 use Rattle.go_model.specs.declared.meaning.Meaning.{Meaning}
 use Rattle.go_model.specs.Outcomes.Walk.{Headers}
+use Rattle.go_model.specs.Values.Meaning.{meaning_by}
 use Rattle.go_names.specs.Views.{declaration_view, declarations_view}
 use Rattle.go_decl.specs.Rounds.{IsBacked, IsSettled, open_in}
 use Rattle.go_decl.proofs.RoundLemmas.{backed_twice}
@@ -18,15 +19,15 @@ loop-place-preserved g c =
     let did = c.in_ok-add_one.ensures in
     let declarations = declarations_view c.args.declarations.now in
     let old = g.R.Ask.headers c.args.rules.now in
-    let means = g.R.Ask.means c.args.rules.now in
+    let means = meaning_by (g.R.Ask.names c.args.rules.now) in
     let before = g.R.Ask.headers c.loop-place.rules in
     let after = g.R.Ask.headers c.add_one.new.rules in
-    let backed : IsBacked old means declarations after = backed_twice old means declarations before after (g.R.Ask.means c.loop-place.rules) inv.means inv.backed did.backed in
+    let backed : IsBacked old means declarations after = backed_twice old means declarations before after (meaning_by (g.R.Ask.names c.loop-place.rules)) (ap meaning_by inv.names) inv.backed did.backed in
     elim c.if-branch.branch [
       | then-branch w ↦ let less : open_in after declarations < open_in before declarations = did.fewer w.if-branch.true in
           record {
             backed = backed;
-            means = c.add_one.ensures.means ∙ inv.means;
+            names = c.add_one.ensures.names ∙ inv.names;
             world = c.add_one.ensures.world ∙ inv.world;
             fewer = λ _. omega (arith, inv.no_more, less);
             no_more = omega (arith, inv.no_more, less);
@@ -35,13 +36,13 @@ loop-place-preserved g c =
       | else-branch w ↦ let same : after ≡ before = did.same w.if-branch.false in
           record {
             backed = backed;
-            means = c.add_one.ensures.means ∙ inv.means;
+            names = c.add_one.ensures.names ∙ inv.names;
             world = c.add_one.ensures.world ∙ inv.world;
             fewer = λ e. subst (λ (m : Headers). open_in m declarations < open_in old declarations) (sym same) (inv.fewer (sym w.added-is ∙ e));
             no_more = subst (λ (m : Headers). open_in m declarations ≤ open_in old declarations) (sym same) inv.no_more;
             settled = λ e. below_more (λ n. (d : ObjId) → lookup (same_object d) c.args.places.now.entries ≡ Some n → IsSettled after means declarations after d.0) c.loop-place.place
                 (λ n lt d at. subst (λ (m : Headers). IsSettled m means declarations m d.0) (sym same) (inv.settled (sym w.added-is ∙ e) n lt d at))
-                (λ d at. subst (λ (k : ℕ → Meaning). IsSettled after k declarations after d.0) inv.means (did.settled w.if-branch.false d at));
+                (λ d at. subst (λ (k : ℕ → Meaning). IsSettled after k declarations after d.0) (ap meaning_by inv.names) (did.settled w.if-branch.false d at));
           }
     ]
 
@@ -55,5 +56,5 @@ returns-clause-settled g c = λ e d h vacant follows.
 
 pub returns-in_err-add_one-clause-backed : goal.returns-in_err-add_one-clause-backed
 returns-in_err-add_one-clause-backed g c =
-    backed_twice (g.R.Ask.headers c.args.rules.now) (g.R.Ask.means c.args.rules.now) (declarations_view c.args.declarations.now) (g.R.Ask.headers c.loop-place.rules) (g.R.Ask.headers c.add_one.new.rules) (g.R.Ask.means c.loop-place.rules)
-    c.loop-place.invariant.means c.loop-place.invariant.backed c.add_one.ensures.backed
+    backed_twice (g.R.Ask.headers c.args.rules.now) (meaning_by (g.R.Ask.names c.args.rules.now)) (declarations_view c.args.declarations.now) (g.R.Ask.headers c.loop-place.rules) (g.R.Ask.headers c.add_one.new.rules) (meaning_by (g.R.Ask.names c.loop-place.rules))
+    (ap meaning_by c.loop-place.invariant.names) c.loop-place.invariant.backed c.add_one.ensures.backed

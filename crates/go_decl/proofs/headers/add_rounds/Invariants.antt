@@ -1,12 +1,13 @@
 use Rattle.std.proofs.Common.{◌≡◌}
+use Rattle.go_model.specs.Values.Meaning.{meaning_by}
 use Rattle.go_decl.specs.Rounds.{IsBacked, open_in}
 use Rattle.go_names.specs.Views.{declarations_view}
 use Rattle.go_decl.proofs.headers.add_rounds.Given as goal
 
 abbrev pub invariant-loop : goal.invariant-loop
 invariant-loop g l = record {
-  backed : IsBacked (g.R.Ask.headers l.fn.rules) (g.R.Ask.means l.fn.rules) (declarations_view l.declarations) (g.R.Ask.headers l.rules);
-  means : g.R.Ask.means l.rules ≡ g.R.Ask.means l.fn.rules;
+  backed : IsBacked (g.R.Ask.headers l.fn.rules) (meaning_by (g.R.Ask.names l.fn.rules)) (declarations_view l.declarations) (g.R.Ask.headers l.rules);
+  names : g.R.Ask.names l.rules ≡ g.R.Ask.names l.fn.rules;
   world : g.R.Ask.world l.rules ≡ g.R.Ask.world l.fn.rules;
 }
 

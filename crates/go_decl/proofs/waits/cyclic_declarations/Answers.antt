@@ -11,14 +11,15 @@ use Rattle.go_decl.proofs.waits.cyclic_declarations.Goals as goal
 pub cyclic_vertices-requires : goal.cyclic_vertices-requires
 cyclic_vertices-requires c =
     let same = c.deref.ensures.value ∙ c.in_ok-waits.ensures in
-    subst IsGraph (sym same) (waits_graph c.args.around.now (declarations_view c.args.declarations.now) c.requires (awaited_under (outcome_read (outcomes_view c.args.walker.now))))
+    subst IsGraph (sym same) (waits_graph c.args.places.now.entries (declarations_view c.args.declarations.now) c.requires (awaited_under (outcome_read (outcomes_view c.args.walker.now))))
 
 pub returns-clause-exact : goal.returns-clause-exact
 returns-clause-exact c =
     let declarations = declarations_view c.args.declarations.now in
+    let entries = c.args.places.now.entries in
     IfOk-weaker c.cyclic_vertices.result _ _
-    (λ marks exact own walked.
-    let same = c.deref.ensures.value ∙ c.in_ok-waits.ensures ∙ read_graph c.args.around.now own declarations c.requires (outcomes_view c.args.walker.now) walked in
-    marks_are_chains c.args.around.now own declarations c.requires marks.items
+    (λ marks exact means headers walked.
+    let same = c.deref.ensures.value ∙ c.in_ok-waits.ensures ∙ read_graph entries means headers declarations (outcomes_view c.args.walker.now) walked in
+    marks_are_chains entries declarations c.requires means headers marks.items
     (λ i. (λ e. subst (λ (g : Graph). Path g i i) same ((exact i).0 e), λ p. (exact i).1 (subst (λ (g : Graph). Path g i i) (sym same) p))))
     c.cyclic_vertices.ensures.exact

@@ -20,6 +20,7 @@ use Rattle.go_expr.proofs.NodeOutcomeLemmas.{by_parts_is}
 use Rattle.go_expr.proofs.WalkerLemmas.{map-reverse, node_done, outcomes_more, part_within, partly_next, parts_done, rest_within, told_at, walked_more}
 use Rattle.go_model.proofs.WalkedLemmas.{partly_walked}
 use Rattle.go_model.specs.Outcomes.Walked.{ArePartly}
+use Rattle.go_model.specs.Values.Meaning.{AreThere, meaning_by}
 use Rattle.go_expr.proofs.ResultLemmas.{on_err}
 use Rattle.go_expr.proofs.walker.+walk.Goals as goal
 
@@ -27,11 +28,11 @@ pub walk-requires : goal.walk-requires
 walk-requires g t c = λ κs lives.
     let inner = c.in_ok-inner.inner.items in
     let smaller = inner_part_smaller inner inner (tree_of c.args.node.now) (c.loop-place.place - 1) c.index.result.now refl c.in_ok-inner.ensures (omega (arith, c.in_ok-inner.inner.ok.0)) c.index.ensures in
-    (omega (arith, smaller, c.decreases), lives)
+    (omega (arith, smaller, c.decreases), (lives, subst AreThere (sym c.loop-place.invariant.names) c.requires.there))
 
 pub loop-place-preserved : goal.loop-place-preserved
 loop-place-preserved g t c =
-    let means = g.J.Ask.means c.args.judge.now in
+    let means = meaning_by (g.J.Ask.names c.args.judge.now) in
     let headers = g.J.Ask.headers c.args.judge.now in
     let inv = c.loop-place.invariant in
     let did = c.in_ok-walk.ensures in
@@ -43,18 +44,18 @@ loop-place-preserved g t c =
     sym (drop-cons inner i part (omega (arith, c.in_ok-inner.inner.ok.0)) ∙ (λ j. sym c.index.ensures j ∷ drop (next j) inner)) in
     record {
       same = c.walk.ensures.same ∙ inv.same;
-      means = c.walk.ensures.means ∙ inv.means;
+      names = c.walk.ensures.names ∙ inv.names;
       world = c.walk.ensures.world ∙ inv.world;
       found = outcomes_more means headers (tree_of part.now) (trees_at (drop c.loop-place.place inner)) (trees_at (drop i inner)) c.loop-place.outcomes.items c.push.new.self.items c.in_ok-walk.field-0
-          (ap trees_at at) inv.found (did.outcome ∙ (λ j. outcome (inv.means j) (inv.same j) (tree_of part.now))) c.in_ok-push.ensures.items;
-      reached = walked_more means (g.J.Ask.means c.loop-place.judge) headers (g.J.Ask.headers c.loop-place.judge) (nodes_in (tree_of part.now)) (flat_map nodes_in (trees_at (drop c.loop-place.place inner))) (flat_map nodes_in (trees_at (drop i inner)))
-          (outcomes_view c.args.walker.now) (outcomes_view c.loop-place.walker) (outcomes_view c.walk.new.walker) inv.means inv.same
+          (ap trees_at at) inv.found (did.outcome ∙ (λ j. outcome (meaning_by (inv.names j)) (inv.same j) (tree_of part.now))) c.in_ok-push.ensures.items;
+      reached = walked_more means (meaning_by (g.J.Ask.names c.loop-place.judge)) headers (g.J.Ask.headers c.loop-place.judge) (nodes_in (tree_of part.now)) (flat_map nodes_in (trees_at (drop c.loop-place.place inner))) (flat_map nodes_in (trees_at (drop i inner)))
+          (outcomes_view c.args.walker.now) (outcomes_view c.loop-place.walker) (outcomes_view c.walk.new.walker) (ap meaning_by inv.names) inv.same
           (ap (λ (ps : List (Bor Node)). flat_map nodes_in (trees_at ps)) at) inv.reached did.reached;
     }
 
 pub returns-clause-outcome : goal.returns-clause-outcome
 returns-clause-outcome g t c =
-    let means = g.J.Ask.means c.args.judge.now in
+    let means = meaning_by (g.J.Ask.names c.args.judge.now) in
     let headers = g.J.Ask.headers c.args.judge.now in
     let inv = c.loop-place.invariant in
     let node = tree_of c.args.node.now in
@@ -66,12 +67,12 @@ returns-clause-outcome g t c =
     ∙ reverse-reverse (map (outcome means headers) (trees_at c.in_ok-inner.inner.items))
     ∙ ap (map (outcome means headers)) c.in_ok-inner.ensures in
     c.in_ok-made.ensures.outcome
-    ∙ (λ j. outcome_by_parts (inv.means j) (inv.same j) node (parts j))
+    ∙ (λ j. outcome_by_parts (meaning_by (inv.names j)) (inv.same j) node (parts j))
     ∙ by_parts_is means headers node
 
 pub returns-clause-reached : goal.returns-clause-reached
 returns-clause-reached g t c =
-    let means = g.J.Ask.means c.args.judge.now in
+    let means = meaning_by (g.J.Ask.names c.args.judge.now) in
     let headers = g.J.Ask.headers c.args.judge.now in
     let node = tree_of c.args.node.now in
     let first : c.loop-place.place ≡ 0 = omega arith in
@@ -90,7 +91,7 @@ returns-clause-reached g t c =
 pub returns-in_err-walk-clause-err : goal.returns-in_err-walk-clause-err
 returns-in_err-walk-clause-err g t c =
     let inv = c.loop-place.invariant in
-    let means = g.J.Ask.means c.args.judge.now in
+    let means = meaning_by (g.J.Ask.names c.args.judge.now) in
     let headers = g.J.Ask.headers c.args.judge.now in
     let node = tree_of c.args.node.now in
     let inner = c.in_ok-inner.inner.items in
@@ -100,14 +101,14 @@ returns-in_err-walk-clause-err g t c =
     let next : suc i ≡ c.loop-place.place = omega arith in
     let at : part ∷ drop c.loop-place.place inner ≡ drop i inner =
     sym (drop-cons inner i part (omega (arith, c.in_ok-inner.inner.ok.0)) ∙ (λ j. sym c.index.ensures j ∷ drop (next j) inner)) in
-    let next_walk = partly_next means (g.J.Ask.means c.loop-place.judge) headers (g.J.Ask.headers c.loop-place.judge) (tree_of part.now) node (outcomes_view c.args.walker.now) (outcomes_view c.loop-place.walker) (outcomes_view c.walk.new.walker)
-    inv.means inv.same (part_within i inner part (drop c.loop-place.place inner) node c.in_ok-inner.ensures at) so_far in
+    let next_walk = partly_next means (meaning_by (g.J.Ask.names c.loop-place.judge)) headers (g.J.Ask.headers c.loop-place.judge) (tree_of part.now) node (outcomes_view c.args.walker.now) (outcomes_view c.loop-place.walker) (outcomes_view c.walk.new.walker)
+    (ap meaning_by inv.names) inv.same (part_within i inner part (drop c.loop-place.place inner) node c.in_ok-inner.ensures at) so_far in
     on_err c.from_residual-in_err-walk.result _ (next_walk c.in_err-walk.ensures.err)
 
 pub returns-in_err-push-clause-err : goal.returns-in_err-push-clause-err
 returns-in_err-push-clause-err g t c =
     let inv = c.loop-place.invariant in
-    let means = g.J.Ask.means c.args.judge.now in
+    let means = meaning_by (g.J.Ask.names c.args.judge.now) in
     let headers = g.J.Ask.headers c.args.judge.now in
     let node = tree_of c.args.node.now in
     let inner = c.in_ok-inner.inner.items in
@@ -117,15 +118,15 @@ returns-in_err-push-clause-err g t c =
     let next : suc i ≡ c.loop-place.place = omega arith in
     let at : part ∷ drop c.loop-place.place inner ≡ drop i inner =
     sym (drop-cons inner i part (omega (arith, c.in_ok-inner.inner.ok.0)) ∙ (λ j. sym c.index.ensures j ∷ drop (next j) inner)) in
-    let next_walk = partly_next means (g.J.Ask.means c.loop-place.judge) headers (g.J.Ask.headers c.loop-place.judge) (tree_of part.now) node (outcomes_view c.args.walker.now) (outcomes_view c.loop-place.walker) (outcomes_view c.walk.new.walker)
-    inv.means inv.same (part_within i inner part (drop c.loop-place.place inner) node c.in_ok-inner.ensures at) so_far in
+    let next_walk = partly_next means (meaning_by (g.J.Ask.names c.loop-place.judge)) headers (g.J.Ask.headers c.loop-place.judge) (tree_of part.now) node (outcomes_view c.args.walker.now) (outcomes_view c.loop-place.walker) (outcomes_view c.walk.new.walker)
+    (ap meaning_by inv.names) inv.same (part_within i inner part (drop c.loop-place.place inner) node c.in_ok-inner.ensures at) so_far in
     on_err c.from_residual-in_err-push.result _
-    (next_walk (partly_walked (g.J.Ask.means c.loop-place.judge) (g.J.Ask.headers c.loop-place.judge) (nodes_in (tree_of part.now)) (nodes_in (tree_of part.now)) (outcomes_view c.loop-place.walker) (outcomes_view c.walk.new.walker) (λ s h. h) c.in_ok-walk.ensures.reached))
+    (next_walk (partly_walked (meaning_by (g.J.Ask.names c.loop-place.judge)) (g.J.Ask.headers c.loop-place.judge) (nodes_in (tree_of part.now)) (nodes_in (tree_of part.now)) (outcomes_view c.loop-place.walker) (outcomes_view c.walk.new.walker) (λ s h. h) c.in_ok-walk.ensures.reached))
 
 pub returns-in_err-made-clause-err : goal.returns-in_err-made-clause-err
 returns-in_err-made-clause-err g t c =
     let inv = c.loop-place.invariant in
-    let means = g.J.Ask.means c.args.judge.now in
+    let means = meaning_by (g.J.Ask.names c.args.judge.now) in
     let headers = g.J.Ask.headers c.args.judge.now in
     let node = tree_of c.args.node.now in
     let inner = c.in_ok-inner.inner.items in
@@ -135,7 +136,7 @@ returns-in_err-made-clause-err g t c =
 pub returns-in_err-clone-clause-err : goal.returns-in_err-clone-clause-err
 returns-in_err-clone-clause-err g t c =
     let inv = c.loop-place.invariant in
-    let means = g.J.Ask.means c.args.judge.now in
+    let means = meaning_by (g.J.Ask.names c.args.judge.now) in
     let headers = g.J.Ask.headers c.args.judge.now in
     let node = tree_of c.args.node.now in
     let inner = c.in_ok-inner.inner.items in
@@ -145,7 +146,7 @@ returns-in_err-clone-clause-err g t c =
 pub returns-in_err-insert-clause-err : goal.returns-in_err-insert-clause-err
 returns-in_err-insert-clause-err g t c =
     let inv = c.loop-place.invariant in
-    let means = g.J.Ask.means c.args.judge.now in
+    let means = meaning_by (g.J.Ask.names c.args.judge.now) in
     let headers = g.J.Ask.headers c.args.judge.now in
     let node = tree_of c.args.node.now in
     let inner = c.in_ok-inner.inner.items in

@@ -3,6 +3,7 @@ use Rattle.go_tree.specs.Tree.{tree_of}
 use Rattle.go_model.specs.Outcomes.Constructs.Literal.{literal}
 use Rattle.go_model.specs.Outcomes.Judged.{judged}
 use Rattle.go_model.specs.Outcomes.View.{outcome_view}
+use Rattle.go_model.specs.Values.Meaning.{meaning_by}
 use Rattle.go_expr.specs.Outcomes.{selector_by_parts}
 use Rattle.go_expr.proofs.NodeOutcomeLemmas.{at_literal_by_parts, at_selector_by_parts}
 use Rattle.go_expr.proofs.ResultLemmas.{if_ok}
@@ -15,13 +16,13 @@ returns-in-IntLit-clause-outcome g c =
     (λ found is.
     is headers []
     ∙ ap (λ text. judged headers (literal text) []) c.text.ensures
-    ∙ sym (at_literal_by_parts (g.J.Ask.means c.args.judge.now) headers (tree_of c.args.node.now) (map outcome_view c.args.outcomes.now) (sym c.in-IntLit.ensures)))
+    ∙ sym (at_literal_by_parts (meaning_by (g.J.Ask.names c.args.judge.now)) headers (tree_of c.args.node.now) (map outcome_view c.args.outcomes.now) (sym c.in-IntLit.ensures)))
     c.literal.ensures
 
 pub returns-in-Some-clause-outcome : goal.returns-in-Some-clause-outcome
 returns-in-Some-clause-outcome g c =
     let headers = g.J.Ask.headers c.args.judge.now in
-    let means = g.J.Ask.means c.args.judge.now in
+    let means = meaning_by (g.J.Ask.names c.args.judge.now) in
     let xs = map outcome_view c.args.outcomes.now in
     if_ok c.selector_by_parts.result _ _
     (λ found is.
