@@ -86,10 +86,6 @@ pub all_added : (f : OwnFileData → List LineData) (all left : List OwnFileData
 all_added f all left lines none so_far =
     subst (AreInOrder (map f all)) (append-nil lines) (so_far [] (subst (λ (l : List OwnFileData). AreInOrder (map f l) []) (sym none) no_file))
 
--- what is left of a list, from an element on
-pub drop-step : {X : Type 0} (xs : List X) (i : ℕ) (x : X) → i < length xs → x ≡ get_or xs i x → drop i xs ≡ x ∷ drop (i + 1) xs
-drop-step xs i x lt e = drop-cons xs i x lt ∙ ap (λ y. y ∷ drop (suc i) xs) (sym e) ∙ ap (λ k. x ∷ drop k xs) (sym (add-one i))
-
 -- nothing is paired with an empty list
 no_pairs : {A B : Type 0} (xs : List A) → zip {X = B} xs [] ≡ []
 no_pairs [] = refl

@@ -12,4 +12,3 @@ pub mod ResultLemmas
 pub mod StateLemmas
 pub mod ValueLemmas
 pub mod VerdictLemmas
-pub mod PartLemmas

@@ -1,134 +1,38 @@
--- What is read off the outcomes of nodes that were walked is what their outcomes over the headers say.
-use Rattle.std.proofs.Common.{◌≡◌, ℕ, Bool, true, false, Option, List, [], ◌∷◌, ◌++◌, Contains, length, map, refl, sym, ap, subst, ⊎_elim}
-use Rattle.std.specs.Prelude.{◌==◌, ◌&&◌, is_none, is_some, not, option_and_then, if◌then◌else◌}
-use Rattle.std.specs.List.{flat_map, list_all, zip}
+-- The lines that are read off the outcomes of nodes that were walked are those that their outcomes over the headers give.
+use Rattle.std.proofs.Common.{◌≡◌, ℕ, Bool, Option, List, [], ◌∷◌, ◌++◌, Contains, map, ap}
+use Rattle.std.specs.Prelude.{is_none}
+use Rattle.std.specs.List.{flat_map, zip}
 use Rattle.std.specs.Option.{option_map_or}
-use Rattle.std.proofs.lemmas.List.Elements.{Contains-append_cases, Contains-append_left, Contains-append_right}
-use Rattle.go_tree.specs.Tree.{Tree, branch, end_of, start_of}
-use Rattle.go_module.specs.Broken.{broken_at, told_if}
-use Rattle.go_module.specs.declared.declaration.Built.{Built}
-use Rattle.go_module.specs.declared.declaration.Built.TheVariants.{Itself, Pair, WholeList}
-use Rattle.go_module.specs.Modules.Module.{FileData, PackageData}
-use Rattle.go_module.specs.Names.Declarations.{Declaration, Spec, declarations_in, declarations_of, declared_in, name_text, pairs, rests_on, specs_of, with_list}
-use Rattle.go_module.specs.Names.Occurrences.{nodes_in, nodes_in_parts}
-use Rattle.go_module.proofs.MemberLemmas.{cons_cases, contains_head, contains_none, contains_tail}
+use Rattle.go_tree.specs.Tree.{Tree, end_of, start_of}
+use Rattle.go_module.specs.Modules.Module.{FileData}
+use Rattle.go_module.specs.Names.Declarations.{Declaration, Spec, declarations_in, declared_in, name_text}
+use Rattle.go_module.specs.Names.Occurrences.{nodes_in_parts}
 use Rattle.go_model.specs.declared.meaning.Meaning.{Meaning}
 use Rattle.go_model.specs.Outcomes.Judged.{OutcomeData}
-use Rattle.go_model.specs.Outcomes.Readings.{broken_spots, record_in}
-use Rattle.go_model.specs.Outcomes.Records.{HeaderData, RecData, declared_header}
+use Rattle.go_model.specs.Outcomes.Readings.{record_in}
+use Rattle.go_model.specs.Outcomes.Records.{HeaderData, RecData}
 use Rattle.go_model.specs.Outcomes.Walk.{Headers, outcome}
-use Rattle.go_model.specs.Outcomes.Walked.{AreWalked, Outcomes, nodes_of}
+use Rattle.go_model.specs.Outcomes.Walked.{AreWalked, Outcomes}
 use Rattle.go_model.specs.Outline.{Outline}
 use Rattle.go_model.specs.PackageLines.{declaration_defs, def_by, expr_at, expr_by, line_at, record_line, told_as, written}
 use Rattle.go_model.specs.Report.{defined}
-use Rattle.go_model.specs.Values.Records.{bound_value, header_by, header_over, record_by, record_of}
-use Rattle.go_model.specs.Values.Rules.{broken_by, broken_in, broken_node, broken_spec, broken_spec_by, unequal_sides}
-use Rattle.go_model.proofs.FlatLemmas.{filter_within, flat_cases, flat_contains, flat_map-same, map-same, map_cases, only_is}
+use Rattle.go_model.proofs.FlatLemmas.{filter_within, flat_cases, flat_contains, flat_map-same, map-same}
 use Rattle.go_expr.specs.Read.{nodes_under, outcome_read}
 use Rattle.go_expr.proofs.ReadLemmas.{read_is}
+use Rattle.go_decl.proofs.ReadLemmas.{declared_within, header_same}
 use Rattle.go_check.specs.Lines.Found.{OwnFileData, all_specs_in, def_lines, expr_lines, import_lines, nodes_of_files}
-
--- a node is a node in itself
-self_in : (t : Tree) → Contains (nodes_in t) t
-self_in (branch id from to kind text parts) = contains_head (branch id from to kind text parts) _ (branch id from to kind text parts) refl
-
-list_all-same : {X : Type 0} (f g : X → Bool) (xs : List X) → ((x : X) → Contains xs x → f x ≡ g x) → list_all f xs ≡ list_all g xs
-list_all-same f g [] same = refl
-list_all-same f g (x ∷ xs) same = (λ i. same x (contains_head x xs x refl) i && list_all-same f g xs (λ y h. same y (contains_tail x xs y h)) i)
-
--- WHERE THE PARTS OF A DECLARATION STAND
-
-in_pairs : (spec : Spec) (names values : List Tree) → ((v : Tree) → Contains values v → Contains spec.values v) → (d : Declaration) → Contains (pairs spec names values) d → (x : Tree) → Contains (rests_on d) x → Contains (spec.types ++ spec.values) x
-in_pairs spec [] values within d h x i = absurd (contains_none d h)
-in_pairs spec (n ∷ names) [] within d h x i = absurd (contains_none d h)
-in_pairs spec (n ∷ names) (v ∷ values) within d h x i =
-    let first : Declaration = record { file = spec.file; kind = spec.kind; name = n; types = spec.types; values = v ∷ []; built = Pair } in
-    ⊎_elim
-    (λ (here : first ≡ d). own (subst (λ (e : Declaration). Contains (rests_on e) x) (sym here) i))
-    (λ (there : Contains (pairs spec names values) d). in_pairs spec names values (λ w k. within w (contains_tail v values w k)) d there x i)
-    (cons_cases first (pairs spec names values) d h)
-  where
-    own : Contains (spec.types ++ v ∷ []) x → Contains (spec.types ++ spec.values) x
-    own j =
-        ⊎_elim
-        (λ (type : Contains spec.types x). Contains-append_left spec.types spec.values x type)
-        (λ (value : Contains (v ∷ []) x). Contains-append_right spec.types spec.values x (subst (λ (w : Tree). Contains spec.values w) (only_is v x value) (within v (contains_head v values v refl))))
-        (Contains-append_cases spec.types (v ∷ []) x j)
-
-rests_within : (spec : Spec) (d : Declaration) → Contains (declared_in spec) d → (x : Tree) → Contains (rests_on d) x → Contains (spec.types ++ spec.values) x
-rests_within spec d h x i = by_test (length spec.names == length spec.values) h
-  where
-    by_test : (b : Bool) → Contains (if b then pairs spec spec.names spec.values else map (with_list spec) spec.names) d → Contains (spec.types ++ spec.values) x
-    by_test true j = in_pairs spec spec.names spec.values (λ v k. k) d j x i
-    by_test false j =
-        let name = map_cases (with_list spec) spec.names d j in
-        subst (λ (e : Declaration). Contains (rests_on e) x) (sym name.2) i
-
-declared_within : (spec : Spec) (d : Declaration) → Contains (declared_in spec) d → (t : Tree) → Contains (nodes_under d) t → Contains (nodes_in_parts spec) t
-declared_within spec d h t i =
-    let part = flat_cases nodes_in (rests_on d) t i in
-    flat_contains nodes_in (spec.types ++ spec.values) part.0 t (rests_within spec d h part.0 part.1) part.2
-
--- the nodes of the declarations of specs are among those of the specs
-pub declarations_within : (specs : List Spec) (d : Declaration) → Contains (declarations_in specs) d → (t : Tree) → Contains (nodes_under d) t → Contains (flat_map nodes_in_parts specs) t
-declarations_within specs d h t i =
-    let spec = flat_cases declared_in specs d h in
-    flat_contains nodes_in_parts specs spec.0 t spec.1 (declared_within spec.0 d spec.2 t i)
 
 module _ (means : ℕ → Meaning) (headers : Headers) (outcomes : Outcomes) where
   abbrev read : Tree → OutcomeData RecData
   read = outcome_read outcomes
 
-  -- among nodes that were walked
   module _ (nodes : List Tree) (walked : AreWalked means headers nodes outcomes) where
-    is : (t : Tree) → Contains nodes t → read t ≡ outcome means headers t
-    is t h = read_is means headers nodes outcomes walked t h
-
-    part_same : (file : ℕ) (told : Option ℕ) (x : Tree) → ((t : Tree) → Contains (nodes_in x) t → Contains nodes t) → broken_by read file told x ≡ broken_in file told means headers x
-    part_same file told x within = flat_map-same (λ node. broken_spots file told node (read node)) (broken_node file told means headers) (nodes_in x) (λ t h. ap (broken_spots file told t) (is t (within t h)))
-
-    record_same : (x : Tree) → ((t : Tree) → Contains (nodes_in x) t → Contains nodes t) → record_by read x ≡ record_of means headers x
-    record_same x within = ap record_in (is x (within x (self_in x)))
-
-    spec_same : (spec : Spec) → ((t : Tree) → Contains (nodes_in_parts spec) t → Contains nodes t) → broken_spec_by read spec ≡ broken_spec means headers spec
-    spec_same spec within =
-        let inside : (x : Tree) → Contains (spec.types ++ spec.values) x → (t : Tree) → Contains (nodes_in x) t → Contains nodes t =
-        λ x h t i. within t (flat_contains nodes_in (spec.types ++ spec.values) x t h i) in
-        let records : list_all (λ v. is_some (record_by read v)) spec.values ≡ list_all (λ v. is_some (record_of means headers v)) spec.values =
-        list_all-same (λ v. is_some (record_by read v)) (λ v. is_some (record_of means headers v)) spec.values
-        (λ v h. ap is_some (record_same v (inside v (Contains-append_right spec.types spec.values v h)))) in
-        let parts : flat_map (broken_by read spec.file spec.told_at) (spec.types ++ spec.values) ≡ flat_map (broken_in spec.file spec.told_at means headers) (spec.types ++ spec.values) =
-        flat_map-same (broken_by read spec.file spec.told_at) (broken_in spec.file spec.told_at means headers) (spec.types ++ spec.values) (λ x h. part_same spec.file spec.told_at x (inside x h)) in
-        (λ i. told_if (not (length spec.names == length spec.values) && records i) (broken_at spec.file (start_of spec.node) unequal_sides) ++ parts i)
-
-    value_same : (b : Built) (values : List Tree) → ((x : Tree) → Contains values x → (t : Tree) → Contains (nodes_in x) t → Contains nodes t) → option_and_then (record_by read) (bound_value b values) ≡ option_and_then (record_of means headers) (bound_value b values)
-    value_same Pair [] within = refl
-    value_same Pair (v ∷ values) within = record_same v (within v (contains_head v values v refl))
-    value_same WholeList values within = refl
-    value_same Itself values within = refl
-
-    header_same : (d : Declaration) → ((t : Tree) → Contains (nodes_under d) t → Contains nodes t) → header_by read d ≡ header_over means headers d
-    header_same d within =
-        ap (option_and_then declared_header) (value_same d.built d.values (λ x h t i. within t (flat_contains nodes_in (rests_on d) x t (Contains-append_right d.types d.values x h) i)))
-
     def_same : (stub : Bool) (f : FileData) (d : Declaration) → ((t : Tree) → Contains (nodes_under d) t → Contains nodes t) → def_by read stub f d ≡ declaration_defs stub f means headers d
     def_same stub f d within =
-        ap (λ (o : Option HeaderData). option_map_or (λ h. line_at stub f (start_of d.name) (defined (name_text d.name) (told_as h)) ∷ []) o []) (header_same d within)
+        ap (λ (o : Option HeaderData). option_map_or (λ h. line_at stub f (start_of d.name) (defined (name_text d.name) (told_as h)) ∷ []) o []) (header_same means headers outcomes nodes walked d within)
 
     expr_same : (stub : Bool) (f : FileData) (t : Tree) → Contains nodes t → expr_by read stub f t ≡ expr_at stub f means headers t
-    expr_same stub f t h = ap (λ (o : OutcomeData RecData). record_line stub f (start_of t) (end_of t) (record_in o)) (is t h)
-
-  -- what specs break
-  pub specs_same : (specs : List Spec) → AreWalked means headers (flat_map nodes_in_parts specs) outcomes → flat_map (broken_spec_by read) specs ≡ flat_map (broken_spec means headers) specs
-  specs_same specs walked =
-      flat_map-same (broken_spec_by read) (broken_spec means headers) specs
-      (λ spec h. spec_same (flat_map nodes_in_parts specs) walked spec (λ t i. flat_contains nodes_in_parts specs spec t h i))
-
-  -- the nodes on which the headers of a package's declarations rest
-  pub under_walked : (p : PackageData) (declarations : List Declaration) → declarations ≡ declarations_of p → AreWalked means headers (nodes_of p) outcomes → AreWalked means headers (flat_map nodes_under declarations) outcomes
-  under_walked p declarations are walked t h =
-      let d = flat_cases nodes_under declarations t h in
-      walked t (declarations_within (specs_of p) d.0 (subst (λ (ds : List Declaration). Contains ds d.0) are d.1) t d.2)
+    expr_same stub f t h = ap (λ (o : OutcomeData RecData). record_line stub f (start_of t) (end_of t) (record_in o)) (read_is means headers nodes outcomes walked t h)
 
   -- the lines of files
   module _ (files : List OwnFileData) (walked : AreWalked means headers (nodes_of_files files) outcomes) where

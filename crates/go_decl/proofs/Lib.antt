@@ -1,3 +1,6 @@
+pub mod ListLemmas
+pub mod PartLemmas
 pub mod PlaceLemmas
+pub mod ReadLemmas
 pub mod RoundLemmas
 pub mod WaitLemmas

@@ -17,7 +17,7 @@ use Rattle.go_model.specs.Values.Headers.{headers_of, Justified, Follows, Known}
 use Rattle.go_model.specs.Values.Quests.{IsPart}
 use Rattle.go_model.proofs.HeaderLemmas.{Follows-part, Follows-same, has_all, headers_of-here, headers_of-there, kept, stays}
 use Rattle.go_decl.specs.Places.{ArePlaces}
-use Rattle.go_decl.specs.Rounds.{IsBacked, IsSettled, and_open, open_in}
+use Rattle.go_decl.specs.Rounds.{IsBacked, IsSettled, IsToldOrNot, and_open, not_told, open_in, told}
 use Rattle.go_decl.proofs.PlaceLemmas.{place_declared}
 use Rattle.go_names.specs.declared.declaration.Declaration.{Declaration as OwnDeclaration}
 use Rattle.go_names.specs.Views.{declaration_view, declarations_view}
@@ -98,6 +98,12 @@ module _ (before : Headers) (means : ℕ → Meaning) (declarations : List Decla
     justified = (tt, record { declaration = declaration; declared = declared; fresh = fresh; tells = tells });
     same = same;
   }
+
+  -- told or not
+  pub backed_either : (headers : Headers) (d : ℕ) (h : HeaderData) (declaration : Declaration) → declared_as declarations d ≡ Some declaration → before d ≡ None → header_over means before declaration ≡ Some h
+      → IsToldOrNot before d h headers → IsBacked before means declarations headers
+  backed_either headers d h declaration declared fresh tells (not_told same) = backed_same headers same
+  backed_either headers d h declaration declared fresh tells (told each) = backed_one headers d h declaration declared fresh tells each
 
   -- settled headers are settled whatever was known before
   pub settled_after : (headers : Headers) (d : ℕ) → IsSettled headers means declarations headers d → IsSettled before means declarations headers d

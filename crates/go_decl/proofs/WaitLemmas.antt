@@ -1,14 +1,13 @@
 -- What nodes wait for, and the graph of the waits.
 use Rattle.std.proofs.Common.{◌≡◌, ℕ, ◌<◌, Bool, Option, Some, None, List, [], ◌∷◌, ◌⊎◌, inl, inr, length, map, refl, sym, ap, ◌∙◌, subst, Contains, arith}
-use Rattle.std.specs.Prelude.{◌↔◌, ◌||◌, All, is_some, slice_get, unwrap_or, option_to_list, if◌then◌else◌, true, false}
+use Rattle.std.specs.Prelude.{◌↔◌, slice_get, unwrap_or, option_to_list, true, false}
 use Rattle.std.specs.List.{flat_map}
-use Rattle.std.specs.Option.{option_map, option_or}
+use Rattle.std.specs.Option.{option_map}
 use Rattle.std.proofs.lemmas.List.{length-map}
 use Rattle.std.proofs.lemmas.Option.{slice_get-map, slice_get_within}
-use Rattle.std.proofs.lemmas.List.Elements.{All-nil, All-cons, All-append, All-contains, Contains-append_cases, Contains-append_left, Contains-append_right}
+use Rattle.std.proofs.lemmas.List.Elements.{Contains-append_cases, Contains-append_left, Contains-append_right}
 use Rattle.go_base.specs.declared.ids.ObjId.{ObjId}
 use Rattle.go_graph.specs.Graph.{Graph, HasEdge, Path, start, further, IsGraph, is_marked, row_at}
-use Rattle.go_tree.specs.Tree.{Tree}
 use Rattle.go_model.specs.Names.Declarations.{Declaration, number_of, rests_on}
 use Rattle.go_model.specs.Names.Occurrences.{nodes_in}
 use Rattle.go_module.proofs.MemberLemmas.{cons_cases, contains_head, contains_none, contains_tail}

@@ -1,4 +1,6 @@
+-- what public contracts cite
+pub mod Broken
+pub mod Rounds
 -- what inner functions promise each other
 pub mod Places
-pub mod Rounds
 pub mod Waits

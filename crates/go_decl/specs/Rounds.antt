@@ -25,3 +25,8 @@ and_open (Some h) n = n
 abbrev pub open_in : Headers → List Declaration → ℕ
 open_in headers [] = 0
 open_in headers (x ∷ xs) = and_open (headers (number_of x).0) (open_in headers xs)
+
+-- one header was told to who had these before, or none
+pub data IsToldOrNot (before : Headers) (d : ℕ) (h : HeaderData) (after : Headers) : Type 0 where
+  not_told : after ≡ before → IsToldOrNot before d h after
+  told : ((e : ℕ) → after e ≡ headers_of before ((d, h) ∷ []) e) → IsToldOrNot before d h after

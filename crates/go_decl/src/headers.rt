@@ -1,72 +1,63 @@
-// The headers of declarations, found in rounds and told to rules (Go specification, "Constant declarations").
-ghost use Rattle.std.specs.Prelude.{◌≡◌, ◌<◌, ◌↔◌, ℕ, Some, false, length, IfOk, OnOk, IsTrue};
+// The headers of declarations, found in rounds, told to rules, and kept (Go specification, "Constant declarations").
+ghost use Rattle.std.specs.Prelude.{◌≡◌, ◌<◌, ◌↔◌, ◌∷◌, [], ℕ, None, Some, false, length, IfOk, OnErr, OnOk, IsTrue};
 ghost use Rattle.std.specs.Map.{lookup};
 ghost use Rattle.go_base.specs.declared.ids.ObjId.{ObjId as Object};
 ghost use Rattle.go_module.specs.Scopes.{same_object};
-ghost use Rattle.go_model.specs.Outcomes.Records.{HeaderData};
-ghost use Rattle.go_model.specs.Values.Headers.{Known};
+ghost use Rattle.go_model.specs.Outcomes.Records.{HeaderData, header_view};
+ghost use Rattle.go_model.specs.Values.Headers.{Known, headers_of};
+ghost use Rattle.go_model.specs.Values.HeadersView.{headers_view};
 ghost use Rattle.go_model.specs.Values.Meaning.{AreThere, meaning_by};
 ghost use Rattle.go_decl.specs.Places.{ArePlaces};
-ghost use Rattle.go_decl.specs.Rounds.{IsBacked, IsSettled, open_in};
+ghost use Rattle.go_decl.specs.Rounds.{IsBacked, IsSettled, IsToldOrNot, open_in};
 ghost use Rattle.go_names.specs.Views.{declarations_view};
 
-use crate::places::places_of;
-use go_base::NoMemory;
+use go_base::{NoMemory, Steps};
 use go_expr::header_over;
-use go_model::Rules;
+use go_model::{Header, Headers, Rules};
 use go_module::ObjId;
 use go_names::Declaration;
 use indexmap::IndexMap;
 use std::alloc::Global;
+use std::sync::ledger::Ledger;
 
-/// Finds the headers of declarations in rounds, and tells them to the rules. It asks that each object that is denoted is
-/// there. Of several declarations with one number the first is meant. An error is want of memory; some of these headers
-/// may be known then, and no others.
-pub fn rounds<R: Rules>(
+/// Goes round until a round adds no header. The rules and `known` have the same headers. An error is want of memory; some
+/// headers may be known then, and no others.
+pub fn add_rounds<R: Rules, L: Ledger>(
     alloc: Global,
     rules: &mut R,
-    declarations: &[Declaration],
-) -> Result<(), NoMemory>
-    requires { AreThere (R.names rules.old) }
-    ensures exact { OnOk result ((d : ℕ) (h : HeaderData) → (R.headers rules.new d ≡ Some h)
-        ↔ Known (R.headers rules.old) (meaning_by (R.names rules.old)) (declarations_view declarations.now) d h) }
-    ensures backed { IsBacked (R.headers rules.old) (meaning_by (R.names rules.old)) (declarations_view declarations.now)
-        (R.headers rules.new) }
-    ensures names { R.names rules.new ≡ R.names rules.old }
-    ensures world { R.world rules.new ≡ R.world rules.old }
-{
-    let places = places_of(alloc, declarations)?;
-    add_rounds(alloc, rules, &places, declarations)
-}
-
-// Goes round until a round adds no header.
-fn add_rounds<R: Rules>(
-    alloc: Global,
-    rules: &mut R,
+    known: &mut Headers,
     places: &IndexMap<ObjId, usize>,
     declarations: &[Declaration],
+    steps: &mut Steps<L>,
 ) -> Result<(), NoMemory>
     requires there { AreThere (R.names rules.old) }
+    requires same { headers_view known.old ≡ R.headers rules.old }
     requires places { ArePlaces (declarations_view declarations.now) places.now.entries }
     ensures exact { OnOk result ((d : ℕ) (h : HeaderData) → (R.headers rules.new d ≡ Some h)
         ↔ Known (R.headers rules.old) (meaning_by (R.names rules.old)) (declarations_view declarations.now) d h) }
     ensures backed { IsBacked (R.headers rules.old) (meaning_by (R.names rules.old)) (declarations_view declarations.now)
         (R.headers rules.new) }
+    ensures known { OnOk result (headers_view known.new ≡ R.headers rules.new) }
+    ensures kept { OnErr result (IsBacked (R.headers rules.old) (meaning_by (R.names rules.old))
+        (declarations_view declarations.now) (headers_view known.new)) }
     ensures names { R.names rules.new ≡ R.names rules.old }
     ensures world { R.world rules.new ≡ R.world rules.old }
 {
-    while add_round(alloc, rules, places, declarations)? {}
+    while add_round(alloc, rules, known, places, declarations, steps)? {}
     Ok(())
 }
 
 // Tries each declaration without a header, and says whether it added one.
-fn add_round<R: Rules>(
+fn add_round<R: Rules, L: Ledger>(
     alloc: Global,
     rules: &mut R,
+    known: &mut Headers,
     places: &IndexMap<ObjId, usize>,
     declarations: &[Declaration],
+    steps: &mut Steps<L>,
 ) -> Result<bool, NoMemory>
     requires there { AreThere (R.names rules.old) }
+    requires same { headers_view known.old ≡ R.headers rules.old }
     requires places { ArePlaces (declarations_view declarations.now) places.now.entries }
     ensures backed { IsBacked (R.headers rules.old) (meaning_by (R.names rules.old)) (declarations_view declarations.now)
         (R.headers rules.new) }
@@ -75,12 +66,15 @@ fn add_round<R: Rules>(
         < open_in (R.headers rules.old) (declarations_view declarations.now)) }
     ensures settled { IfOk result (λ added. added ≡ false → (d : ℕ) → IsSettled (R.headers rules.new)
         (meaning_by (R.names rules.old)) (declarations_view declarations.now) (R.headers rules.new) d) }
+    ensures known { OnOk result (headers_view known.new ≡ R.headers rules.new) }
+    ensures kept { OnErr result (IsBacked (R.headers rules.old) (meaning_by (R.names rules.old))
+        (declarations_view declarations.now) (headers_view known.new)) }
     ensures names { R.names rules.new ≡ R.names rules.old }
     ensures world { R.world rules.new ≡ R.world rules.old }
 {
     let mut added = false;
     for place in 0..declarations.len() {
-        if add_one(alloc, rules, places, declarations, place)? {
+        if add_one(alloc, rules, known, places, declarations, place, steps)? {
             added = true;
         }
     }
@@ -88,14 +82,17 @@ fn add_round<R: Rules>(
 }
 
 // Tries one declaration, and says whether it added its header.
-fn add_one<R: Rules>(
+fn add_one<R: Rules, L: Ledger>(
     alloc: Global,
     rules: &mut R,
+    known: &mut Headers,
     places: &IndexMap<ObjId, usize>,
     declarations: &[Declaration],
     place: usize,
+    steps: &mut Steps<L>,
 ) -> Result<bool, NoMemory>
     requires there { AreThere (R.names rules.old) }
+    requires same { headers_view known.old ≡ R.headers rules.old }
     requires places { ArePlaces (declarations_view declarations.now) places.now.entries }
     requires within { place < length declarations.now }
     ensures backed { IsBacked (R.headers rules.old) (meaning_by (R.names rules.old)) (declarations_view declarations.now)
@@ -107,6 +104,9 @@ fn add_one<R: Rules>(
     ensures settled { IfOk result (λ added. added ≡ false → (d : Object)
         → lookup (same_object d) places.now.entries ≡ Some place → IsSettled (R.headers rules.new)
         (meaning_by (R.names rules.old)) (declarations_view declarations.now) (R.headers rules.new) d.0) }
+    ensures known { OnOk result (headers_view known.new ≡ R.headers rules.new) }
+    ensures kept { OnErr result (IsBacked (R.headers rules.old) (meaning_by (R.names rules.old))
+        (declarations_view declarations.now) (headers_view known.new)) }
     ensures names { R.names rules.new ≡ R.names rules.old }
     ensures world { R.world rules.new ≡ R.world rules.old }
 {
@@ -118,13 +118,35 @@ fn add_one<R: Rules>(
     if !stands_at(places, number, place) {
         return Ok(false);
     }
+    steps.tick();
     match header_over(alloc, rules, declaration)? {
         Some(header) => {
-            rules.learn(number, &header)?;
+            tell(rules, known, number, header)?;
             Ok(true)
         }
         None => Ok(false),
     }
+}
+
+// Tells the rules a header, and keeps it.
+fn tell<R: Rules>(
+    rules: &mut R,
+    known: &mut Headers,
+    d: ObjId,
+    header: Header,
+) -> Result<(), NoMemory>
+    requires vacant { R.headers rules.old d.0 ≡ None }
+    requires same { headers_view known.old ≡ R.headers rules.old }
+    ensures learned { OnOk result ((e : ℕ) → R.headers rules.new e
+        ≡ headers_of (R.headers rules.old) ((d.0, header_view header) ∷ []) e) }
+    ensures err { OnErr result (IsToldOrNot (R.headers rules.old) d.0 (header_view header) (R.headers rules.new)) }
+    ensures known { OnOk result (headers_view known.new ≡ R.headers rules.new) }
+    ensures kept { OnErr result (headers_view known.new ≡ headers_view known.old) }
+    ensures names { R.names rules.new ≡ R.names rules.old }
+    ensures world { R.world rules.new ≡ R.world rules.old }
+{
+    rules.learn(d, &header)?;
+    known.add(d, header)
 }
 
 // Whether a number has that place.

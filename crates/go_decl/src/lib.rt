@@ -1,14 +1,24 @@
-//! The headers of declarations.
+//! The headers of declarations, and what the values of a package break.
 //!
-//! `rounds` finds those of a package, and tells each to rules; `cyclic_declarations` says which declarations without one
-//! wait for themselves, by outcomes that walks left; `places_of` where the declarations stand that these speak of. What an
-//! expression comes to is decided in go_expr, which vertices of a graph lie on a cycle in go_graph.
+//! `rounds` finds the headers of a package, tells each to rules, walks once over all that stands behind the names of its
+//! specs, and says what these break by the outcomes of the walk: declarations that wait for themselves
+//! (`cyclic_declarations`), and the rules at specs and nodes (`broken_values`). What an expression comes to is decided in
+//! go_expr, which vertices of a graph lie on a cycle in go_graph.
 #![tactic(auto)]
 
+mod rules;
+
+// Headers, in rounds.
 mod headers;
 mod places;
-mod waits;
 
-pub use headers::rounds;
-pub use places::places_of;
-pub use waits::{cyclic_declarations, is_cyclic};
+// Walks over a package, and what is read off their outcomes.
+mod broken;
+mod values;
+mod waits;
+mod walked;
+
+// A package as a whole.
+mod package;
+
+pub use package::rounds;

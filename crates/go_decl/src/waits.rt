@@ -11,12 +11,11 @@ ghost use Rattle.go_model.specs.Values.Waiting.{Chain, awaited_among, awaited_un
 ghost use Rattle.go_decl.specs.Places.{ArePlaces, placed_by};
 ghost use Rattle.go_decl.specs.Waits.{awaited_places, marked_by, place_list, waits_of};
 ghost use Rattle.go_expr.specs.Read.{nodes_under, outcome_read};
-ghost use Rattle.go_expr.specs.Walker.{outcomes_view};
 
 use go_base::NoMemory;
-use go_expr::{Walker, nodes_in};
+use go_expr::nodes_in;
 use go_graph::{Numbers, cyclic_vertices, is_marked};
-use go_model::Outcome;
+use go_model::{ExprWalk, Outcome};
 use go_module::ObjId;
 use go_names::Declaration;
 use go_tree::Node;
@@ -25,20 +24,20 @@ use std::alloc::Global;
 
 /// For each declaration by its place, of several with one number the first, whether it waits for its own header, be it
 /// through others, by the outcomes of its nodes over the headers that are known. An error is want of memory.
-pub fn cyclic_declarations(
+pub fn cyclic_declarations<W: ExprWalk>(
     alloc: Global,
     places: &IndexMap<ObjId, usize>,
-    walker: &Walker,
+    walks: &W,
     declarations: &[Declaration],
 ) -> Result<Vec<bool>, NoMemory>
     requires { ArePlaces (declarations_view declarations.now) places.now.entries }
     ensures length { IfOk result (λ cyclic. length cyclic.items ≡ length declarations.now) }
     ensures exact { IfOk result (λ cyclic. (means : ℕ → Meaning) (headers : Headers) → AreWalked means headers
-        (flat_map nodes_under (declarations_view declarations.now)) (outcomes_view walker.now)
+        (flat_map nodes_under (declarations_view declarations.now)) (W.outcomes walks.now)
         → (d : ℕ) → (marked_by (placed_by places.now.entries) cyclic.items d ≡ true)
         ↔ Chain means (declarations_view declarations.now) headers d d) }
 {
-    let waits = waits_of(alloc, places, walker, declarations)?;
+    let waits = waits_of(alloc, places, walks, declarations)?;
     cyclic_vertices(alloc, &waits)
 }
 
@@ -53,33 +52,33 @@ pub fn is_cyclic(places: &IndexMap<ObjId, usize>, cyclic: &[bool], d: ObjId) -> 
 }
 
 // For each declaration, the places of those for whose headers the nodes of its parts wait.
-fn waits_of(
+fn waits_of<W: ExprWalk>(
     alloc: Global,
     places: &IndexMap<ObjId, usize>,
-    walker: &Walker,
+    walks: &W,
     declarations: &[Declaration],
 ) -> Result<Vec<Numbers>, NoMemory>
     ensures { IfOk result (λ waits. waits.items ≡ waits_of (placed_by places.now.entries)
-        (awaited_under (outcome_read (outcomes_view walker.now))) (declarations_view declarations.now)) }
+        (awaited_under (outcome_read (W.outcomes walks.now))) (declarations_view declarations.now)) }
 {
     let mut waits = Vec::new(alloc);
     for declaration in declarations {
-        waits.push(awaited_places(alloc, places, walker, declaration)?)?;
+        waits.push(awaited_places(alloc, places, walks, declaration)?)?;
     }
     Ok(waits)
 }
 
 // The places of the declarations for whose headers the nodes of the parts of one wait.
-fn awaited_places(
+fn awaited_places<W: ExprWalk>(
     alloc: Global,
     places: &IndexMap<ObjId, usize>,
-    walker: &Walker,
+    walks: &W,
     declaration: &Declaration,
 ) -> Result<Numbers, NoMemory>
     ensures { IfOk result (λ list. list ≡ awaited_places (placed_by places.now.entries)
-        (awaited_under (outcome_read (outcomes_view walker.now))) (declaration_view declaration.now)) }
+        (awaited_under (outcome_read (W.outcomes walks.now))) (declaration_view declaration.now)) }
 {
-    let numbers = awaited_by(alloc, walker, declaration)?;
+    let numbers = awaited_by(alloc, walks, declaration)?;
     places_in(alloc, places, numbers.as_slice())
 }
 
@@ -99,11 +98,7 @@ fn places_in(
 }
 
 // Pushes the place that an object has, if any.
-fn push_place(
-    places: &IndexMap<ObjId, usize>,
-    d: ObjId,
-    list: &mut Numbers,
-) -> Result<(), NoMemory>
+fn push_place(places: &IndexMap<ObjId, usize>, d: ObjId, list: &mut Numbers) -> Result<(), NoMemory>
     ensures { OnOk result (list.new ≡ list.old ++ place_list (placed_by places.now.entries) d.0) }
 {
     match places.get(&d) {
@@ -113,58 +108,58 @@ fn push_place(
 }
 
 // The numbers of the declarations for whose headers the nodes of the parts of one wait.
-fn awaited_by(
+fn awaited_by<W: ExprWalk>(
     alloc: Global,
-    walker: &Walker,
+    walks: &W,
     declaration: &Declaration,
 ) -> Result<Numbers, NoMemory>
     ensures { IfOk result (λ numbers. numbers
-        ≡ awaited_under (outcome_read (outcomes_view walker.now)) (declaration_view declaration.now)) }
+        ≡ awaited_under (outcome_read (W.outcomes walks.now)) (declaration_view declaration.now)) }
 {
     let mut numbers = Numbers::new(alloc);
-    push_awaited(alloc, walker, declaration.types, &mut numbers)?;
-    push_awaited(alloc, walker, declaration.values, &mut numbers)?;
+    push_awaited(alloc, walks, declaration.types, &mut numbers)?;
+    push_awaited(alloc, walks, declaration.values, &mut numbers)?;
     Ok(numbers)
 }
 
 // Pushes the numbers of the declarations for whose headers the nodes of these expressions wait.
-fn push_awaited(
+fn push_awaited<W: ExprWalk>(
     alloc: Global,
-    walker: &Walker,
+    walks: &W,
     nodes: &[Node],
     numbers: &mut Numbers,
 ) -> Result<(), NoMemory>
     ensures { OnOk result (numbers.new ≡ numbers.old
-        ++ flat_map (awaited_among (outcome_read (outcomes_view walker.now))) (map tree_of nodes.now)) }
+        ++ flat_map (awaited_among (outcome_read (W.outcomes walks.now))) (map tree_of nodes.now)) }
 {
     for node in nodes {
-        push_awaited_in(alloc, walker, node, numbers)?;
+        push_awaited_in(alloc, walks, node, numbers)?;
     }
     Ok(())
 }
 
 // Pushes the numbers of the declarations for whose headers the nodes of this expression wait.
-fn push_awaited_in(
+fn push_awaited_in<W: ExprWalk>(
     alloc: Global,
-    walker: &Walker,
+    walks: &W,
     node: &Node,
     numbers: &mut Numbers,
 ) -> Result<(), NoMemory>
     ensures { OnOk result (numbers.new ≡ numbers.old
-        ++ awaited_among (outcome_read (outcomes_view walker.now)) (tree_of node.now)) }
+        ++ awaited_among (outcome_read (W.outcomes walks.now)) (tree_of node.now)) }
 {
     let nodes = nodes_in(alloc, node)?;
     for inner in &nodes {
-        push_one(walker, inner, numbers)?;
+        push_one(walks, inner, numbers)?;
     }
     Ok(())
 }
 
-fn push_one(walker: &Walker, node: &Node, numbers: &mut Numbers) -> Result<(), NoMemory>
+fn push_one<W: ExprWalk>(walks: &W, node: &Node, numbers: &mut Numbers) -> Result<(), NoMemory>
     ensures { OnOk result (numbers.new
-        ≡ numbers.old ++ awaited_in (outcome_read (outcomes_view walker.now) (tree_of node.now))) }
+        ≡ numbers.old ++ awaited_in (outcome_read (W.outcomes walks.now) (tree_of node.now))) }
 {
-    match walker.outcome(node.id()) {
+    match walks.outcome(node.id()) {
         Some(Outcome::Waits(d)) => numbers.push(d.0),
         Some(Outcome::Found(_)) => Ok(()),
         Some(Outcome::Broken(_, _)) => Ok(()),

@@ -7,8 +7,9 @@ use Rattle.go_model.specs.Outcomes.Records.{header_view}
 use Rattle.go_model.specs.Outcomes.Walk.{Headers}
 use Rattle.go_model.specs.Values.Meaning.{meaning_by}
 use Rattle.go_names.specs.Views.{declaration_view, declarations_view}
-use Rattle.go_decl.specs.Rounds.{IsSettled}
-use Rattle.go_decl.proofs.RoundLemmas.{at_place, backed_one, declared_at, fewer_open, found_over, is_known, is_vacant, learnt_over, settled_none}
+use Rattle.go_expr.proofs.ResultLemmas.{on_err}
+use Rattle.go_decl.specs.Rounds.{IsSettled, IsToldOrNot}
+use Rattle.go_decl.proofs.RoundLemmas.{at_place, backed_either, backed_one, backed_same, declared_at, fewer_open, found_over, is_known, is_vacant, learnt_over, settled_none}
 use Rattle.go_decl.proofs.headers.add_one.Goals as goal
 
 pub returns-then-is_some-clause-settled : goal.returns-then-is_some-clause-settled
@@ -26,8 +27,19 @@ returns-then-not-stands_at-clause-settled g c = λ _ d at h _ _.
     let stands : IsTrue c.stands_at.result = c.stands_at.ensures.1 (ap (λ (e : ObjId). lookup (same_object e) c.args.places.now.entries) (c.number-number.ensures ∙ is.number) ∙ at) in
     absurd (cc (stands, c.if-not-stands_at.true))
 
-pub returns-in_ok-learn-in-Some-clause-backed : goal.returns-in_ok-learn-in-Some-clause-backed
-returns-in_ok-learn-in-Some-clause-backed g c =
+-- what is told is what follows, of a declaration that has no header
+
+pub tell-requires-clause-vacant : goal.tell-requires-clause-vacant
+tell-requires-clause-vacant g c =
+    let headers = g.R.Ask.headers c.args.rules.now in
+    ap (λ (m : Headers). m c.number-number.result.0) (c.header_over.ensures.same ∙ c.ask.ensures.same)
+    ∙ is_vacant c.in_ok-ask.field-0 (headers c.number-number.result.0) c.if-is_some.ensures c.in_ok-ask.ensures.answer
+
+pub tell-requires-clause-same : goal.tell-requires-clause-same
+tell-requires-clause-same g c = c.requires.same ∙ sym (c.header_over.ensures.same ∙ c.ask.ensures.same)
+
+pub returns-in_ok-tell-in-Some-clause-backed : goal.returns-in_ok-tell-in-Some-clause-backed
+returns-in_ok-tell-in-Some-clause-backed g c =
     let headers = g.R.Ask.headers c.args.rules.now in
     let means = meaning_by (g.R.Ask.names c.args.rules.now) in
     let declarations = declarations_view c.args.declarations.now in
@@ -37,13 +49,44 @@ returns-in_ok-learn-in-Some-clause-backed g c =
     let there = declared_at c.args.declarations.now c.args.place c.index-declarations-place.result c.requires.within c.index-declarations-place.is in
     let is = at_place declarations c.args.places.now.entries c.requires.places d c.args.place (c.stands_at.ensures.0 c.if-not-stands_at.false) declaration there in
     let kept : g.R.Ask.headers c.header_over.new.walks ≡ headers = c.header_over.ensures.same ∙ c.ask.ensures.same in
-    backed_one headers means declarations (g.R.Ask.headers c.learn.new.self) d.0 h declaration is.declared
-    (is_vacant c.in_ok-ask.field-0 (headers d.0) c.if-is_some.ensures c.in_ok-ask.ensures.answer)
-    (found_over means (meaning_by (g.R.Ask.names c.ask.new.self)) headers (g.R.Ask.headers c.ask.new.self) declaration c.in_ok-header.field-0 (Some c.in-Some.header) (ap meaning_by c.ask.ensures.names) c.ask.ensures.same c.in_ok-header.ensures.header c.in-Some.is)
-    (learnt_over headers (g.R.Ask.headers c.header_over.new.walks) (g.R.Ask.headers c.learn.new.self) d.0 h kept c.in_ok-learn-in-Some.ensures.learned)
+    let vacant : headers d.0 ≡ None = is_vacant c.in_ok-ask.field-0 (headers d.0) c.if-is_some.ensures c.in_ok-ask.ensures.answer in
+    let follows = found_over means (meaning_by (g.R.Ask.names c.ask.new.self)) headers (g.R.Ask.headers c.ask.new.self) declaration c.in_ok-header.field-0 (Some c.in-Some.header) (ap meaning_by c.ask.ensures.names) c.ask.ensures.same c.in_ok-header.ensures.header c.in-Some.is in
+    backed_one headers means declarations (g.R.Ask.headers c.tell.new.rules) d.0 h declaration is.declared vacant follows
+    (learnt_over headers (g.R.Ask.headers c.header_over.new.walks) (g.R.Ask.headers c.tell.new.rules) d.0 h kept c.in_ok-tell-in-Some.ensures.learned)
 
-pub returns-in_ok-learn-in-Some-clause-fewer : goal.returns-in_ok-learn-in-Some-clause-fewer
-returns-in_ok-learn-in-Some-clause-fewer g c = λ _.
+pub returns-in_err-tell-in-Some-clause-backed : goal.returns-in_err-tell-in-Some-clause-backed
+returns-in_err-tell-in-Some-clause-backed g c =
+    let headers = g.R.Ask.headers c.args.rules.now in
+    let means = meaning_by (g.R.Ask.names c.args.rules.now) in
+    let declarations = declarations_view c.args.declarations.now in
+    let declaration = declaration_view c.index-declarations-place.result in
+    let d = c.number-number.result in
+    let h = header_view c.in-Some.header in
+    let there = declared_at c.args.declarations.now c.args.place c.index-declarations-place.result c.requires.within c.index-declarations-place.is in
+    let is = at_place declarations c.args.places.now.entries c.requires.places d c.args.place (c.stands_at.ensures.0 c.if-not-stands_at.false) declaration there in
+    let kept : g.R.Ask.headers c.header_over.new.walks ≡ headers = c.header_over.ensures.same ∙ c.ask.ensures.same in
+    let vacant : headers d.0 ≡ None = is_vacant c.in_ok-ask.field-0 (headers d.0) c.if-is_some.ensures c.in_ok-ask.ensures.answer in
+    let follows = found_over means (meaning_by (g.R.Ask.names c.ask.new.self)) headers (g.R.Ask.headers c.ask.new.self) declaration c.in_ok-header.field-0 (Some c.in-Some.header) (ap meaning_by c.ask.ensures.names) c.ask.ensures.same c.in_ok-header.ensures.header c.in-Some.is in
+    backed_either headers means declarations (g.R.Ask.headers c.tell.new.rules) d.0 h declaration is.declared vacant follows
+    (subst (λ (m : Headers). IsToldOrNot m d.0 h (g.R.Ask.headers c.tell.new.rules)) kept c.in_err-tell-in-Some.ensures.err)
+
+pub returns-in_err-ask-clause-kept : goal.returns-in_err-ask-clause-kept
+returns-in_err-ask-clause-kept g c =
+    on_err c.from_residual.result _
+    (backed_same (g.R.Ask.headers c.args.rules.now) (meaning_by (g.R.Ask.names c.args.rules.now)) (declarations_view c.args.declarations.now) _ c.requires.same)
+
+pub returns-in_err-header-clause-kept : goal.returns-in_err-header-clause-kept
+returns-in_err-header-clause-kept g c =
+    on_err c.from_residual-in_err-header.result _
+    (backed_same (g.R.Ask.headers c.args.rules.now) (meaning_by (g.R.Ask.names c.args.rules.now)) (declarations_view c.args.declarations.now) _ c.requires.same)
+
+pub returns-in_err-tell-in-Some-clause-kept : goal.returns-in_err-tell-in-Some-clause-kept
+returns-in_err-tell-in-Some-clause-kept g c =
+    on_err c.from_residual-in_err-tell-in-Some.result _
+    (backed_same (g.R.Ask.headers c.args.rules.now) (meaning_by (g.R.Ask.names c.args.rules.now)) (declarations_view c.args.declarations.now) _ (c.in_err-tell-in-Some.ensures.kept ∙ c.requires.same))
+
+pub returns-in_ok-tell-in-Some-clause-fewer : goal.returns-in_ok-tell-in-Some-clause-fewer
+returns-in_ok-tell-in-Some-clause-fewer g c = λ _.
     let headers = g.R.Ask.headers c.args.rules.now in
     let declarations = declarations_view c.args.declarations.now in
     let declaration = declaration_view c.index-declarations-place.result in
@@ -52,8 +95,8 @@ returns-in_ok-learn-in-Some-clause-fewer g c = λ _.
     let there = declared_at c.args.declarations.now c.args.place c.index-declarations-place.result c.requires.within c.index-declarations-place.is in
     let is = at_place declarations c.args.places.now.entries c.requires.places d c.args.place (c.stands_at.ensures.0 c.if-not-stands_at.false) declaration there in
     let kept : g.R.Ask.headers c.header_over.new.walks ≡ headers = c.header_over.ensures.same ∙ c.ask.ensures.same in
-    fewer_open headers (g.R.Ask.headers c.learn.new.self) d.0 h
-    (learnt_over headers (g.R.Ask.headers c.header_over.new.walks) (g.R.Ask.headers c.learn.new.self) d.0 h kept c.in_ok-learn-in-Some.ensures.learned)
+    fewer_open headers (g.R.Ask.headers c.tell.new.rules) d.0 h
+    (learnt_over headers (g.R.Ask.headers c.header_over.new.walks) (g.R.Ask.headers c.tell.new.rules) d.0 h kept c.in_ok-tell-in-Some.ensures.learned)
     declarations declaration is.declared
     (is_vacant c.in_ok-ask.field-0 (headers d.0) c.if-is_some.ensures c.in_ok-ask.ensures.answer)
 

@@ -5,8 +5,10 @@ use Rattle.go_base.specs.declared.ids.ObjId.{ObjId}
 use Rattle.go_module.specs.Scopes.{same_object}
 use Rattle.go_model.specs.declared.meaning.Meaning.{Meaning}
 use Rattle.go_model.specs.Outcomes.Walk.{Headers}
+use Rattle.go_model.specs.Values.HeadersView.{headers_view}
 use Rattle.go_model.specs.Values.Meaning.{meaning_by}
 use Rattle.go_names.specs.Views.{declaration_view, declarations_view}
+use Rattle.go_expr.proofs.ResultLemmas.{on_err}
 use Rattle.go_decl.specs.Rounds.{IsBacked, IsSettled, open_in}
 use Rattle.go_decl.proofs.RoundLemmas.{backed_twice}
 use Rattle.go_decl.proofs.PlaceLemmas.{declared_place}
@@ -27,6 +29,7 @@ loop-place-preserved g c =
       | then-branch w ↦ let less : open_in after declarations < open_in before declarations = did.fewer w.if-branch.true in
           record {
             backed = backed;
+            known = did.known;
             names = c.add_one.ensures.names ∙ inv.names;
             world = c.add_one.ensures.world ∙ inv.world;
             fewer = λ _. omega (arith, inv.no_more, less);
@@ -36,6 +39,7 @@ loop-place-preserved g c =
       | else-branch w ↦ let same : after ≡ before = did.same w.if-branch.false in
           record {
             backed = backed;
+            known = did.known;
             names = c.add_one.ensures.names ∙ inv.names;
             world = c.add_one.ensures.world ∙ inv.world;
             fewer = λ e. subst (λ (m : Headers). open_in m declarations < open_in old declarations) (sym same) (inv.fewer (sym w.added-is ∙ e));
@@ -58,3 +62,15 @@ pub returns-in_err-add_one-clause-backed : goal.returns-in_err-add_one-clause-ba
 returns-in_err-add_one-clause-backed g c =
     backed_twice (g.R.Ask.headers c.args.rules.now) (meaning_by (g.R.Ask.names c.args.rules.now)) (declarations_view c.args.declarations.now) (g.R.Ask.headers c.loop-place.rules) (g.R.Ask.headers c.add_one.new.rules) (meaning_by (g.R.Ask.names c.loop-place.rules))
     (ap meaning_by c.loop-place.invariant.names) c.loop-place.invariant.backed c.add_one.ensures.backed
+
+pub add_one-requires-clause-same : goal.add_one-requires-clause-same
+add_one-requires-clause-same g c = c.loop-place.invariant.known
+
+pub returns-clause-known : goal.returns-clause-known
+returns-clause-known g c = c.loop-place.invariant.known
+
+pub returns-in_err-add_one-clause-kept : goal.returns-in_err-add_one-clause-kept
+returns-in_err-add_one-clause-kept g c =
+    on_err c.from_residual.result _
+    (backed_twice (g.R.Ask.headers c.args.rules.now) (meaning_by (g.R.Ask.names c.args.rules.now)) (declarations_view c.args.declarations.now) (g.R.Ask.headers c.loop-place.rules) (headers_view c.add_one.new.known) (meaning_by (g.R.Ask.names c.loop-place.rules))
+    (ap meaning_by c.loop-place.invariant.names) c.loop-place.invariant.backed c.in_err-add_one.ensures.kept)

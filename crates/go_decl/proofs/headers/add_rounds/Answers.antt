@@ -1,7 +1,9 @@
 use Rattle.std.proofs.Common.{◌∙◌, ℕ, ap, refl, subst}
 use Rattle.go_model.specs.declared.meaning.Meaning.{Meaning}
+use Rattle.go_model.specs.Values.HeadersView.{headers_view}
 use Rattle.go_model.specs.Values.Meaning.{meaning_by}
 use Rattle.go_names.specs.Views.{declarations_view}
+use Rattle.go_expr.proofs.ResultLemmas.{on_err}
 use Rattle.go_decl.specs.Rounds.{IsSettled}
 use Rattle.go_decl.proofs.RoundLemmas.{backed_same, backed_twice, exact_after}
 use Rattle.go_decl.proofs.headers.add_rounds.Goals as goal
@@ -9,7 +11,7 @@ use Rattle.go_decl.proofs.headers.add_rounds.Goals as goal
 pub loop-init : goal.loop-init
 loop-init g c =
     let headers = g.R.Ask.headers c.args.rules.now in
-    record { backed = backed_same headers (meaning_by (g.R.Ask.names c.args.rules.now)) (declarations_view c.args.declarations.now) headers refl; names = refl; world = refl }
+    record { backed = backed_same headers (meaning_by (g.R.Ask.names c.args.rules.now)) (declarations_view c.args.declarations.now) headers refl; known = c.requires.same; names = refl; world = refl }
 
 pub loop-preserved : goal.loop-preserved
 loop-preserved g c =
@@ -18,6 +20,7 @@ loop-preserved g c =
     record {
       backed = backed_twice (g.R.Ask.headers c.args.rules.now) (meaning_by (g.R.Ask.names c.args.rules.now)) (declarations_view c.args.declarations.now)
           (g.R.Ask.headers c.loop.rules) (g.R.Ask.headers c.add_round.new.rules) (meaning_by (g.R.Ask.names c.loop.rules)) (ap meaning_by inv.names) inv.backed did.backed;
+      known = did.known;
       names = did.names ∙ inv.names;
       world = did.world ∙ inv.world;
     }
@@ -43,3 +46,12 @@ pub returns-clause-backed : goal.returns-clause-backed
 returns-clause-backed g c =
     backed_twice (g.R.Ask.headers c.args.rules.now) (meaning_by (g.R.Ask.names c.args.rules.now)) (declarations_view c.args.declarations.now) (g.R.Ask.headers c.loop.rules) (g.R.Ask.headers c.add_round.new.rules) (meaning_by (g.R.Ask.names c.loop.rules))
     (ap meaning_by c.loop.invariant.names) c.loop.invariant.backed c.add_round.ensures.backed
+
+pub add_round-requires-clause-same : goal.add_round-requires-clause-same
+add_round-requires-clause-same g c = c.loop.invariant.known
+
+pub returns-in_err-add_round-clause-kept : goal.returns-in_err-add_round-clause-kept
+returns-in_err-add_round-clause-kept g c =
+    on_err c.from_residual.result _
+    (backed_twice (g.R.Ask.headers c.args.rules.now) (meaning_by (g.R.Ask.names c.args.rules.now)) (declarations_view c.args.declarations.now) (g.R.Ask.headers c.loop.rules) (headers_view c.add_round.new.known) (meaning_by (g.R.Ask.names c.loop.rules))
+    (ap meaning_by c.loop.invariant.names) c.loop.invariant.backed c.in_err-add_round.ensures.kept)

@@ -1,4 +1,4 @@
-use Rattle.std.proofs.Common.{◌≡◌, ◌-◌, ◌∙◌, ap, arith}
+use Rattle.std.proofs.Common.{◌-◌, ◌∙◌, ap, arith}
 use Rattle.indexmap.specs.IndexMap.{insert_entry}
 use Rattle.go_module.specs.Names.Declarations.{number_of}
 use Rattle.go_module.specs.Scopes.{same_object}
