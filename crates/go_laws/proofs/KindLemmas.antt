@@ -102,12 +102,13 @@ module _ (m : ModuleData) where
 
 -- WHICH OBJECTS THE TABLE HOLDS
 
--- a universe name; the name of an imported package; what such a package exports; or a declaration of the package
-pub data IsKnown (m : ModuleData) (k : ℕ) (p : PackageData) (o : Object) : Type 0 where
-  of_universe : o.at.0 < first_number → IsKnown m k p o
-  of_import : o.kind ≡ Package → Contains (numbers_in_files p.files) o.at.0 → IsKnown m k p o
-  of_export : (q : ℕ) → Contains p.imports q → IsDeclaredAt m q o → IsKnown m k p o
-  of_block : (d : Declaration) → Contains (declarations_of p) d → declared_object k d ≡ o → IsKnown m k p o
+-- where an object comes from: it is a universe name, the name of an imported package, what such a package exports, or
+-- what a declaration of the package declares
+pub data Origin (m : ModuleData) (k : ℕ) (p : PackageData) (o : Object) : Type 0 where
+  of_universe : o.at.0 < first_number → Origin m k p o
+  of_import : o.kind ≡ Package → Contains (numbers_in_files p.files) o.at.0 → Origin m k p o
+  of_export : (q : ℕ) → Contains p.imports q → IsDeclaredAt m q o → Origin m k p o
+  of_block : (d : Declaration) → Contains (declarations_of p) d → declared_object k d ≡ o → Origin m k p o
 
 module _ (m : ModuleData) (k : ℕ) (p : PackageData) where
   abbrev regions : List Region
@@ -116,21 +117,21 @@ module _ (m : ModuleData) (k : ℕ) (p : PackageData) where
   abbrev entries : List (ObjId × Object)
   entries = objects_in (known_in m) k p
 
-  imported_is : (r : Region) → IsImported (known_in m) p r → IsKnown m k p r.object
+  imported_is : (r : Region) → IsImported (known_in m) p r → Origin m k p r.object
   imported_is r is = by_cases is.denoted
     where
-      by_cases : ((r.denotes ≡ Some is.place) × (r.object.kind ≡ Package) × Contains (numbers_in_files p.files) r.object.at.0) ⊎ ((r.denotes ≡ None) × Contains ((known_in m) is.place).exports r.object) → IsKnown m k p r.object
+      by_cases : ((r.denotes ≡ Some is.place) × (r.object.kind ≡ Package) × Contains (numbers_in_files p.files) r.object.at.0) ⊎ ((r.denotes ≡ None) × Contains ((known_in m) is.place).exports r.object) → Origin m k p r.object
       by_cases (inl name) = of_import name.1 name.2
       by_cases (inr dot) = of_export is.place is.among ((exported_declared m is.place).exports r.object dot.1)
 
-  outer_is : (r : Region) → Contains (outer_regions (known_in m) k p) r → IsKnown m k p r.object
+  outer_is : (r : Region) → Contains (outer_regions (known_in m) k p) r → Origin m k p r.object
   outer_is r h = by_cases (Contains-append_cases universe (flat_map (file_block (known_in m)) (imports_of k p)) r h)
     where
-      by_cases : Contains universe r ⊎ Contains (flat_map (file_block (known_in m)) (imports_of k p)) r → IsKnown m k p r.object
+      by_cases : Contains universe r ⊎ Contains (flat_map (file_block (known_in m)) (imports_of k p)) r → Origin m k p r.object
       by_cases (inl in_universe) = of_universe (universal r in_universe).below
       by_cases (inr in_file) = imported_is r (file_imported (known_in m) k p r in_file)
 
-  block_is : (r : Region) → Contains (package_block k p) r → IsKnown m k p r.object
+  block_is : (r : Region) → Contains (package_block k p) r → Origin m k p r.object
   block_is r h = let own = block_declared k p r h in of_block own.declaration own.among (ap (λ (s : Region). s.object) own.is)
 
   -- a package that is denoted is imported
@@ -161,21 +162,21 @@ module _ (m : ModuleData) (k : ℕ) (p : PackageData) where
           let held = filter (holds o) regions in
           region_imports r (filter_within (holds o) regions r (find_within (lies_inside_others held) held r is)) q named
 
-  members_are : (member : Member) → Contains (members_of (known_in m) k p) member → IsKnown m k p member.object
+  members_are : (member : Member) → Contains (members_of (known_in m) k p) member → Origin m k p member.object
   members_are member h =
       let from = flat_cases (members_at (known_in m) regions) (occurrences_from 0 p.files) member h in
       let is = member_by m (denoted_package regions from.0) from.0.selected member from.2 in
       of_export is.home (resolved from.0 is.home is.denoted) is.declared
 
-  -- an entry has the number of its object
+  -- an entry has the number of its object, which comes from one of these
   pub record IsEntry (d : ObjId) (o : Object) : Type 0 where
     pub number : object_id o ≡ d
-    pub known : IsKnown m k p o
+    pub origin : Origin m k p o
 
-  as_entry : (e : ObjId × Object) (o : Object) → (object_id o, o) ≡ e → IsKnown m k p o → IsEntry e.0 e.1
-  as_entry e o is known = subst (λ (x : ObjId × Object). IsEntry x.0 x.1) is (record { number = refl; known = known })
+  as_entry : (e : ObjId × Object) (o : Object) → (object_id o, o) ≡ e → Origin m k p o → IsEntry e.0 e.1
+  as_entry e o is origin = subst (λ (x : ObjId × Object). IsEntry x.0 x.1) is (record { number = refl; origin = origin })
 
-  entry_of_region : (rs : List Region) → ((r : Region) → Contains rs r → IsKnown m k p r.object) → (d : ObjId) (o : Object) → Contains (region_entries rs) (d, o) → IsEntry d o
+  entry_of_region : (rs : List Region) → ((r : Region) → Contains rs r → Origin m k p r.object) → (d : ObjId) (o : Object) → Contains (region_entries rs) (d, o) → IsEntry d o
   entry_of_region rs each d o h = let made = map_cases (λ (r : Region). (object_id r.object, r.object)) rs (d, o) h in as_entry (d, o) made.0.object made.2 (each made.0 made.1)
 
   abbrev member_entries : List (ObjId × Object)
@@ -194,9 +195,9 @@ module _ (m : ModuleData) (k : ℕ) (p : PackageData) where
       by_outer (inl here) = entry_of_region (outer_regions (known_in m) k p) outer_is d o here
       by_outer (inr there) = by_members (Contains-append_cases member_entries (region_entries (package_block k p)) (d, o) there)
 
-  -- what the table has is known
-  pub table_known : (d : ObjId) (o : Object) → lookup (same_object d) (objects_table m k p) ≡ Some o → IsEntry d o
-  table_known d o found = entry_is d o (object_declared (objects_table m k p) entries d o refl found)
+  -- so is what the table has
+  pub table_origin : (d : ObjId) (o : Object) → lookup (same_object d) (objects_table m k p) ≡ Some o → IsEntry d o
+  table_origin d o found = entry_is d o (object_declared (objects_table m k p) entries d o refl found)
 
   -- CONSTANTS
 
@@ -251,8 +252,8 @@ module _ (m : ModuleData) (k : ℕ) (p : PackageData) where
     pub export_const : (q : ℕ) → Contains p.imports q → (o : Object) → IsDeclaredAt m q o → Contains entries (object_id o, o) → IsConst (object_id o)
     export_const q among o is h =
         let found = there (object_id o) o h in
-        let entry = table_known (object_id o) found.0 found.1 in
-        record { object = found.0; found = found.1; kind = by_known found.0 (ap (λ (d : ObjId). d.0) entry.number) entry.known }
+        let entry = table_origin (object_id o) found.0 found.1 in
+        record { object = found.0; found = found.1; kind = by_origin found.0 (ap (λ (d : ObjId). d.0) entry.number) entry.origin }
       where
         own : Contains (numbers_in_files is.home.files) o.at.0
         own = subst (λ (x : Object). Contains (numbers_in_files is.home.files) x.at.0) is.is (is_constant is.home is.declaration is.among).there
@@ -260,9 +261,9 @@ module _ (m : ModuleData) (k : ℕ) (p : PackageData) where
         not_here : q ≡ k → ⊥
         not_here same = let first = stand.before k p at q among in omega (arith, first, same)
 
-        by_known : (x : Object) → x.at.0 ≡ o.at.0 → IsKnown m k p x → x.kind ≡ Const
-        by_known x same (of_universe below) = absurd (let first = up.from_first q is.home is.at o.at.0 own in omega (arith, below, first, same))
-        by_known x same (of_import kind here) =
+        by_origin : (x : Object) → x.at.0 ≡ o.at.0 → Origin m k p x → x.kind ≡ Const
+        by_origin x same (of_universe below) = absurd (let first = up.from_first q is.home is.at o.at.0 own in omega (arith, below, first, same))
+        by_origin x same (of_import kind here) =
             absurd (up.apart q k is.home p not_here is.at at o.at.0 own (subst (λ n. Contains (numbers_in_files p.files) n) same here))
-        by_known x same (of_export i imported declared) = declared_const declared.home i declared.declaration x declared.among declared.is
-        by_known x same (of_block d declared made) = declared_const p k d x declared made
+        by_origin x same (of_export i imported declared) = declared_const declared.home i declared.declaration x declared.among declared.is
+        by_origin x same (of_block d declared made) = declared_const p k d x declared made

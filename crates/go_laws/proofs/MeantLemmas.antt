@@ -19,7 +19,7 @@ use Rattle.go_model.specs.Values.Declared.{declared_as}
 use Rattle.go_model.specs.Values.Meaning.{denoted_meaning, kind_meaning, meaning_in, names_in, uses_table}
 use Rattle.go_laws.proofs.DenotedLemmas.{declared_by_number}
 use Rattle.go_laws.proofs.Denoting.{ImportsHaveHeaders}
-use Rattle.go_laws.proofs.KindLemmas.{IsKnown, of_block, of_export, of_import, of_universe, table_known}
+use Rattle.go_laws.proofs.KindLemmas.{Origin, of_block, of_export, of_import, of_universe, table_origin}
 
 -- one of these declarations has the number of an object
 abbrev pub HasDeclaration : List Declaration → ObjId → Type 0
@@ -52,15 +52,15 @@ pub meant_known : (m : ModuleData) (k : ℕ) (p : PackageData) (before : Headers
     → (id : ℕ) (d : ObjId) → meaning_in m k p id ≡ Declared d → HasDeclaration (declarations_of p) d ⊎ IsSome (before d.0)
 meant_known m k p before imports id d means =
     let meant = by_denoted (names_in m k p).objects (lookup (same_node (record { 0 = id })) (uses_table m k p)) d means in
-    let entry = table_known m k p d meant.object meant.found in
-    by_known meant (ap (λ (e : ObjId). e.0) entry.number) entry.known
+    let entry = table_origin m k p d meant.object meant.found in
+    by_origin meant (ap (λ (e : ObjId). e.0) entry.number) entry.origin
   where
-    by_known : (meant : IsMeant (names_in m k p).objects d) → meant.object.at.0 ≡ d.0 → IsKnown m k p meant.object → HasDeclaration (declarations_of p) d ⊎ IsSome (before d.0)
-    by_known meant same (of_universe below) =
+    by_origin : (meant : IsMeant (names_in m k p).objects d) → meant.object.at.0 ≡ d.0 → Origin m k p meant.object → HasDeclaration (declarations_of p) d ⊎ IsSome (before d.0)
+    by_origin meant same (of_universe below) =
         absurd (let never : false ≡ true = sym meant.own ∙ subst (λ n. nat_lt n first_number ≡ true) same (lt-ltb meant.object.at.0 first_number below) in cc)
-    by_known meant same (of_import kind there) = absurd (let never : Package ≡ Const = sym kind ∙ meant.kind in cc)
-    by_known meant same (of_export q among is) =
+    by_origin meant same (of_import kind there) = absurd (let never : Package ≡ Const = sym kind ∙ meant.kind in cc)
+    by_origin meant same (of_export q among is) =
         inr (subst (λ n. IsSome (before n)) (ap (λ (o : Object). o.at.0) is.is ∙ same) (imports q is.home among is.at is.declaration is.among))
-    by_known meant same (of_block declaration among is) =
+    by_origin meant same (of_block declaration among is) =
         let first = declared_by_number (declarations_of p) declaration among in
         inl (first.0, ap (declared_as (declarations_of p)) (sym (ap (λ (o : Object). o.at.0) is ∙ same)) ∙ first.1)
