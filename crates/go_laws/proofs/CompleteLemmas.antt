@@ -1,9 +1,8 @@
 -- Why an accepted package is complete: what has no header waits for what has none, and so on, and finitely many that do
 -- so come back to one that waits for itself.
 use Rattle.std.proofs.Common.{◌≡◌, ◌≢◌, ℕ, Bool, true, false, cond, Option, Some, None, List, [], ◌∷◌, ◌++◌, ◌⊎◌, inl, inr, map, Contains, refl, sym, ap, ◌∙◌, subst, ⊎_elim}
-use Rattle.std.specs.Prelude.{◌==◌, ◌||◌, ◌&&◌, not, is_some, IsSome, length, option_and_then, if◌then◌else◌}
+use Rattle.std.specs.Prelude.{◌==◌, ◌&&◌, not, is_some, IsSome, length, option_and_then, if◌then◌else◌}
 use Rattle.std.specs.List.{flat_map, list_all}
-use Rattle.std.specs.Map.{lookup}
 use Rattle.std.proofs.lemmas.Bool.{cases_eq, eq-eqb, ne_eqb}
 use Rattle.std.proofs.lemmas.List.Elements.{Contains-append_right}
 use Rattle.go_base.specs.declared.ids.ObjId.{ObjId}
@@ -16,7 +15,6 @@ use Rattle.go_module.specs.Modules.Module.{ModuleData, PackageData}
 use Rattle.go_module.specs.Names.Declarations.{Declaration, Spec, declarations_in, declarations_of, declared_in, number_of, pairs, rests_on, specs_of, with_list}
 use Rattle.go_module.specs.Names.Occurrences.{nodes_in}
 use Rattle.go_module.specs.Places.{with_number}
-use Rattle.go_module.specs.Scopes.{same_node}
 use Rattle.go_module.specs.declared.declaration.Built.TheVariants.{Pair}
 use Rattle.go_model.specs.declared.meaning.Meaning.{Meaning}
 use Rattle.go_model.specs.declared.meaning.Meaning.TheVariants.{Declared}
@@ -29,7 +27,7 @@ use Rattle.go_model.specs.Phases.{HasHeaders, IsVerdict, sound}
 use Rattle.go_model.specs.Report.{LineData, NamedData, accepted}
 use Rattle.go_model.specs.Values.Declared.{declared_as}
 use Rattle.go_model.specs.Values.Headers.{Follows, Justified, Known, headers_of}
-use Rattle.go_model.specs.Values.Meaning.{may_have_header, meaning_in, uses_table}
+use Rattle.go_model.specs.Values.Meaning.{meaning_in}
 use Rattle.go_model.specs.Values.Quests.{IsPart}
 use Rattle.go_model.specs.Values.Records.{bound_value, header_over, record_of}
 use Rattle.go_model.specs.Values.Rules.{are_unequal, broken_cycles, broken_in, broken_in_files, broken_node, broken_spec, broken_values, cyclic_at, unequal_at, unequal_sides}
@@ -38,14 +36,15 @@ use Rattle.go_model.proofs.ExactWaitLemmas.{outcome_exactly}
 use Rattle.go_model.proofs.HeaderLemmas.{both_justified, closed_under, header_over-part, headers_of-here, kept, later_part, stays}
 use Rattle.go_model.proofs.OutcomeLemmas.{outcome_stays}
 use Rattle.go_expr.proofs.AwaitedLemmas.{awaited_means}
-use Rattle.go_decl.proofs.WaitLemmas.{denoted_may_have}
 use Rattle.go_laws.specs.Complete.{IsComplete, asked_in, values_in}
 use Rattle.go_laws.proofs.Asked.{AreAsked}
 use Rattle.go_laws.proofs.AskedLemmas.{IsGood, IsUnbroken, asked_are_nodes, each_good}
 use Rattle.go_laws.proofs.DenotedLemmas.{declared_by_number}
+use Rattle.go_laws.proofs.Denoting.{ImportsHaveHeaders}
 use Rattle.go_laws.proofs.IntegerLemmas.{HaveIntegers, integer_declared, known_integer, record_integer}
 use Rattle.go_model.proofs.FlatLemmas.{flat_cases, flat_contains, map_cases}
 use Rattle.go_laws.proofs.ListLemmas.{left_is_empty, map_contains, map_is_empty, none_of_each, right_is_empty}
+use Rattle.go_laws.proofs.MeantLemmas.{HasDeclaration, meant_known}
 use Rattle.go_laws.proofs.WalkLemmas.{no_walk}
 
 -- what a number names is a declaration with that number
@@ -103,7 +102,7 @@ module _ (before : Headers) (means : ℕ → Meaning) (specs : List Spec) (heade
     (has : HasHeaders before means (declarations_in specs) headers cyclic)
     (no_cycles : broken_cycles cyclic (declarations_in specs) ≡ [])
     (no_broken : flat_map (broken_spec means headers) specs ≡ [])
-    (named : (id : ℕ) (object : ObjId) → means id ≡ Declared object → may_have_header before (declarations_in specs) object ≡ true)
+    (named : (id : ℕ) (object : ObjId) → means id ≡ Declared object → HasDeclaration (declarations_in specs) object ⊎ IsSome (before object.0))
     (integers : HaveIntegers before)
     (asked : AreAsked means (flat_map (λ spec. spec.values) specs)) where
   abbrev all : List Declaration
@@ -139,16 +138,13 @@ module _ (before : Headers) (means : ℕ → Meaning) (specs : List Spec) (heade
     pub declaration : Declaration
     pub declared : declared_as all n ≡ Some declaration
 
-  own : (object : ObjId) → may_have_header before all object ≡ true → headers object.0 ≡ None → (d : Declaration) × (declared_as all object.0 ≡ Some d)
-  own object declared missing = by_declaration (declared_as all object.0) refl
+  own : (object : ObjId) → HasDeclaration all object ⊎ IsSome (before object.0) → headers object.0 ≡ None → HasDeclaration all object
+  own object (inl declared) missing = declared
+  own object (inr some) missing = absurd (none_before (before object.0) refl some)
     where
-      none_before : (o : Option HeaderData) → before object.0 ≡ o → is_some o ≡ true → ⊥
-      none_before None e some = cc
-      none_before (Some h) e some = let known = base object.0 h e in let never : Some h ≡ None = sym known ∙ missing in cc
-
-      by_declaration : (o : Option Declaration) → declared_as all object.0 ≡ o → (d : Declaration) × (declared_as all object.0 ≡ Some d)
-      by_declaration (Some d) e = (d, e)
-      by_declaration None e = absurd (none_before (before object.0) refl (ap (λ (o : Option Declaration). is_some o || is_some (before object.0)) (sym e) ∙ declared))
+      none_before : (o : Option HeaderData) → before object.0 ≡ o → IsSome o → ⊥
+      none_before None e has = let never : false ≡ true = has in cc
+      none_before (Some h) e has = let never : Some h ≡ None = sym (base object.0 h e) ∙ missing in cc
 
   waits_lack : (t : Tree) (n : ℕ) → outcome means headers t ≡ Waits n → Lacking n
   waits_lack t n e =
@@ -328,14 +324,14 @@ module _ (before : Headers) (means : ℕ → Meaning) (specs : List Spec) (heade
 
 -- an accepted package of which something is asked at each node that is asked for a record is complete
 pub complete_where_asked : (m : ModuleData) (k : ℕ) (p : PackageData) (before after : Headers) (lines : List LineData) (names : List NamedData)
-    → IsVerdict m k p before (accepted lines names) after → HaveIntegers before → AreAsked (meaning_in m k p before) (values_in p)
-    → IsComplete (meaning_in m k p before) after p
-complete_where_asked m k p before after lines names (sound headers _ breaks _) integers asked =
-    let means = meaning_in m k p before in
+    → IsVerdict m k p before (accepted lines names) after → ImportsHaveHeaders m p before → HaveIntegers before → AreAsked (meaning_in m k p) (values_in p)
+    → IsComplete (meaning_in m k p) after p
+complete_where_asked m k p before after lines names (sound headers _ breaks _) imports integers asked =
+    let means = meaning_in m k p in
     let none = map_is_empty (with_number p.files) (broken_in_files means headers breaks.cyclic p) (none_found (broken_values means headers breaks.cyclic p) breaks.is_list) in
     let no_cycles = left_is_empty (broken_cycles breaks.cyclic (declarations_of p)) (flat_map (broken_spec means headers) (specs_of p)) none in
     let no_broken = right_is_empty (broken_cycles breaks.cyclic (declarations_of p)) (flat_map (broken_spec means headers) (specs_of p)) none in
-    let named = λ (id : ℕ) (object : ObjId) (e : means id ≡ Declared object). denoted_may_have (may_have_header before (declarations_of p)) (lookup (same_node (record { 0 = id })) (uses_table m k p)) object e in
+    let named = meant_known m k p before imports in
     record {
       declared = each_declared before means (specs_of p) headers breaks.cyclic breaks.has_headers no_cycles no_broken named integers asked;
       recorded = each_recorded before means (specs_of p) headers breaks.cyclic breaks.has_headers no_cycles no_broken named integers asked;

@@ -1,29 +1,30 @@
--- What may have a header: the declarations of a package, and what the packages that it imports export.
+-- What names denote: the declarations of a package, universe names, the packages that it imports, and what these export.
 use Rattle.std.proofs.Common.{◌≡◌, ℕ, ◌+◌, ◌<◌, Bool, true, false, cond, Option, Some, None, List, [], ◌∷◌, ◌⊎◌, inl, inr, map, length, filter, Contains, refl, sym, ap, ◌∙◌, subst, ⊎_elim, arith}
-use Rattle.std.specs.Prelude.{◌||◌, IsSome, is_some, if◌then◌else◌, option_and_then, slice_get}
+use Rattle.std.specs.Prelude.{if◌then◌else◌, option_and_then, slice_get}
+use Rattle.std.specs.List.{flat_map}
 use Rattle.std.specs.Map.{lookup}
 use Rattle.std.specs.Option.{option_map_or}
 use Rattle.std.proofs.lemmas.Bool.{cases_eq, eq-eqb, ne_eqb}
 use Rattle.go_base.specs.declared.ids.ObjId.{ObjId}
-use Rattle.go_tree.specs.Tree.{Tree, Trees, more_trees, no_trees, parts_of}
+use Rattle.go_tree.specs.Tree.{Tree, Trees, id_of, list_of, more_trees, no_trees, parts_of}
 use Rattle.go_module.specs.declared.block.Region.{Region}
 use Rattle.go_module.specs.declared.object.Object.{Object}
+use Rattle.go_module.specs.declared.object.ObjKind.TheVariants.{Package}
 use Rattle.go_module.specs.Modules.Module.{ModuleData, PackageData, first_number}
 use Rattle.go_module.specs.Modules.Paths.{same_text}
 use Rattle.go_module.specs.Names.Declarations.{Declaration, declarations_of, name_text, number_of}
 use Rattle.go_module.specs.Names.Exported.{is_blank_identifier, is_exported}
-use Rattle.go_module.specs.Names.Imports.{Importing, PackageNames, dot_region, file_block, import_parts, import_region, import_regions, is_dot, known_by_tables, known_in}
-use Rattle.go_module.specs.Names.PackageBlock.{binds, declared_region, names_of, object_id, objects_of, package_block, region_entries}
+use Rattle.go_module.specs.Names.Imports.{Importing, PackageNames, dot_region, file_block, import_parts, import_region, import_regions, imports_of, is_dot, known_by_tables, known_in}
+use Rattle.go_module.specs.Names.PackageBlock.{binds, declared_object, declared_region, names_of, object_id, objects_of, package_block, region_entries}
 use Rattle.go_module.specs.Names.Universe.{Predeclared, predeclared, universe, universe_from, universe_region}
 use Rattle.go_module.specs.Scopes.{same_object}
-use Rattle.go_module.proofs.MemberLemmas.{cons_cases, contains_none}
+use Rattle.go_module.proofs.MemberLemmas.{cons_cases, contains_head, contains_none}
 use Rattle.go_module.proofs.TableLemmas.{object_declared}
-use Rattle.go_model.specs.Outcomes.Walk.{Headers}
 use Rattle.go_model.specs.Values.Declared.{declared_as}
-use Rattle.go_model.specs.Values.Meaning.{may_have_header}
-use Rattle.go_laws.proofs.Denoting.{ImportsHaveHeaders}
-use Rattle.go_model.proofs.FlatLemmas.{flat_cases, map_cases}
-use Rattle.go_laws.proofs.ListLemmas.{found_from}
+use Rattle.go_laws.specs.NodeNumbers.{nodes_in_files, numbers_in_files}
+use Rattle.go_model.proofs.FlatLemmas.{flat_cases, map_cases, only_is}
+use Rattle.go_laws.proofs.ListLemmas.{found_from, map_contains}
+use Rattle.go_laws.proofs.NameNodeLemmas.{IsOfFiles, of_files}
 use Rattle.go_laws.proofs.PickedLemmas.{picked_contains, picked_filter}
 
 -- each declaration has one that its number names
@@ -51,14 +52,7 @@ block_declared k p r h =
     let made = map_cases (declared_region k) (filter binds (declarations_of p)) r h in
     record { declaration = made.0; among = picked_contains made.0 (picked_filter binds (declarations_of p)) made.1; is = made.2 }
 
--- it may have a header, and is of no package
-pub block_may_have : (before : Headers) (k : ℕ) (p : PackageData) (r : Region) → Contains (package_block k p) r → may_have_header before (declarations_of p) (object_id r.object) ≡ true
-block_may_have before k p r h =
-    let own = block_declared k p r h in
-    let first = declared_by_number (declarations_of p) own.declaration own.among in
-    ap (λ (x : Region). may_have_header before (declarations_of p) (object_id x.object)) (sym own.is)
-    ∙ ap (λ (o : Option Declaration). is_some o || is_some (before (number_of own.declaration).0)) first.1
-
+-- and of no package
 pub block_no_package : (k : ℕ) (p : PackageData) (r : Region) → Contains (package_block k p) r → r.denotes ≡ None
 block_no_package k p r h = let own = block_declared k p r h in ap (λ (x : Region). x.denotes) (sym own.is)
 
@@ -111,44 +105,64 @@ module _ (P : Object → Type 0) where
       by_package None e = tables_known [] (λ r h. absurd (contains_none r h)) []
       by_package (Some x) e = tables_known (package_block q x) (λ r h. (let own = block_declared q x r h in each x e own.declaration own.among r own.is)) x.name
 
--- what an imported package exports has a header
-abbrev pub HasHeader : Headers → Object → Type 0
-HasHeader before o = IsSome (before (object_id o).0)
+-- an object that the package at a place of the module declares
+pub record IsDeclaredAt (m : ModuleData) (k : ℕ) (o : Object) : Type 0 where
+  pub home : PackageData
+  pub at : slice_get m.packages k ≡ Some home
+  pub declaration : Declaration
+  pub among : Contains (declarations_of home) declaration
+  pub is : declared_object k declaration ≡ o
 
-pub imported_known : (m : ModuleData) (p : PackageData) (before : Headers) → ImportsHaveHeaders m p before → (q : ℕ) → Contains p.imports q → AreKnown (HasHeader before) (known_in m q)
-imported_known m p before headers q among =
-    known_by_package (HasHeader before) m q (λ x at d own r is. subst (λ (s : Region). HasHeader before s.object) is (headers q x among at d own))
+pub exported_declared : (m : ModuleData) (q : ℕ) → AreKnown (IsDeclaredAt m q) (known_in m q)
+exported_declared m q =
+    known_by_package (IsDeclaredAt m q) m q
+    (λ x at d own r is. record { home = x; at = at; declaration = d; among = own; is = ap (λ (s : Region). s.object) is })
 
 -- the block of a file: names of packages, and what these export
-pub record IsImported (known : ℕ → PackageNames) (packages : List ℕ) (r : Region) : Type 0 where
-  pub place : ℕ
-  pub among : Contains packages place
-  pub denoted : (r.denotes ≡ Some place) ⊎ ((r.denotes ≡ None) × Contains (known place).exports r.object)
 
-abbrev IsOf : PackageNames → Importing → Region → Type 0
-IsOf known i r = (r.denotes ≡ Some i.imported) ⊎ ((r.denotes ≡ None) × Contains known.exports r.object)
+-- the name of the imported package, which a part of the import's spec declares
+record IsName (i : Importing) (parts : Trees) (r : Region) : Type 0 where
+  denotes : r.denotes ≡ Some i.imported
+  kind : r.object.kind ≡ Package
+  node : Tree
+  among : Contains (list_of parts) node
+  number : id_of node ≡ r.object.at.0
 
-package_of : (known : PackageNames) (i : Importing) (name : List ℕ) (node : Tree) (r : Region) → Contains (import_region i name node ∷ []) r → IsOf known i r
-package_of known i name node r h = by_cases (cons_cases (import_region i name node) [] r h)
-  where
-    by_cases : (import_region i name node ≡ r) ⊎ Contains [] r → IsOf known i r
-    by_cases (inl same) = inl (ap (λ (x : Region). x.denotes) (sym same))
-    by_cases (inr none) = absurd (contains_none r none)
+abbrev IsOf : PackageNames → Importing → Trees → Region → Type 0
+IsOf known i parts r = IsName i parts r ⊎ ((r.denotes ≡ None) × Contains known.exports r.object)
 
-named_of : (known : PackageNames) (i : Importing) (name string : Tree) (r : Region) (dot blank : Bool) → Contains (if dot then map (dot_region i string) known.exports else if blank then [] else import_region i (name_text name) name ∷ []) r → IsOf known i r
-named_of known i name string r true blank h =
+package_of : (known : PackageNames) (i : Importing) (parts : Trees) (name : List ℕ) (node : Tree) (r : Region) → Contains (list_of parts) node → Contains (import_region i name node ∷ []) r → IsOf known i parts r
+package_of known i parts name node r among h = inl (subst (IsName i parts) (only_is (import_region i name node) r h) (record { denotes = refl; kind = refl; node = node; among = among; number = refl }))
+
+named_of : (known : PackageNames) (i : Importing) (parts : Trees) (name string : Tree) (r : Region) (dot blank : Bool) → Contains (list_of parts) name
+    → Contains (if dot then map (dot_region i string) known.exports else if blank then [] else import_region i (name_text name) name ∷ []) r → IsOf known i parts r
+named_of known i parts name string r true blank among h =
     let made = map_cases (dot_region i string) known.exports r h in
     inr (ap (λ (x : Region). x.denotes) (sym made.2), subst (λ (x : Region). Contains known.exports x.object) made.2 made.1)
-named_of known i name string r false true h = absurd (contains_none r h)
-named_of known i name string r false false h = package_of known i (name_text name) name r h
+named_of known i parts name string r false true among h = absurd (contains_none r h)
+named_of known i parts name string r false false among h = package_of known i parts (name_text name) name r among h
 
-parts_of_import : (known : PackageNames) (i : Importing) (parts : Trees) (r : Region) → Contains (import_parts known i parts) r → IsOf known i r
+parts_of_import : (known : PackageNames) (i : Importing) (parts : Trees) (r : Region) → Contains (import_parts known i parts) r → IsOf known i parts r
 parts_of_import known i no_trees r h = absurd (contains_none r h)
-parts_of_import known i (more_trees string no_trees) r h = package_of known i known.clause string r h
-parts_of_import known i (more_trees name (more_trees string no_trees)) r h = named_of known i name string r (is_dot name) (is_blank_identifier (name_text name)) h
+parts_of_import known i (more_trees string no_trees) r h = package_of known i (more_trees string no_trees) known.clause string r (contains_head string [] string refl) h
+parts_of_import known i (more_trees name (more_trees string no_trees)) r h =
+    named_of known i (more_trees name (more_trees string no_trees)) name string r (is_dot name) (is_blank_identifier (name_text name)) (contains_head name (string ∷ []) name refl) h
 parts_of_import known i (more_trees a (more_trees b (more_trees c rest))) r h = absurd (contains_none r h)
 
-pub file_imported : (known : ℕ → PackageNames) (packages : List ℕ) (imports : List Importing) → ((i : Importing) → Contains imports i → Contains packages i.imported) → (r : Region) → Contains (file_block known imports) r → IsImported known packages r
-file_imported known packages imports each r h =
-    let from = flat_cases (import_regions known) imports r h in
-    record { place = from.0.imported; among = each from.0 from.1; denoted = parts_of_import (known from.0.imported) from.0 (parts_of from.0.spec) r from.2 }
+pub record IsImported (known : ℕ → PackageNames) (p : PackageData) (r : Region) : Type 0 where
+  pub place : ℕ
+  pub among : Contains p.imports place
+  pub denoted : ((r.denotes ≡ Some place) × (r.object.kind ≡ Package) × Contains (numbers_in_files p.files) r.object.at.0) ⊎ ((r.denotes ≡ None) × Contains (known place).exports r.object)
+
+pub file_imported : (known : ℕ → PackageNames) (k : ℕ) (p : PackageData) (r : Region) → Contains (flat_map (file_block known) (imports_of k p)) r → IsImported known p r
+file_imported known k p r h =
+    let file = flat_cases (file_block known) (imports_of k p) r h in
+    let from = flat_cases (import_regions known) file.0 r file.2 in
+    let is = of_files k 0 p.files p.imports file.0 file.1 from.0 from.1 in
+    record { place = from.0.imported; among = is.imported; denoted = by_cases from.0 is (parts_of_import (known from.0.imported) from.0 (parts_of from.0.spec) r from.2) }
+  where
+    by_cases : (i : Importing) → IsOfFiles p.files p.imports i → IsOf (known i.imported) i (parts_of i.spec) r
+        → ((r.denotes ≡ Some i.imported) × (r.object.kind ≡ Package) × Contains (numbers_in_files p.files) r.object.at.0) ⊎ ((r.denotes ≡ None) × Contains (known i.imported).exports r.object)
+    by_cases i is (inl name) =
+        inl (name.denotes, name.kind, subst (λ n. Contains (numbers_in_files p.files) n) name.number (map_contains id_of (nodes_in_files p.files) name.node (is.part name.node name.among)))
+    by_cases i is (inr dot) = inr dot

@@ -1,7 +1,6 @@
 -- The file in which a spec of a package stands, with its imports, where the package breaks no rule on names.
-use Rattle.std.proofs.Common.{◌≡◌, ℕ, zero, suc, ◌+◌, Bool, Some, List, [], ◌∷◌, ◌⊎◌, inl, inr, length, Contains, refl, sym, ap, subst, arith}
+use Rattle.std.proofs.Common.{◌≡◌, ℕ, suc, ◌+◌, Bool, Some, List, [], ◌∷◌, ◌⊎◌, inl, inr, length, Contains, refl, sym, ap, arith}
 use Rattle.std.specs.Prelude.{drop, slice_get, take}
-use Rattle.std.specs.List.{zip}
 use Rattle.std.proofs.lemmas.List.Elements.{Contains-append_cases, Contains-append_left, Contains-append_right}
 use Rattle.go_tree.specs.declared.node_kind.NodeKind.TheVariants.{ConstDecl, ConstGroup}
 use Rattle.go_tree.specs.Tree.{Tree, branch, list_of, parts_of}
@@ -14,7 +13,7 @@ use Rattle.go_module.specs.Names.Imports.{Importing, PackageNames, imports_from,
 use Rattle.go_module.specs.Names.Occurrences.{occurrences_in_file}
 use Rattle.go_module.specs.Names.Rules.BrokenNames.{broken_file, broken_files}
 use Rattle.go_module.specs.Names.Tables.{occurrences_from}
-use Rattle.go_module.proofs.MemberLemmas.{cons_cases, contains_head, contains_none, contains_tail}
+use Rattle.go_module.proofs.MemberLemmas.{contains_head, contains_none, contains_tail}
 use Rattle.go_model.proofs.FlatLemmas.{flat_cases, map_cases}
 use Rattle.go_laws.proofs.ListLemmas.{left_is_empty, right_is_empty}
 
@@ -39,35 +38,6 @@ file_of_spec first (f ∷ files) spec h = by_cases (Contains-append_cases (specs
     by_cases (inl here) later = (first, f, contains_head f files f refl, here)
     by_cases (inr there) later = let from = later there in (from.0, from.1, contains_tail f files from.1 from.2, from.3)
 
--- what is imported in a file is imported by the package
-in_take : (n : ℕ) (xs : List ℕ) (x : ℕ) → Contains (take n xs) x → Contains xs x
-in_take zero xs x h = absurd (contains_none x h)
-in_take (suc n) [] x h = absurd (contains_none x h)
-in_take (suc n) (y ∷ xs) x h = by_cases (cons_cases y (take n xs) x h) (in_take n xs x)
-  where
-    by_cases : (y ≡ x) ⊎ Contains (take n xs) x → (Contains (take n xs) x → Contains xs x) → Contains (y ∷ xs) x
-    by_cases (inl here) later = contains_head y xs x here
-    by_cases (inr there) later = contains_tail y xs x (later there)
-
-in_drop : (n : ℕ) (xs : List ℕ) (x : ℕ) → Contains (drop n xs) x → Contains xs x
-in_drop zero xs x h = h
-in_drop (suc n) [] x h = absurd (contains_none x h)
-in_drop (suc n) (y ∷ xs) x h = contains_tail y xs x (in_drop n xs x h)
-
-in_zip : (specs : List Tree) (packages : List ℕ) (pair : Tree × ℕ) → Contains (zip specs packages) pair → Contains packages pair.1
-in_zip [] packages pair h = absurd (contains_none pair h)
-in_zip (s ∷ specs) [] pair h = absurd (contains_none pair h)
-in_zip (s ∷ specs) (q ∷ packages) pair h = by_cases (cons_cases (s, q) (zip specs packages) pair h) (in_zip specs packages pair)
-  where
-    by_cases : ((s, q) ≡ pair) ⊎ Contains (zip specs packages) pair → (Contains (zip specs packages) pair → Contains packages pair.1) → Contains (q ∷ packages) pair.1
-    by_cases (inl here) later = contains_head q packages pair.1 (ap (λ (x : Tree × ℕ). x.1) here)
-    by_cases (inr there) later = contains_tail q packages pair.1 (later there)
-
-import_among : (k file : ℕ) (specs : List Tree) (packages : List ℕ) (i : Importing) → Contains (imports_in k file specs packages) i → Contains packages i.imported
-import_among k file specs packages i h =
-    let made = map_cases (λ (pair : Tree × ℕ). record { spec = pair.0; file = file; importer = k; imported = pair.1 }) (zip specs packages) i h in
-    subst (λ (q : ℕ). Contains packages q) (ap (λ (x : Importing). x.imported) made.2) (in_zip specs packages made.0 made.1)
-
 module _ (known : ℕ → PackageNames) (k : ℕ) (is_main : Bool) (regions block : List Region) where
   -- behind a first place its file, its imports, and what is not broken there
   pub record AtFile (first : ℕ) (files : List FileData) (packages : List ℕ) (spec : Spec) : Type 0 where
@@ -77,7 +47,7 @@ module _ (known : ℕ → PackageNames) (k : ℕ) (is_main : Bool) (regions bloc
     pub file : FileData
     pub imports : List Importing
     pub found : slice_get (imports_from k first files packages) place ≡ Some imports
-    pub imported : (i : Importing) → Contains imports i → Contains packages i.imported
+    pub listed : Contains (imports_from k first files packages) imports
     pub among : Contains (specs_in_file number file.tree) spec
     pub sound : broken_file known is_main regions block number file imports ≡ []
     pub occurs : (o : Occurrence) → Contains (occurrences_in_file number file.tree) o → Contains (occurrences_from first files) o
@@ -96,7 +66,7 @@ module _ (known : ℕ → PackageNames) (k : ℕ) (is_main : Bool) (regions bloc
         file = f;
         imports = imports_in k first (import_specs f.tree) (take (length (import_specs f.tree)) packages);
         found = refl;
-        imported = λ i among. in_take (length (import_specs f.tree)) packages i.imported (import_among k first (import_specs f.tree) (take (length (import_specs f.tree)) packages) i among);
+        listed = contains_head (imports_in k first (import_specs f.tree) (take (length (import_specs f.tree)) packages)) (imports_from k (first + 1) files (drop (length (import_specs f.tree)) packages)) (imports_in k first (import_specs f.tree) (take (length (import_specs f.tree)) packages)) refl;
         among = here;
         sound = left_is_empty (broken_file known is_main regions block first f (imports_in k first (import_specs f.tree) (take (length (import_specs f.tree)) packages))) (broken_files known is_main regions block (first + 1) files (imports_from k (first + 1) files (drop (length (import_specs f.tree)) packages))) none;
         occurs = λ o inside. Contains-append_left (occurrences_in_file first f.tree) (occurrences_from (first + 1) files) o inside;
@@ -108,7 +78,7 @@ module _ (known : ℕ → PackageNames) (k : ℕ) (is_main : Bool) (regions bloc
         file = is.file;
         imports = is.imports;
         found = is.found;
-        imported = λ i among. in_drop (length (import_specs f.tree)) packages i.imported (is.imported i among);
+        listed = contains_tail (imports_in k first (import_specs f.tree) (take (length (import_specs f.tree)) packages)) (imports_from k (first + 1) files (drop (length (import_specs f.tree)) packages)) is.imports is.listed;
         among = is.among;
         sound = is.sound;
         occurs = λ o inside. Contains-append_right (occurrences_in_file first f.tree) (occurrences_from (first + 1) files) o (is.occurs o inside);

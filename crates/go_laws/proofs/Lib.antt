@@ -12,7 +12,10 @@ pub mod UseLemmas
 pub mod OccursLemmas
 pub mod FileLemmas
 pub mod ResolvedLemmas
+pub mod NameNodeLemmas
 pub mod DenotedLemmas
+pub mod KindLemmas
+pub mod MeantLemmas
 pub mod DenotingLemmas
 pub mod BuiltLemmas
 pub mod ReachedLemmas

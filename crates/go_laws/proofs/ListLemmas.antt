@@ -1,7 +1,7 @@
 -- What stands in a list that is made of others; and what makes an empty list makes nothing.
 use Rattle.std.proofs.Common.{◌≡◌, Bool, true, false, Option, Some, None, List, [], ◌∷◌, ◌++◌, ◌⊎◌, inl, inr, map, Contains, refl, sym, ap, ◌∙◌, subst}
 use Rattle.std.specs.List.{cons_option, filter_map, flat_map}
-use Rattle.std.proofs.lemmas.List.Elements.{Contains-append_cases, Contains-append_left, Contains-append_right}
+use Rattle.std.proofs.lemmas.List.Elements.{Contains-append_cases}
 use Rattle.go_base.specs.declared.rule.Broken.{Broken}
 use Rattle.go_module.specs.Broken.{told_if}
 use Rattle.go_model.proofs.FlatLemmas.{flat_contains}

@@ -5,16 +5,19 @@ use Rattle.std.specs.Prelude.{IsSome, is_some, slice_get}
 use Rattle.std.proofs.lemmas.List.Elements.{All-contains}
 use Rattle.std.proofs.lemmas.List.Sums.{AllPass-from_list_all}
 use Rattle.std.proofs.lemmas.Option.{same_Some}
+use Rattle.go_base.specs.declared.rule.Broken.{Broken}
 use Rattle.go_graph.specs.Graph.{is_marked}
 use Rattle.go_module.specs.Modules.Module.{ModuleData, PackageData}
+use Rattle.go_module.specs.Modules.ModuleLaws.{ImportsStandBefore}
 use Rattle.go_module.specs.Names.Declarations.{Declaration, declarations_of, number_of}
 use Rattle.go_module.specs.Names.Imports.{known_in}
 use Rattle.go_module.specs.Names.Rules.BrokenNames.{broken_names}
 use Rattle.go_mod.specs.Folders.{Folder}
 use Rattle.go_load.specs.Loading.{IsModule}
+use Rattle.go_load.proofs.ModuleLawLemmas.{stand_before}
 use Rattle.go_model.specs.Outcomes.Records.{HeaderData}
 use Rattle.go_model.specs.Outcomes.Walk.{Headers}
-use Rattle.go_model.specs.Phases.{AreReports, IsVerdict, ReportOf, all_told, by_names, by_values, checks as checks_report, imports_accepted, is_accepted, package_report, skips as skips_report, sound}
+use Rattle.go_model.specs.Phases.{AreReports, BreaksValues, IsVerdict, ReportOf, all_told, by_names, by_values, checks as checks_report, imports_accepted, is_accepted, package_report, skips as skips_report, sound}
 use Rattle.go_model.specs.Report.{LineData, NamedData, PackageReportData, ReportData, VerdictData, accepted, refused, skipped}
 use Rattle.go_model.specs.Values.Meaning.{meaning_in}
 use Rattle.go_model.specs.Values.Quests.{IsPart}
@@ -66,17 +69,20 @@ module _ (m : ModuleData) where
     pub integers : HaveIntegers before
     pub declared : (i : ℕ) (q : PackageData) → is_marked marks i ≡ true → slice_get m.packages i ≡ Some q → AreDeclared q before
 
-  -- a package that is not accepted changes nothing
-  not_accepted : (k : ℕ) (marks : List Bool) (before : Headers) → IsKnown k marks before → IsKnown (k + 1) (marks ++ false ∷ []) before
-  not_accepted k marks before is = record {
+  -- of a package that is not accepted no more is known than before
+  not_accepted : (k : ℕ) (marks : List Bool) (before after : Headers) → IsKnown k marks before → IsPart before after → HaveIntegers after → IsKnown (k + 1) (marks ++ false ∷ []) after
+  not_accepted k marks before after is part integers = record {
     many = more_marks marks false ∙ ap (λ n. n + 1) is.many;
-    integers = is.integers;
+    integers = integers;
     declared = λ i q marked at. by_cases i q at (marked_more marks false i marked);
   }
     where
-      by_cases : (i : ℕ) (q : PackageData) → slice_get m.packages i ≡ Some q → (is_marked marks i ≡ true) ⊎ ((i ≡ length marks) × (false ≡ true)) → AreDeclared q before
-      by_cases i q at (inl marked) = is.declared i q marked at
+      by_cases : (i : ℕ) (q : PackageData) → slice_get m.packages i ≡ Some q → (is_marked marks i ≡ true) ⊎ ((i ≡ length marks) × (false ≡ true)) → AreDeclared q after
+      by_cases i q at (inl marked) = λ d among. some_part before after (number_of d).0 part (is.declared i q marked at d among)
       by_cases i q at (inr never) = absurd (let not : false ≡ true = never.1 in cc)
+
+  same_headers : (k : ℕ) (marks : List Bool) (before : Headers) → IsKnown k marks before → IsKnown (k + 1) (marks ++ false ∷ []) before
+  same_headers k marks before is = not_accepted k marks before before is (λ d h e. e) is.integers
 
   -- of an accepted one more is known
   known_more : (k : ℕ) (marks : List Bool) (p : PackageData) (before after : Headers) → IsKnown k marks before → slice_get m.packages k ≡ Some p
@@ -96,31 +102,36 @@ module _ (m : ModuleData) where
   imports_known : (k : ℕ) (marks : List Bool) (p : PackageData) (before : Headers) → IsKnown k marks before → imports_accepted marks p ≡ true → ImportsHaveHeaders m p before
   imports_known k marks p before is imports i q among at = is.declared i q (All-contains (λ j. is_marked marks j ≡ true) p.imports i (AllPass-from_list_all (is_marked marks) p.imports imports) among) at
 
-  module _ (ascend : NodeNumbersAscend m) (built : ValuesAreBuilt m) where
-    all_asked : (k : ℕ) (p : PackageData) (before : Headers) → slice_get m.packages k ≡ Some p → broken_names (known_in m) k p ≡ [] → ImportsHaveHeaders m p before → AreAsked (meaning_in m k p before) (values_in p)
-    all_asked k p before at names headers t among s asked =
-        built_asked (meaning_in m k p before) (built k p at t among) s
-        (names_denote m k p before at names (ascend.ascend k p at) (ascend.from_first k p at) (built k p at) headers t among s asked)
+  module _ (ascend : NodeNumbersAscend m) (stand : ImportsStandBefore m) (built : ValuesAreBuilt m) where
+    all_asked : (k : ℕ) (p : PackageData) → slice_get m.packages k ≡ Some p → broken_names (known_in m) k p ≡ [] → AreAsked (meaning_in m k p) (values_in p)
+    all_asked k p at names t among s asked =
+        built_asked (meaning_in m k p) (built k p at t among) s
+        (names_denote m k p ascend at stand names (built k p at) t among s asked)
         asked
 
     -- an accepted package is complete
     complete_at : (k : ℕ) (marks : List Bool) (p : PackageData) (before after : Headers) (lines : List LineData) (named : List NamedData)
         → IsKnown k marks before → slice_get m.packages k ≡ Some p → imports_accepted marks p ≡ true → IsVerdict m k p before (accepted lines named) after
-        → broken_names (known_in m) k p ≡ [] → IsComplete (meaning_in m k p before) after p
+        → broken_names (known_in m) k p ≡ [] → IsComplete (meaning_in m k p) after p
     complete_at k marks p before after lines named is at imports verdict names =
-        complete_where_asked m k p before after lines named verdict is.integers (all_asked k p before at names (imports_known k marks p before is imports))
+        complete_where_asked m k p before after lines named verdict (imports_known k marks p before is imports) is.integers (all_asked k p at names)
+
+    -- the headers behind a package whose names are sound
+    part_of : (k : ℕ) (p : PackageData) (before headers : Headers) (list : List Broken) → BreaksValues m k p before headers list → IsPart before headers
+    part_of k p before headers list breaks d h e = (breaks.has_headers.known d h).1 (record { list = []; justified = tt; has = e })
+
+    integers_of : (k : ℕ) (p : PackageData) (before headers : Headers) (list : List Broken) → BreaksValues m k p before headers list → HaveIntegers before → HaveIntegers headers
+    integers_of k p before headers list breaks integers d h e = known_integer (meaning_in m k p) before (declarations_of p) integers d h ((breaks.has_headers.known d h).0 e)
 
     known_checked : (k : ℕ) (marks : List Bool) (p : PackageData) (before after : Headers) (verdict : VerdictData)
         → IsKnown k marks before → slice_get m.packages k ≡ Some p → imports_accepted marks p ≡ true → IsVerdict m k p before verdict after
         → IsKnown (k + 1) (marks ++ is_accepted verdict ∷ []) after
-    known_checked k marks p before after verdict is at imports (by_names b bs list) = not_accepted k marks before is
-    known_checked k marks p before after verdict is at imports (by_values headers b bs breaks) = not_accepted k marks before is
+    known_checked k marks p before after verdict is at imports (by_names b bs list) = same_headers k marks before is
+    known_checked k marks p before after verdict is at imports (by_values headers b bs breaks) =
+        not_accepted k marks before headers is (part_of k p before headers (b ∷ bs) breaks) (integers_of k p before headers (b ∷ bs) breaks is.integers)
     known_checked k marks p before after verdict is at imports (sound headers lines breaks told) =
         let complete = complete_at k marks p before headers lines _ is at imports (sound headers lines breaks told) breaks.sound_names in
-        known_more k marks p before headers is at
-        (λ d h e. (breaks.has_headers.known d h).1 (record { list = []; justified = tt; has = e }))
-        (λ d h e. known_integer (meaning_in m k p before) before (declarations_of p) is.integers d h ((breaks.has_headers.known d h).0 e))
-        complete.declared
+        known_more k marks p before headers is at (part_of k p before headers [] breaks) (integers_of k p before headers [] breaks is.integers) complete.declared
 
     known_reached : {k : ℕ} {marks : List Bool} {before : Headers} → IsReached m k marks before → IsKnown k marks before
     known_reached first = record {
@@ -128,7 +139,7 @@ module _ (m : ModuleData) where
       integers = λ d h e. absurd (let never : None ≡ Some h = e in cc);
       declared = λ i q marked at. absurd (let never : false ≡ true = marked in cc);
     }
-    known_reached (skips k marks before p reached at imports) = not_accepted k marks before (known_reached reached)
+    known_reached (skips k marks before p reached at imports) = same_headers k marks before (known_reached reached)
     known_reached (checks k marks before after verdict p reached at imports is) = known_checked k marks p before after verdict (known_reached reached) at imports is
 
 sound_names : (m : ModuleData) (k : ℕ) (p : PackageData) (before after : Headers) (lines : List LineData) (named : List NamedData) → IsVerdict m k p before (accepted lines named) after → broken_names (known_in m) k p ≡ []
@@ -138,11 +149,12 @@ pub accepted_complete : (own stubs : Folder) (m : ModuleData) → IsModule own s
     → (k : ℕ) (marks : List Bool) (p : PackageData) (before after : Headers) (lines : List LineData) (named : List NamedData)
     → IsReached m k marks before → slice_get m.packages k ≡ Some p → imports_accepted marks p ≡ true
     → IsVerdict m k p before (accepted lines named) after
-    → IsComplete (meaning_in m k p before) after p
+    → IsComplete (meaning_in m k p) after p
 accepted_complete own stubs m is k marks p before after lines named reached at imports verdict =
     let ascend = node_numbers_ascend own stubs m is in
+    let stand = stand_before own stubs m is in
     let built = values_are_built own stubs m is in
-    complete_at m ascend built k marks p before after lines named (known_reached m ascend built reached) at imports verdict (sound_names m k p before after lines named verdict)
+    complete_at m ascend stand built k marks p before after lines named (known_reached m ascend stand built reached) at imports verdict (sound_names m k p before after lines named verdict)
 
 -- REPORTS
 

@@ -19,7 +19,7 @@ pub fn accepted_is_complete()
         → (lines : List LineData) (named : List NamedData)
         → IsReached m k marks before → slice_get m.packages k ≡ Some p → imports_accepted marks p ≡ true
         → IsVerdict m k p before (accepted lines named) after
-        → IsComplete (meaning_in m k p before) after p }
+        → IsComplete (meaning_in m k p) after p }
 {}
 
 /// To each package that the report of a module calls accepted the check comes with its imports accepted, and accepts it
