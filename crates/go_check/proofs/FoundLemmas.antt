@@ -1,6 +1,5 @@
 -- The files of a package with what stands in them: what is found in them is what the definitions of a report have.
-use Rattle.std.proofs.Common.{◌≡◌, ℕ, suc, ◌+◌, ◌<◌, ◌≤◌, min, Bool, Bor, List, [], ◌∷◌, ◌++◌, inl, inr, Option, length, get_or, map, take, drop, refl, sym, ap, ◌∙◌, subst, append_assoc, add-one, arith}
-use Rattle.std.proofs.Math.Seq.{drop-cons}
+use Rattle.std.proofs.Common.{◌≡◌, ℕ, ◌+◌, ◌≤◌, min, Bool, Bor, List, [], ◌∷◌, ◌++◌, inl, inr, Option, length, map, take, drop, refl, sym, ap, ◌∙◌, subst, append_assoc, arith}
 use Rattle.std.proofs.lemmas.List.{append-nil, drop_all}
 use Rattle.std.proofs.lemmas.Bool.{cases_lt}
 use Rattle.go_tree.specs.declared.node.Node.{Node}

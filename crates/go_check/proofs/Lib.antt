@@ -1,8 +1,7 @@
+pub mod BookLemmas
 pub mod DeclaredLemmas
-pub mod DenotedLemmas
 pub mod ExprLemmas
 pub mod FoundLemmas
-pub mod KnownLemmas
 pub mod NamedLemmas
 pub mod NamesLemmas
 pub mod OrderedLemmas

@@ -1,5 +1,5 @@
 -- What the names of packages denote or break, as one more package is asked.
-use Rattle.std.proofs.Common.{◌≡◌, ℕ, zero, suc, ◌+◌, ◌<◌, Bool, true, false, ◌&&◌, Option, Some, None, List, [], ◌∷◌, ◌++◌, length, map, get_or, ◌⊎◌, inl, inr, refl, sym, ap, ◌∙◌, subst, arith}
+use Rattle.std.proofs.Common.{◌≡◌, ℕ, zero, suc, ◌+◌, ◌<◌, Bool, true, false, ◌&&◌, Option, Some, None, List, [], ◌∷◌, ◌++◌, length, get_or, ◌⊎◌, inl, inr, refl, sym, ap, ◌∙◌, subst, arith}
 use Rattle.std.specs.Prelude.{slice_get}
 use Rattle.std.specs.List.{Contains, list_all}
 use Rattle.std.specs.Option.{option_map_or}
@@ -48,12 +48,6 @@ pub get_at : {X : Type 0} (xs : List X) (q : ℕ) (x : X) → q < length xs → 
 get_at [] q x lt e = absurd (omega (arith, lt))
 get_at (y ∷ xs) zero x lt e = ap Some (sym e)
 get_at (y ∷ xs) (suc q) x lt e = get_at xs q x (omega (arith, lt)) e
-
--- what a view shows of an element
-pub viewed_at : {X Y : Type 0} (f : X → Y) (xs : List X) (q : ℕ) (x : X) → q < length xs → x ≡ get_or xs q x → slice_get (map f xs) q ≡ Some (f x)
-viewed_at f [] q x lt e = absurd (omega (arith, lt))
-viewed_at f (y ∷ xs) zero x lt e = ap (λ z. Some (f z)) (sym e)
-viewed_at f (y ∷ xs) (suc q) x lt e = viewed_at f xs q x (omega (arith, lt)) e
 
 pub one_longer : {X : Type 0} (xs : List X) (x : X) → length (xs ++ x ∷ []) ≡ length xs + 1
 one_longer [] x = refl

@@ -11,6 +11,10 @@ pub both_if_ok : {T E : Type 0} (r : Result T E) (P Q R : T → Type 0) → ((x 
 both_if_ok (Ok x) P Q R f p q = f x p q
 both_if_ok (Err e) P Q R f p q = tt
 
-pub three_on_ok : {T E A B C R : Type 0} (r : Result T E) → (A → B → C → R) → OnOk r A → OnOk r B → OnOk r C → OnOk r R
-three_on_ok (Ok x) f a b c = f a b c
-three_on_ok (Err e) f a b c = tt
+pub four_on_ok : {T E A B C D R : Type 0} (r : Result T E) → (A → B → C → D → R) → OnOk r A → OnOk r B → OnOk r C → OnOk r D → OnOk r R
+four_on_ok (Ok x) f a b c d = f a b c d
+four_on_ok (Err e) f a b c d = tt
+
+pub if_ok_any : {T E : Type 0} (r : Result T E) (P : T → Type 0) → ((x : T) → P x) → IfOk r P
+if_ok_any (Ok x) P f = f x
+if_ok_any (Err e) P f = tt

@@ -1,22 +1,15 @@
 //! What checking a module tells.
 //!
 //! `check_module` answers with the report of a module: of each package, in import order, the rules that its names or
-//! its values break, or its lines. The scopes of all packages are collected first. Headers are found in go_decl; then
-//! each node is walked once in go_expr, and rules and lines read its outcome.
+//! its values break, or its lines. The scopes of all packages are collected first; then a `Rulebook` over the module and
+//! these scopes is told the headers of package after package. What values break is found in go_decl, which walks over each
+//! node once; lines read the outcomes.
 #![tactic(auto)]
 
-mod rules;
-
-// The files of a package, and what identifiers denote.
-mod denoted;
+// The files of a package, its names, and who judges by these.
 mod names;
 mod own_file;
-
-// Values, and the rules on them.
-mod broken;
 mod rulebook;
-mod values;
-mod walked;
 
 // Places.
 mod declared;
@@ -36,3 +29,4 @@ mod module;
 mod package;
 
 pub use module::check_module;
+pub use rulebook::{ModuleJudge, Rulebook};

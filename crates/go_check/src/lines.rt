@@ -10,8 +10,8 @@ ghost use Rattle.go_model.specs.declared.meaning.Meaning.{Meaning};
 ghost use Rattle.go_model.specs.Outcomes.Walk.{Headers};
 ghost use Rattle.go_model.specs.Outcomes.Walked.{AreWalked, nodes_of};
 ghost use Rattle.go_expr.specs.Read.{outcome_read};
-ghost use Rattle.go_expr.specs.View.{denotes_by};
 ghost use Rattle.go_expr.specs.Walker.{outcomes_view};
+ghost use Rattle.go_check.specs.Packages.Book.{denotes_by};
 ghost use Rattle.go_check.specs.View.{outline_view};
 
 use crate::defs::found_defs;
@@ -19,9 +19,10 @@ use crate::exprs::found_exprs;
 use crate::line_order::put_in_order;
 use crate::outline::Outline;
 use crate::own_file::OwnFile;
+use crate::rulebook::Rulebook;
 use crate::uses::found_uses;
 use go_base::NoMemory;
-use go_expr::{Around, Walker};
+use go_expr::Walker;
 use go_model::Line;
 use std::alloc::Global;
 
@@ -31,18 +32,17 @@ pub fn lines_of(
     alloc: Global,
     outline: &Outline,
     files: &[OwnFile],
-    around: &Around,
-    walker: &Walker,
+    book: &Rulebook,
 ) -> Result<Vec<Line>, NoMemory>
     ensures { IfOk result (λ lines. (means : ℕ → Meaning) (headers : Headers) (k : ℕ) (p : PackageData)
         → own_files_view files.now ≡ own_files_in p
-        → AreWalked means headers (nodes_of p) (outcomes_view walker.now)
-        → spec.AreLines (outline_view outline.now) k p (denotes_by around.now) means headers
+        → AreWalked means headers (nodes_of p) (outcomes_view book.now.walker)
+        → spec.AreLines (outline_view outline.now) k p (denotes_by book.now.judge) means headers
         (map line_view lines.items)) }
 {
-    let defs = all_defs(alloc, outline, files, walker)?;
-    let uses = all_uses(alloc, outline, files, around)?;
-    let exprs = all_exprs(alloc, files, walker)?;
+    let defs = all_defs(alloc, outline, files, &book.walker)?;
+    let uses = all_uses(alloc, outline, files, book)?;
+    let exprs = all_exprs(alloc, files, &book.walker)?;
     joined(alloc, defs, uses, exprs)
 }
 
@@ -97,14 +97,14 @@ fn all_uses(
     alloc: Global,
     outline: &Outline,
     files: &[OwnFile],
-    around: &Around,
+    book: &Rulebook,
 ) -> Result<Vec<Line>, NoMemory>
-    ensures { IfOk result (λ lines. AreInOrder (map (use_lines (outline_view outline.now) (denotes_by around.now))
+    ensures { IfOk result (λ lines. AreInOrder (map (use_lines (outline_view outline.now) (denotes_by book.now.judge))
         (own_files_view files.now)) (map line_view lines.items)) }
 {
     let mut lines = Vec::new(alloc);
     for file in files {
-        add_in_order(found_uses(alloc, outline, file, around)?, &mut lines)?;
+        add_in_order(found_uses(alloc, outline, file, book)?, &mut lines)?;
     }
     Ok(lines)
 }

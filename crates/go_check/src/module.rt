@@ -8,15 +8,15 @@ ghost use Rattle.go_model.specs.Outcomes.Walked.{NodesAreNumbered};
 ghost use Rattle.go_model.specs.Phases as phases;
 ghost use Rattle.go_model.specs.Report.{report_view, verdict_view};
 ghost use Rattle.go_model.specs.Report as reports;
-ghost use Rattle.go_check.specs.Packages.Denoted.{AreDenoted};
+ghost use Rattle.go_check.specs.Packages.Names.{AreNames};
 ghost use Rattle.go_check.specs.Packages.State.{IsState};
 ghost use Rattle.go_check.specs.View.{outline_view};
 
 use crate::declared::declared_objects;
-use crate::denoted::{Denoted, denoted_by};
-use crate::names::names_of;
+use crate::names::{Names, names_of};
 use crate::outline::Outline;
 use crate::package::check_package;
+use crate::rulebook::Rulebook;
 use go_base::{NoMemory, Steps};
 use go_graph::is_marked;
 use go_model::{Headers, PackageReport, Report, Verdict};
@@ -24,35 +24,35 @@ use go_module::{Module, Package};
 use std::alloc::Global;
 use std::sync::ledger::Ledger;
 
-/// The packages that are checked: which of them are accepted, the headers of the declarations of these,
-/// and their reports.
+/// The packages that are checked: which of them are accepted, the rulebook with the headers of their declarations, the
+/// same headers, and their reports.
 #[derive(Drop)]
-pub struct State {
+pub struct State<'a> {
     pub marks: Vec<bool>,
-    pub before: Headers,
+    pub book: Rulebook<'a>,
+    pub known: Headers,
     pub reports: Vec<PackageReport>,
 }
 
 /// The report of a module, package after package in import order: what its names break, else what its values
 /// break, else its lines; a package is skipped where one that it imports is not accepted. The scopes of all packages
 /// are collected before values are asked. It asks that in no package two nodes of types or expressions have one number, as
-/// in each module that is loaded. An error is want of memory. The count of steps stays as it is.
+/// in each module that is loaded. An error is want of memory. Steps are counted, and nothing is said of their count.
 pub fn check_module<L: Ledger>(
     alloc: Global,
     module: &Module,
-    _steps: &mut Steps<L>,
+    steps: &mut Steps<L>,
 ) -> Result<Report, NoMemory>
     requires { NodesAreNumbered (module_view «module».now) }
-    ensures report { IfOk result (λ report. phases.ReportOf (module_view «module».now) (report_view report)) }
-    ensures steps { _steps.new ≡ _steps.old }
+    ensures { IfOk result (λ report. phases.ReportOf (module_view «module».now) (report_view report)) }
 {
-    let denoted = denoted_by(alloc, names_of(alloc, module)?)?;
+    let names = names_of(alloc, module)?;
     let declared = declared_objects(alloc, module)?;
     let outline = Outline {
         packages: &module.packages,
         declared: &declared,
     };
-    let reports = check_packages(alloc, module, &denoted, &outline)?;
+    let reports = check_packages(alloc, module, &names, &outline, steps)?;
     Ok(Report {
         path: module.path.clone()?,
         version: module.version,
@@ -62,13 +62,14 @@ pub fn check_module<L: Ledger>(
 }
 
 // The reports of the packages of a module.
-fn check_packages(
+fn check_packages<L: Ledger>(
     alloc: Global,
     module: &Module,
-    denoted: &Denoted,
+    names: &Names,
     outline: &Outline,
+    steps: &mut Steps<L>,
 ) -> Result<Vec<PackageReport>, NoMemory>
-    requires denoted { AreDenoted (module_view «module».now) (length «module».now.packages.items) denoted.now }
+    requires names { AreNames (module_view «module».now) (length «module».now.packages.items) names.now }
     requires outline { outline_view outline.now ≡ outline_of (module_view «module».now) }
     requires numbered { NodesAreNumbered (module_view «module».now) }
     ensures { IfOk result (λ made. phases.AreReports (module_view «module».now) 0 [] phases.no_headers
@@ -76,35 +77,38 @@ fn check_packages(
 {
     let mut state = State {
         marks: Vec::new(alloc),
-        before: Headers::new(alloc),
+        book: Rulebook::new(alloc, module, &names.scopes),
+        known: Headers::new(alloc),
         reports: Vec::new(alloc),
     };
     for place in 0..module.packages.len() {
-        check_next(alloc, module, place, denoted, outline, &mut state)?;
+        check_next(alloc, module, place, names, outline, &mut state, steps)?;
     }
     Ok(state.reports)
 }
 
 // Checks one more package.
-fn check_next(
+fn check_next<L: Ledger>(
     alloc: Global,
     module: &Module,
     place: usize,
-    denoted: &Denoted,
+    names: &Names,
     outline: &Outline,
     state: &mut State,
+    steps: &mut Steps<L>,
 ) -> Result<(), NoMemory>
     requires within { place < length «module».now.packages.items }
-    requires denoted { AreDenoted (module_view «module».now) (length «module».now.packages.items) denoted.now }
+    requires names { AreNames (module_view «module».now) (length «module».now.packages.items) names.now }
     requires outline { outline_view outline.now ≡ outline_of (module_view «module».now) }
     requires numbered { NodesAreNumbered (module_view «module».now) }
-    requires state { IsState (module_view «module».now) denoted.now place state.old }
-    ensures { OnOk result (IsState (module_view «module».now) denoted.now (place + 1) state.new) }
+    requires state { IsState «module».now names.now place state.old }
+    ensures { OnOk result (IsState «module».now names.now (place + 1) state.new) }
 {
     let own = &module.packages[place];
     if imports_accepted(&state.marks, &own.imports) {
-        let before = &mut state.before;
-        let verdict = check_package(alloc, module, place, denoted, outline, before)?;
+        let book = &mut state.book;
+        let known = &mut state.known;
+        let verdict = check_package(alloc, names, outline, book, known, place, steps)?;
         add_report(own, verdict, state)
     } else {
         add_report(own, Verdict::Skipped, state)
@@ -115,7 +119,8 @@ fn check_next(
 fn add_report(own: &Package, verdict: Verdict, state: &mut State) -> Result<(), NoMemory>
     ensures marks { OnOk result (state.new.marks.items
         ≡ state.old.marks.items ++ phases.is_accepted (verdict_view verdict) ∷ []) }
-    ensures before { OnOk result (state.new.before ≡ state.old.before) }
+    ensures book { OnOk result (state.new.book ≡ state.old.book) }
+    ensures known { OnOk result (state.new.known ≡ state.old.known) }
     ensures reports { OnOk result (map reports.package_view state.new.reports.items
         ≡ map reports.package_view state.old.reports.items
         ++ phases.package_report (package_view own.now) (verdict_view verdict) ∷ []) }

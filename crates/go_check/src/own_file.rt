@@ -1,13 +1,11 @@
 // The files of a package with what stands in them (Go specification, "Source file organization").
 ghost use Rattle.std.specs.Prelude.{◌≡◌, IfOk};
 ghost use Rattle.go_module.specs.Modules.Module.{package_view};
-ghost use Rattle.go_module.specs.Names.Declarations as names;
-ghost use Rattle.go_names.specs.Views.{declarations_view};
-ghost use Rattle.go_check.specs.Lines.Found.{all_specs_in, own_files_in, own_files_view};
+ghost use Rattle.go_check.specs.Lines.Found.{own_files_in, own_files_view};
 
 use go_base::NoMemory;
 use go_module::{Package, SourceFile};
-use go_names::{Declaration, Spec, declarations_in, import_specs, specs_in_file};
+use go_names::{Spec, import_specs, specs_in_file};
 use go_scope::{behind, front};
 use go_tree::Node;
 use std::alloc::Global;
@@ -42,20 +40,4 @@ pub fn own_files<'a>(alloc: Global, own: &'a Package) -> Result<Vec<OwnFile<'a>>
         packages = behind(packages, count);
     }
     Ok(files)
-}
-
-/// The declarations of these files. An error is want of memory.
-pub fn declarations_of<'a>(
-    alloc: Global,
-    files: &[OwnFile<'a>],
-) -> Result<Vec<Declaration<'a>>, NoMemory>
-    ensures { IfOk result (λ list. declarations_view list.items
-        ≡ names.declarations_in (all_specs_in (own_files_view files.now))) }
-{
-    let mut list = Vec::new(alloc);
-    for file in files {
-        let mut found = declarations_in(alloc, &file.specs)?;
-        list.append(&mut found)?;
-    }
-    Ok(list)
 }

@@ -1,230 +1,144 @@
 // The check of a package whose imports are accepted (Go specification, "Declarations and scope", "Constant
 // declarations").
-ghost use Rattle.std.specs.Prelude.{◌≡◌, ◌∷◌, ◌++◌, ◌<◌, [], ℕ, true, IfOk, OnOk, Some, length, slice_get};
-ghost use Rattle.std.specs.Option.{option_map_or};
+ghost use Rattle.std.specs.Prelude.{◌≡◌, ◌<◌, [], ℕ, true, IfOk, OnOk, Some, length, slice_get};
 ghost use Rattle.go_module.specs.Modules.Module.{ModuleData, PackageData, module_view, package_view};
-ghost use Rattle.go_module.specs.Names.Declarations as names;
-ghost use Rattle.go_model.specs.Outline.{outline_of};
-ghost use Rattle.go_model.specs.PackageLines.{named_in};
-ghost use Rattle.go_model.specs.Phases as phases;
-ghost use Rattle.go_model.specs.Outcomes.Records.{header_view};
+ghost use Rattle.go_module.specs.Names.Imports.{known_in};
+ghost use Rattle.go_module.specs.Names.Rules.BrokenNames.{broken_names};
 ghost use Rattle.go_model.specs.declared.meaning.Meaning.{Meaning};
+ghost use Rattle.go_model.specs.Outline.{outline_of};
 ghost use Rattle.go_model.specs.Outcomes.Walk.{Headers as Known};
-ghost use Rattle.go_model.specs.Outcomes.Walked.{AreNumbered, AreWalked, NodesAreNumbered, nodes_of};
-ghost use Rattle.go_model.specs.Report.{line_view, named_view, verdict_view};
+ghost use Rattle.go_model.specs.Outcomes.Walked.{AreWalked, NodesAreNumbered, nodes_of};
+ghost use Rattle.go_model.specs.Phases as phases;
+ghost use Rattle.go_model.specs.Report.{verdict_view};
 ghost use Rattle.go_model.specs.Values.HeadersView.{headers_view};
-ghost use Rattle.go_names.specs.Views.{declarations_view};
-ghost use Rattle.go_check.specs.Lines.Found.{own_files_in, own_files_view};
-ghost use Rattle.go_check.specs.Packages.Denoted.{AreDenoted, AreUses};
-ghost use Rattle.go_check.specs.Packages.Known.{headers_in, known_with, pairs_view};
-ghost use Rattle.go_check.specs.Packages.Names.{ImportsSound, sound_at};
-ghost use Rattle.go_expr.specs.OwnHeaders.{headers_by};
-ghost use Rattle.go_check.specs.Packages.Verdicts.{IsAccepting};
-ghost use Rattle.go_expr.specs.View.{IsAround, before_by, denotes_by};
+ghost use Rattle.go_model.specs.Values.Meaning.{AreThere, meaning_in, names_in};
 ghost use Rattle.go_expr.specs.Walker.{outcomes_view};
+ghost use Rattle.go_check.specs.Packages.Book.{book_names, denotes_by, names_at};
+ghost use Rattle.go_check.specs.Packages.Names.{AreNames, ImportsSound, sound_at};
+ghost use Rattle.go_check.specs.Packages.Verdicts.{IsAccepting};
 ghost use Rattle.go_check.specs.View.{outline_view};
 
-use crate::denoted::Denoted;
 use crate::lines::lines_of;
 use crate::named::named_in;
-use crate::names::NamesVerdict;
+use crate::names::{Names, NamesVerdict};
 use crate::outline::Outline;
-use crate::own_file::{OwnFile, declarations_of, own_files};
+use crate::own_file::own_files;
 use crate::places::placed_list;
-use crate::values::broken_values;
-use crate::walked::{Walked, walk_package};
-use go_base::NoMemory;
-use go_decl::{cyclic_declarations, places_of};
-use go_expr::Around;
-use go_model::{Header, Headers, Records, Verdict};
-use go_module::{Module, ObjId, Package, breaks_none};
-use go_names::Declaration;
-use go_tree::NodeId;
-use indexmap::IndexMap;
+use crate::rulebook::Rulebook;
+use go_base::{Broken, NoMemory, Steps};
+use go_decl::rounds;
+use go_model::{Headers, Records, Verdict};
+use go_module::{Package, breaks_none};
 use std::alloc::Global;
+use std::sync::ledger::Ledger;
 
-/// The verdict on the package at a place of the module, whose imports are accepted. `before` has the headers of the
-/// declarations of accepted packages, and gets those of the package where it is accepted. An error is want of memory;
-/// `before` may then have some of these.
-pub fn check_package(
+/// The verdict on the package at a place of the module, whose imports are accepted. The rulebook has the headers of the
+/// packages before whose names break no rule, and `known` the same; both get those of the package where its names break
+/// none. An error is want of memory.
+pub fn check_package<L: Ledger>(
     alloc: Global,
-    module: &Module,
-    place: usize,
-    denoted: &Denoted,
+    names: &Names,
     outline: &Outline,
-    before: &mut Headers,
+    book: &mut Rulebook,
+    known: &mut Headers,
+    place: usize,
+    steps: &mut Steps<L>,
 ) -> Result<Verdict, NoMemory>
-    requires within { place < length «module».now.packages.items }
-    requires denoted { AreDenoted (module_view «module».now) (length «module».now.packages.items) denoted.now }
-    requires outline { outline_view outline.now ≡ outline_of (module_view «module».now) }
-    requires numbered { NodesAreNumbered (module_view «module».now) }
-    requires imports { (p : PackageData) → slice_get (module_view «module».now).packages place ≡ Some p
-        → ImportsSound denoted.now.verdicts.items place p }
+    requires within { place < length book.old.judge.«module».now.packages.items }
+    requires names { AreNames (module_view book.old.judge.«module».now)
+        (length book.old.judge.«module».now.packages.items) names.now }
+    requires scopes { book.old.judge.scopes.now ≡ names.now.scopes.items }
+    requires outline { outline_view outline.now ≡ outline_of (module_view book.old.judge.«module».now) }
+    requires numbered { NodesAreNumbered (module_view book.old.judge.«module».now) }
+    requires same { headers_view known.old ≡ headers_view book.old.judge.headers }
+    requires imports { (p : PackageData) → slice_get (module_view book.old.judge.«module».now).packages place ≡ Some p
+        → ImportsSound names.now.verdicts.items place p }
     ensures verdict { IfOk result (λ verdict. (p : PackageData)
-        → slice_get (module_view «module».now).packages place ≡ Some p → phases.IsVerdict (module_view «module».now)
-        place p (headers_view before.old) (verdict_view verdict) (headers_view before.new)) }
+        → slice_get (module_view book.old.judge.«module».now).packages place ≡ Some p
+        → phases.IsVerdict (module_view book.old.judge.«module».now) place p (headers_view book.old.judge.headers)
+        (verdict_view verdict) (headers_view book.new.judge.headers)) }
     ensures sound { IfOk result (λ verdict. phases.is_accepted (verdict_view verdict) ≡ true
-        → sound_at denoted.now.verdicts.items place ≡ true) }
+        → sound_at names.now.verdicts.items place ≡ true) }
+    ensures known { OnOk result (headers_view known.new ≡ headers_view book.new.judge.headers) }
+    ensures module { book.new.judge.«module».now ≡ book.old.judge.«module».now }
+    ensures scopes { book.new.judge.scopes.now ≡ book.old.judge.scopes.now }
 {
-    let own = &module.packages[place];
-    match &denoted.verdicts[place] {
-        NamesVerdict::Sound => check_values(alloc, own, outline, &denoted.uses[place], before),
-        NamesVerdict::Broken(list) => Ok(Verdict::Refused(placed_list(alloc, own, list)?)),
+    match &names.verdicts[place] {
+        NamesVerdict::Sound => check_values(alloc, outline, book, known, place, steps),
+        NamesVerdict::Broken(list) => {
+            let own = &book.judge.module.packages[place];
+            Ok(Verdict::Refused(placed_list(alloc, own, list)?))
+        }
         NamesVerdict::Unasked => Ok(Verdict::Skipped),
     }
 }
 
-// The verdict on a package whose names break no rule.
-fn check_values(
+// The verdict on the package at a place, whose names break no rule.
+fn check_values<L: Ledger>(
     alloc: Global,
-    own: &Package,
     outline: &Outline,
-    uses: &IndexMap<NodeId, ObjId>,
-    before: &mut Headers,
+    book: &mut Rulebook,
+    known: &mut Headers,
+    place: usize,
+    steps: &mut Steps<L>,
 ) -> Result<Verdict, NoMemory>
-    requires { AreNumbered (nodes_of (package_view own.now)) }
-    ensures { IfOk result (λ verdict. (m : ModuleData) (k : ℕ) → slice_get m.packages k ≡ Some (package_view own.now)
-        → outline_view outline.now ≡ outline_of m → AreUses m k uses.now.entries → phases.IsVerdict m k
-        (package_view own.now) (headers_view before.old) (verdict_view verdict)
-        (headers_view before.new)) }
+    requires within { place < length book.old.judge.«module».now.packages.items }
+    requires there { AreThere (names_at book.old.judge.scopes.now place) }
+    requires numbered { NodesAreNumbered (module_view book.old.judge.«module».now) }
+    requires same { headers_view known.old ≡ headers_view book.old.judge.headers }
+    ensures verdict { IfOk result (λ verdict. (p : PackageData)
+        → slice_get (module_view book.old.judge.«module».now).packages place ≡ Some p
+        → outline_view outline.now ≡ outline_of (module_view book.old.judge.«module».now)
+        → names_at book.old.judge.scopes.now place ≡ names_in (module_view book.old.judge.«module».now) place p
+        → broken_names (known_in (module_view book.old.judge.«module».now)) place p ≡ []
+        → phases.IsVerdict (module_view book.old.judge.«module».now) place p (headers_view book.old.judge.headers)
+        (verdict_view verdict) (headers_view book.new.judge.headers)) }
+    ensures known { OnOk result (headers_view known.new ≡ headers_view book.new.judge.headers) }
+    ensures module { book.new.judge.«module».now ≡ book.old.judge.«module».now }
+    ensures scopes { book.new.judge.scopes.now ≡ book.old.judge.scopes.now }
 {
-    let files = own_files(alloc, own)?;
-    let declarations = declarations_of(alloc, &files)?;
-    let places = places_of(alloc, before, &declarations)?;
-    let around = Around {
-        uses,
-        places: &places,
-        before,
-    };
-    let Checked { verdict, headers } = verdict_by_values(
-        alloc,
-        own,
-        outline,
-        &around,
-        &files,
-        &declarations,
-    )?;
-    add_headers(before, &headers)?;
-    Ok(verdict)
+    let module = book.judge.module;
+    let scopes = book.judge.scopes;
+    book.enter(alloc, place);
+    let list = rounds(alloc, book, known, place, module, scopes, steps)?;
+    verdict_by(alloc, outline, book, &module.packages[place], &list)
 }
 
-// A verdict, and the headers of declarations that are known behind it.
-#[derive(Drop)]
-struct Checked {
-    verdict: Verdict,
-    headers: Vec<(ObjId, Header)>,
-}
-
-// The verdict by the values of declarations.
-fn verdict_by_values(
+// The verdict on a package, by what its values break.
+fn verdict_by(
     alloc: Global,
-    own: &Package,
     outline: &Outline,
-    around: &Around,
-    files: &[OwnFile],
-    declarations: &[Declaration],
-) -> Result<Checked, NoMemory>
-    requires files { own_files_view files.now ≡ own_files_in (package_view own.now) }
-    requires declarations { declarations_view declarations.now ≡ names.declarations_of (package_view own.now) }
-    requires around { IsAround (declarations_view declarations.now) around.now }
-    requires numbered { AreNumbered (nodes_of (package_view own.now)) }
-    ensures { IfOk result (λ checked. (m : ModuleData) (k : ℕ) → slice_get m.packages k ≡ Some (package_view own.now)
-        → outline_view outline.now ≡ outline_of m → AreUses m k around.now.uses.now.entries → phases.IsVerdict m k
-        (package_view own.now) (before_by around.now) (verdict_view checked.verdict)
-        (known_with (before_by around.now) (pairs_view checked.headers.items))) }
+    book: &Rulebook,
+    own: &Package,
+    list: &[Broken],
+) -> Result<Verdict, NoMemory>
+    ensures { IfOk result (λ verdict. (m : ModuleData) (k : ℕ) (before headers : Known)
+        → outline_view outline.now ≡ outline_of m → book_names book.now.judge ≡ names_in m k (package_view own.now)
+        → AreWalked (meaning_in m k (package_view own.now)) headers (nodes_of (package_view own.now))
+        (outcomes_view book.now.walker) → phases.BreaksValues m k (package_view own.now) before headers list.now
+        → phases.IsVerdict m k (package_view own.now) before (verdict_view verdict) headers) }
 {
-    let walked = walk_package(alloc, around, files, declarations)?;
-    let walker = &walked.walker;
-    let cyclic = cyclic_declarations(alloc, around, walker, declarations)?;
-    let list = broken_values(alloc, around, walker, &cyclic, files, declarations, own)?;
-    if breaks_none(&list) {
-        accept(alloc, outline, around, &walked, files, declarations)
+    if breaks_none(list) {
+        accept(alloc, outline, book, own)
     } else {
-        let verdict = Verdict::Refused(placed_list(alloc, own, &list)?);
-        Ok(Checked {
-            verdict,
-            headers: Vec::new(alloc),
-        })
+        Ok(Verdict::Refused(placed_list(alloc, own, list)?))
     }
 }
 
-// The verdict on a package with these files and declarations that breaks no rule.
+// The verdict on a package that breaks no rule.
 fn accept(
     alloc: Global,
     outline: &Outline,
-    around: &Around,
-    walked: &Walked,
-    files: &[OwnFile],
-    declarations: &[Declaration],
-) -> Result<Checked, NoMemory>
-    ensures verdict { IfOk result (λ checked. (means : ℕ → Meaning) (known : Known) (k : ℕ) (p : PackageData)
-        → own_files_view files.now ≡ own_files_in p
-        → AreWalked means known (nodes_of p) (outcomes_view walked.now.walker)
-        → IsAccepting (outline_view outline.now) k p (denotes_by around.now) means known
-        (verdict_view checked.verdict)) }
-    ensures headers { IfOk result (λ checked. pairs_view checked.headers.items
-        ≡ headers_in (headers_by around.now walked.now.known) (declarations_view declarations.now)) }
+    book: &Rulebook,
+    own: &Package,
+) -> Result<Verdict, NoMemory>
+    ensures { IfOk result (λ verdict. (means : ℕ → Meaning) (headers : Known) (k : ℕ)
+        → AreWalked means headers (nodes_of (package_view own.now)) (outcomes_view book.now.walker)
+        → IsAccepting (outline_view outline.now) k (package_view own.now) (denotes_by book.now.judge) means headers
+        (verdict_view verdict)) }
 {
-    let lines = lines_of(alloc, outline, files, around, &walked.walker)?;
+    let files = own_files(alloc, own)?;
+    let lines = lines_of(alloc, outline, &files, book)?;
     let named = named_in(alloc, outline, &lines)?;
-    let headers = headers_in(alloc, around, &walked.known, declarations)?;
-    Ok(Checked {
-        verdict: Verdict::Accepted(Records { lines, named }),
-        headers,
-    })
-}
-
-// The headers of declarations, by their numbers.
-fn headers_in(
-    alloc: Global,
-    around: &Around,
-    known: &Headers,
-    declarations: &[Declaration],
-) -> Result<Vec<(ObjId, Header)>, NoMemory>
-    ensures { IfOk result (λ headers. pairs_view headers.items
-        ≡ headers_in (headers_by around.now known.now) (declarations_view declarations.now)) }
-{
-    let mut headers = Vec::new(alloc);
-    for declaration in declarations {
-        push_header(around, known, declaration.number(), &mut headers)?;
-    }
-    Ok(headers)
-}
-
-// Pushes the header of a declaration, if there is one.
-fn push_header(
-    around: &Around,
-    known: &Headers,
-    number: ObjId,
-    headers: &mut Vec<(ObjId, Header)>,
-) -> Result<(), NoMemory>
-    ensures { OnOk result (pairs_view headers.new.items ≡ pairs_view headers.old.items
-        ++ option_map_or (λ h. (number, h) ∷ []) (headers_by around.now known.now number.0) []) }
-{
-    if let Some(header) = around.header(known, number) {
-        headers.push((number, header.clone()?))?;
-    }
-    Ok(())
-}
-
-// Adds the headers of declarations that have none before.
-fn add_headers(before: &mut Headers, headers: &[(ObjId, Header)]) -> Result<(), NoMemory>
-    ensures { OnOk result ((d : ℕ)
-        → headers_view before.new d ≡ known_with (headers_view before.old) (pairs_view headers.now) d) }
-{
-    for (number, header) in headers {
-        add_header(before, *number, header)?;
-    }
-    Ok(())
-}
-
-// Adds the header of a declaration that has none before.
-fn add_header(before: &mut Headers, number: ObjId, header: &Header) -> Result<(), NoMemory>
-    ensures { OnOk result ((d : ℕ) → headers_view before.new d
-        ≡ known_with (headers_view before.old) ((number, header_view header.now) ∷ []) d) }
-{
-    if before.get(number).is_some() {
-        return Ok(());
-    }
-    before.add(number, header.clone()?)
+    Ok(Verdict::Accepted(Records { lines, named }))
 }

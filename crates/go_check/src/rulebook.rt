@@ -1,44 +1,140 @@
-// Who judges the expressions of a package, walks over them, and is told the headers of its declarations.
-ghost use Rattle.std.specs.Prelude.{◌≡◌};
-ghost use Rattle.go_expr.specs.declared.around.Around.{Around};
-ghost use Rattle.go_expr.specs.OwnHeaders.{headers_by};
-ghost use Rattle.go_expr.specs.View.{means_by};
+// Who judges the expressions of a module, walks over them, and is told the headers of its declarations.
+ghost use Rattle.std.specs.Prelude.{◌≡◌, ◌∷◌, [], ℕ, None, false, OnErr, OnOk};
+ghost use Rattle.go_model.specs.Outcomes.Records.{header_view};
+ghost use Rattle.go_model.specs.Outcomes.Walked.{no_outcomes};
+ghost use Rattle.go_model.specs.Values.Headers.{headers_of};
+ghost use Rattle.go_model.specs.Values.HeadersView.{headers_view};
 ghost use Rattle.go_expr.specs.Walker.{outcomes_view};
+ghost use Rattle.go_check.specs.Packages.Book.{Standing, book_names, standing_of};
 
 use go_base::NoMemory;
-use go_expr::{PackageJudge, Walker};
-use go_model::{Ask, ExprWalk, Finds, Forms, Header, Judge, Meaning, Outcome, Rules, Same, Sets};
-use go_module::ObjId;
+use go_expr::Walker;
+use go_model::{Ask, ExprWalk, Finds, Forms, Header, Headers, Judge, Outcome, Rules, Same, Sets};
+use go_module::{Module, ObjId, Object, Scopes};
 use go_term::Ty;
 use go_tree::{Node, NodeId};
 use std::alloc::Global;
 
-/// The rules of a package: a judge over the headers so far, and a walker, to which walks lend the judge.
+/// The headers of a module that are known, and the scopes of its packages, of which one is entered: the identifiers that
+/// it speaks of are those of this package.
 #[derive(Drop)]
-pub struct Rulebook<'a> {
-    pub judge: PackageJudge<'a>,
-    pub walker: Walker,
+pub struct ModuleJudge<'a> {
+    pub module: &'a Module,
+    pub scopes: &'a [Scopes],
+    pub place: usize,
+    pub headers: Headers,
 }
 
-impl Ask for Rulebook<'_> {
-    ghost headers = { λ book. headers_by book.judge.around.now book.judge.own };
+/// The rules over a module: a judge, and a walker, to which walks lend the judge. Once want of memory was met while a
+/// header was told, each call that can answer it does.
+#[derive(Drop)]
+pub struct Rulebook<'a> {
+    pub judge: ModuleJudge<'a>,
+    pub walker: Walker,
+    pub is_spent: bool,
+}
 
-    ghost means = { λ book. means_by book.judge.around.now };
+impl<'a> Rulebook<'a> {
+    /// No header is known, no node is walked, and the first package is entered.
+    pub fn new(alloc: Global, module: &'a Module, scopes: &'a [Scopes]) -> Rulebook<'a>
+        ensures headers { (d : ℕ) → headers_view result.judge.headers d ≡ None }
+        ensures outcomes { (n : ℕ) → outcomes_view result.walker n ≡ None }
+        ensures standing { standing_of result.judge
+            ≡ record { «module» = «module».now; scopes = scopes.now; place = 0 } }
+        ensures spent { result.is_spent ≡ false }
+    {
+        Rulebook {
+            judge: ModuleJudge {
+                module,
+                scopes,
+                place: 0,
+                headers: Headers::new(alloc),
+            },
+            walker: Walker::new(alloc),
+            is_spent: false,
+        }
+    }
+
+    /// Enters the package at a place: from now on identifiers are its own. The headers stay, the outcomes do not.
+    pub fn enter(&mut self, alloc: Global, package: usize)
+        ensures headers { self.new.judge.headers ≡ self.old.judge.headers }
+        ensures outcomes { (n : ℕ) → outcomes_view self.new.walker n ≡ None }
+        ensures standing { standing_of self.new.judge ≡ record (standing_of self.old.judge) { place = «package» } }
+        ensures spent { self.new.is_spent ≡ self.old.is_spent }
+    {
+        self.judge.place = package;
+        self.walker = Walker::new(alloc);
+    }
+}
+
+impl Ask for ModuleJudge<'_> {
+    ghost headers = { λ judge. headers_view judge.headers };
+
+    ghost names = { λ judge. book_names judge };
+
+    // A judge does not walk.
+    ghost outcomes = { λ _. no_outcomes };
+
+    ghost is_spent = { λ _. false };
+
+    ghost World = { Standing };
+
+    ghost world = { λ judge. standing_of judge };
+
+    fn ask(&mut self, d: ObjId) -> Result<Option<Header>, NoMemory> {
+        self.headers.ask(d)
+    }
+}
+
+impl Forms for ModuleJudge<'_> {
+    fn resolve(&self, id: NodeId) -> Option<ObjId> {
+        match self.scopes.get(self.place) {
+            Some(scopes) => scopes.resolve(id),
+            None => None,
+        }
+    }
+
+    fn object(&self, d: ObjId) -> &Object {
+        self.scopes[self.place].object(d)
+    }
+}
+
+impl Same for ModuleJudge<'_> {}
+
+impl Finds for ModuleJudge<'_> {}
+
+impl Sets for ModuleJudge<'_> {}
+
+impl Judge for ModuleJudge<'_> {}
+
+impl Ask for Rulebook<'_> {
+    ghost headers = { λ book. headers_view book.judge.headers };
+
+    ghost names = { λ book. book_names book.judge };
 
     ghost outcomes = { λ book. outcomes_view book.walker };
 
-    ghost World = { Around };
+    ghost is_spent = { λ book. book.is_spent };
 
-    ghost world = { λ book. book.judge.around.now };
+    ghost World = { Standing };
+
+    ghost world = { λ book. standing_of book.judge };
 
     fn ask(&mut self, d: ObjId) -> Result<Option<Header>, NoMemory> {
+        if self.is_spent {
+            return Err(NoMemory);
+        }
         self.judge.ask(d)
     }
 }
 
 impl Forms for Rulebook<'_> {
-    fn meaning(&self, id: NodeId) -> Meaning {
-        self.judge.meaning(id)
+    fn resolve(&self, id: NodeId) -> Option<ObjId> {
+        self.judge.resolve(id)
+    }
+
+    fn object(&self, d: ObjId) -> &Object {
+        self.judge.object(d)
     }
 }
 
@@ -52,6 +148,9 @@ impl Judge for Rulebook<'_> {}
 
 impl ExprWalk for Rulebook<'_> {
     fn walk(&mut self, alloc: Global, node: &Node, want: Option<Ty>) -> Result<Outcome, NoMemory> {
+        if self.is_spent {
+            return Err(NoMemory);
+        }
         self.walker.walk_node(alloc, &mut self.judge, node, want)
     }
 
@@ -62,6 +161,21 @@ impl ExprWalk for Rulebook<'_> {
 
 impl Rules for Rulebook<'_> {
     fn learn(&mut self, d: ObjId, header: &Header) -> Result<(), NoMemory> {
-        self.judge.own.add(d, header.clone()?)
+        if self.is_spent {
+            return Err(NoMemory);
+        }
+        let learned = add_copy(&mut self.judge.headers, d, header);
+        self.is_spent = learned.is_err();
+        learned
     }
+}
+
+// Adds the header of a declaration that has none once more. An error is want of memory.
+fn add_copy(headers: &mut Headers, d: ObjId, header: &Header) -> Result<(), NoMemory>
+    requires { headers_view headers.old d.0 ≡ None }
+    ensures added { OnOk result ((e : ℕ) → headers_view headers.new e
+        ≡ headers_of (headers_view headers.old) ((d.0, header_view header.now) ∷ []) e) }
+    ensures err { OnErr result ((e : ℕ) → headers_view headers.new e ≡ headers_view headers.old e) }
+{
+    headers.add(d, header.clone()?)
 }

@@ -9,14 +9,14 @@ ghost use Rattle.go_model.specs.PackageLines as rule;
 ghost use Rattle.go_model.specs.Report.{line_view, used};
 ghost use Rattle.go_names.specs.Views.{specs_view};
 ghost use Rattle.go_check.specs.Lines.Found.{own_file_view, use_lines};
-ghost use Rattle.go_expr.specs.View.{denotes_by};
+ghost use Rattle.go_check.specs.Packages.Book.{denotes_by};
 ghost use Rattle.go_check.specs.View.{outline_view};
 
 use crate::outline::Outline;
 use crate::own_file::OwnFile;
+use crate::rulebook::Rulebook;
 use go_base::{Name, NoMemory};
-use go_expr::Around;
-use go_model::{Line, What};
+use go_model::{Forms, Line, What};
 use go_module::{ObjId, Occurrence, Selected};
 use go_names::{Spec, names_in_specs};
 use go_tree::NodeId;
@@ -27,15 +27,15 @@ pub fn found_uses(
     alloc: Global,
     outline: &Outline,
     file: &OwnFile,
-    around: &Around,
+    book: &Rulebook,
 ) -> Result<Vec<Line>, NoMemory>
     ensures { IfOk result (λ lines. map line_view lines.items
-        ≡ use_lines (outline_view outline.now) (denotes_by around.now) (own_file_view file.now)) }
+        ≡ use_lines (outline_view outline.now) (denotes_by book.now.judge) (own_file_view file.now)) }
 {
     let written = written(alloc, &file.specs)?;
     let found = names_in_specs(alloc, &written)?;
     let mut lines = Vec::new(alloc);
-    push_occurrences(alloc, outline, file, around, &found, &mut lines)?;
+    push_occurrences(alloc, outline, file, book, &found, &mut lines)?;
     Ok(lines)
 }
 
@@ -57,16 +57,16 @@ fn push_occurrences(
     alloc: Global,
     outline: &Outline,
     file: &OwnFile,
-    around: &Around,
+    book: &Rulebook,
     found: &[Occurrence],
     lines: &mut Vec<Line>,
 ) -> Result<(), NoMemory>
     ensures { OnOk result (map line_view lines.new.items ≡ map line_view lines.old.items
         ++ flat_map (rule.occurrence_uses (outline_view outline.now)
-        file.now.stub (file_view file.now.file.now) (denotes_by around.now)) found.now) }
+        file.now.stub (file_view file.now.file.now) (denotes_by book.now.judge)) found.now) }
 {
     for occurrence in found {
-        push_occurrence(alloc, outline, file, around, occurrence, lines)?;
+        push_occurrence(alloc, outline, file, book, occurrence, lines)?;
     }
     Ok(())
 }
@@ -76,34 +76,34 @@ fn push_occurrence(
     alloc: Global,
     outline: &Outline,
     file: &OwnFile,
-    around: &Around,
+    book: &Rulebook,
     occurrence: &Occurrence,
     lines: &mut Vec<Line>,
 ) -> Result<(), NoMemory>
     ensures { OnOk result (map line_view lines.new.items ≡ map line_view lines.old.items
         ++ rule.occurrence_uses (outline_view outline.now)
-        file.now.stub (file_view file.now.file.now) (denotes_by around.now) occurrence.now) }
+        file.now.stub (file_view file.now.file.now) (denotes_by book.now.judge) occurrence.now) }
 {
     let Occurrence { id, at, name, .. } = occurrence;
-    push_use(alloc, outline, file, around, *id, *at, name, lines)?;
-    push_selected(alloc, outline, file, around, &occurrence.selected, lines)
+    push_use(alloc, outline, file, book, *id, *at, name, lines)?;
+    push_selected(alloc, outline, file, book, &occurrence.selected, lines)
 }
 
 fn push_selected(
     alloc: Global,
     outline: &Outline,
     file: &OwnFile,
-    around: &Around,
+    book: &Rulebook,
     selected: &Option<Selected>,
     lines: &mut Vec<Line>,
 ) -> Result<(), NoMemory>
     ensures { OnOk result (map line_view lines.new.items ≡ map line_view lines.old.items
         ++ rule.selected_use (outline_view outline.now)
-        file.now.stub (file_view file.now.file.now) (denotes_by around.now) selected.now) }
+        file.now.stub (file_view file.now.file.now) (denotes_by book.now.judge) selected.now) }
 {
     match selected {
         Some(name) => push_use(
-            alloc, outline, file, around, name.id, name.at, &name.name, lines,
+            alloc, outline, file, book, name.id, name.at, &name.name, lines,
         ),
         None => Ok(()),
     }
@@ -114,7 +114,7 @@ fn push_use(
     alloc: Global,
     outline: &Outline,
     file: &OwnFile,
-    around: &Around,
+    book: &Rulebook,
     id: NodeId,
     from: usize,
     name: &Name,
@@ -122,9 +122,9 @@ fn push_use(
 ) -> Result<(), NoMemory>
     ensures { OnOk result (map line_view lines.new.items ≡ map line_view lines.old.items
         ++ rule.use_at (outline_view outline.now)
-        file.now.stub (file_view file.now.file.now) (denotes_by around.now) id from name.now) }
+        file.now.stub (file_view file.now.file.now) (denotes_by book.now.judge) id from name.now) }
 {
-    if let Some(d) = around.denoted(id) {
+    if let Some(d) = book.resolve(id) {
         lines.push(use_line(alloc, outline, file, d, from, name)?)?;
     }
     Ok(())

@@ -11,4 +11,5 @@ pub mod OutlineLemmas
 pub mod OutcomeLemmas
 pub mod QuestLemmas
 pub mod StableLemmas
+pub mod ThereLemmas
 pub mod WalkedLemmas

@@ -1,35 +1,38 @@
 -- What is known while the packages of a module are checked, one after another.
 use Rattle.std.specs.Prelude.{◌≡◌, ℕ, Bool, true, List, [], ◌++◌, drop, length, map}
 use Rattle.go_model.specs.Outcomes.Walk.{Headers}
-use Rattle.go_module.specs.Modules.Module.{ModuleData}
+use Rattle.go_module.specs.declared.module.Module.{Module}
+use Rattle.go_module.specs.Modules.Module.{ModuleData, module_view}
 use Rattle.go_graph.specs.Graph.{is_marked}
 use Rattle.go_model.specs.Phases.{AreReports, no_headers}
 use Rattle.go_model.specs.Report.{PackageReportData, package_view}
 use Rattle.go_model.specs.Values.HeadersView.{headers_view}
-use Rattle.go_check.specs.declared.denoted.Denoted.{Denoted}
 use Rattle.go_check.specs.declared.module.State.{State}
+use Rattle.go_check.specs.declared.names.Names.{Names}
 use Rattle.go_check.specs.Packages.Names.{sound_at}
 
--- what is known behind the packages that are checked: which are accepted, the headers of their declarations, and
--- the reports
+-- what is known behind the packages that are checked: which are accepted, the headers, and the reports
 pub record StateData : Type 0 where
   pub marks : List Bool
   pub before : Headers
   pub reports : List PackageReportData
 
 abbrev pub state_view : State → StateData
-state_view s = record { marks = s.marks.items; before = headers_view s.before; reports = map package_view s.reports.items }
+state_view s = record { marks = s.marks.items; before = headers_view s.book.judge.headers; reports = map package_view s.reports.items }
 
 -- the names of each package that is accepted break no rule
-abbrev pub AcceptedAreSound : Denoted → List Bool → Type 0
-AcceptedAreSound denoted marks = (q : ℕ) → is_marked marks q ≡ true → sound_at denoted.verdicts.items q ≡ true
+abbrev pub AcceptedAreSound : Names → List Bool → Type 0
+AcceptedAreSound names marks = (q : ℕ) → is_marked marks q ≡ true → sound_at names.verdicts.items q ≡ true
 
 -- the reports so far, with those of the packages left, are those of the module
 abbrev pub IsFront : ModuleData → ℕ → StateData → Type 0
 IsFront m k s = (rest : List PackageReportData) → AreReports m k s.marks s.before (drop k m.packages) rest → AreReports m 0 [] no_headers m.packages (s.reports ++ rest)
 
--- the packages before the place k are checked
-pub record IsState (m : ModuleData) (denoted : Denoted) (k : ℕ) (s : State) : Type 0 where
+-- the packages before the place k are checked, by a rulebook over the module and these scopes
+pub record IsState («module» : Module) (names : Names) (k : ℕ) (s : State) : Type 0 where
   pub marked : length s.marks.items ≡ k
-  pub accepted_sound : AcceptedAreSound denoted s.marks.items
-  pub front : IsFront m k (state_view s)
+  pub accepted_sound : AcceptedAreSound names s.marks.items
+  pub front : IsFront (module_view «module») k (state_view s)
+  pub over : s.book.judge.«module».now ≡ «module»
+  pub scopes : s.book.judge.scopes.now ≡ names.scopes.items
+  pub same : headers_view s.known ≡ headers_view s.book.judge.headers

@@ -7,7 +7,7 @@ use Rattle.go_module.specs.Scopes.{same_object}
 use Rattle.go_check.specs.declared.own_file.OwnFile.{OwnFile}
 use Rattle.go_check.specs.Lines.Found.{declared_in_file, own_files_view}
 use Rattle.go_check.proofs.DeclaredLemmas.{package_added}
-use Rattle.go_check.proofs.FoundLemmas.{drop-step}
+use Rattle.go_decl.proofs.ListLemmas.{drop-step}
 use Rattle.go_check.proofs.declared.declared_objects.Goals as goal
 
 pub loop-place-preserved : goal.loop-place-preserved

@@ -6,7 +6,7 @@ use Rattle.go_expr.specs.Read.{outcome_read}
 use Rattle.go_expr.specs.Walker.{outcomes_view}
 use Rattle.go_model.specs.PackageLines.{expr_by}
 use Rattle.go_check.proofs.ExprLemmas.{nodes_more}
-use Rattle.go_check.proofs.FoundLemmas.{drop-step}
+use Rattle.go_decl.proofs.ListLemmas.{drop-step}
 use Rattle.go_check.proofs.exprs.push_nodes.Goals as goal
 
 pub loop-node-preserved : goal.loop-node-preserved

@@ -5,7 +5,8 @@ use Rattle.go_check.specs.Lines.Found.{def_lines, own_file_view, own_files_view}
 use Rattle.go_expr.specs.Read.{outcome_read}
 use Rattle.go_expr.specs.Walker.{outcomes_view}
 use Rattle.go_check.specs.View.{outline_view}
-use Rattle.go_check.proofs.FoundLemmas.{all_added, drop-step, one_added}
+use Rattle.go_decl.proofs.ListLemmas.{drop-step}
+use Rattle.go_check.proofs.FoundLemmas.{all_added, one_added}
 use Rattle.go_check.proofs.lines.all_defs.Goals as goal
 
 pub loop-file-preserved : goal.loop-file-preserved

@@ -4,7 +4,8 @@ use Rattle.go_model.specs.Report.{line_view}
 use Rattle.go_check.specs.Lines.Found.{expr_lines, own_file_view, own_files_view}
 use Rattle.go_expr.specs.Read.{outcome_read}
 use Rattle.go_expr.specs.Walker.{outcomes_view}
-use Rattle.go_check.proofs.FoundLemmas.{all_added, drop-step, one_added}
+use Rattle.go_decl.proofs.ListLemmas.{drop-step}
+use Rattle.go_check.proofs.FoundLemmas.{all_added, one_added}
 use Rattle.go_check.proofs.lines.all_exprs.Goals as goal
 
 pub loop-file-preserved : goal.loop-file-preserved

@@ -2,20 +2,21 @@ use Rattle.std.proofs.Common.{◌+◌, drop, map, ap, arith}
 use Rattle.std.proofs.lemmas.List.{drop_all}
 use Rattle.go_model.specs.Report.{line_view}
 use Rattle.go_check.specs.Lines.Found.{use_lines, own_file_view, own_files_view}
-use Rattle.go_expr.specs.View.{denotes_by}
+use Rattle.go_check.specs.Packages.Book.{denotes_by}
 use Rattle.go_check.specs.View.{outline_view}
-use Rattle.go_check.proofs.FoundLemmas.{all_added, drop-step, one_added}
+use Rattle.go_decl.proofs.ListLemmas.{drop-step}
+use Rattle.go_check.proofs.FoundLemmas.{all_added, one_added}
 use Rattle.go_check.proofs.lines.all_uses.Goals as goal
 
 pub loop-file-preserved : goal.loop-file-preserved
 loop-file-preserved c =
     let i = c.loop-file.file-index in
     let files = c.args.files.now in
-    one_added (use_lines (outline_view c.args.outline.now) (denotes_by c.args.around.now)) (own_files_view files) (own_files_view (drop i files)) (own_files_view (drop (i + 1) files)) (own_file_view c.file-item.result)
+    one_added (use_lines (outline_view c.args.outline.now) (denotes_by c.args.book.now.judge)) (own_files_view files) (own_files_view (drop i files)) (own_files_view (drop (i + 1) files)) (own_file_view c.file-item.result)
     (map line_view c.in_ok-found_uses.field-0.items) (map line_view c.loop-file.lines.items) (map line_view c.add_in_order.new.lines.items)
     (ap own_files_view (drop-step files i c.file-item.result (omega arith) c.file-item.is)) c.in_ok-found_uses.ensures c.in_ok-add_in_order.ensures c.loop-file.invariant
 
 pub returns : goal.returns
 returns c =
-    all_added (use_lines (outline_view c.args.outline.now) (denotes_by c.args.around.now)) (own_files_view c.args.files.now) (own_files_view (drop c.loop-file.file-index c.args.files.now)) (map line_view c.loop-file.lines.items)
+    all_added (use_lines (outline_view c.args.outline.now) (denotes_by c.args.book.now.judge)) (own_files_view c.args.files.now) (own_files_view (drop c.loop-file.file-index c.args.files.now)) (map line_view c.loop-file.lines.items)
     (ap own_files_view (drop_all c.loop-file.file-index c.args.files.now c.loop-file-test.false)) c.loop-file.invariant

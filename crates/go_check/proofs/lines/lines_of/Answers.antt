@@ -6,7 +6,7 @@ use Rattle.go_model.specs.LineOrder.{AreInOrder}
 use Rattle.go_model.specs.Outcomes.Walked.{AreWalked}
 use Rattle.go_model.specs.Report.{LineData, line_view}
 use Rattle.go_check.specs.Lines.Found.{nodes_of_files, own_files_view}
-use Rattle.go_expr.specs.View.{denotes_by}
+use Rattle.go_check.specs.Packages.Book.{denotes_by}
 use Rattle.go_expr.specs.Walker.{outcomes_view}
 use Rattle.go_check.specs.View.{outline_view}
 use Rattle.go_check.proofs.FoundLemmas.{are_lines}
@@ -20,14 +20,14 @@ returns c =
     let uses : List Line = c.in_ok-uses.uses.items in
     let exprs : List Line = c.in_ok-exprs.exprs.items in
     let outline = outline_view c.args.outline.now in
-    let outcomes = outcomes_view c.args.walker.now in
+    let outcomes = outcomes_view c.args.book.now.walker in
     let files = own_files_view c.args.files.now in
     let views : map line_view (defs ++ (uses ++ exprs)) ≡ map line_view defs ++ (map line_view uses ++ map line_view exprs) =
     map-append line_view defs (uses ++ exprs) ∙ ap (λ (l : List LineData). map line_view defs ++ l) (map-append line_view uses exprs) in
     IfOk-weaker c.joined.result _ _
     (λ lines is means headers k p same all.
     let walked : AreWalked means headers (nodes_of_files files) outcomes = subst (λ nodes. AreWalked means headers nodes outcomes) (nodes_are files p same) all in
-    are_lines outline k p (denotes_by c.args.around.now) means headers files
+    are_lines outline k p (denotes_by c.args.book.now.judge) means headers files
     (map line_view defs) (map line_view uses) (map line_view exprs) (map line_view lines.items) same
     (subst (λ (l : List (List LineData)). AreInOrder l (map line_view defs)) (defs_same means headers outcomes files walked outline) c.in_ok-defs.ensures)
     c.in_ok-uses.ensures

@@ -4,7 +4,8 @@ use Rattle.std.specs.List.{list_all}
 use Rattle.go_module.specs.Modules.Module.{module_view, package_view}
 use Rattle.go_scope.specs.Collecting.{AreBefore, IsScopeFault}
 use Rattle.go_check.specs.Packages.Names.{sound_at}
-use Rattle.go_check.proofs.NamesLemmas.{are_before, collected_at, imports_another, one_more, viewed_at}
+use Rattle.go_decl.proofs.ListLemmas.{viewed_at}
+use Rattle.go_check.proofs.NamesLemmas.{are_before, collected_at, imports_another, one_more}
 use Rattle.go_check.proofs.ResultLemmas.{both_on_ok}
 use Rattle.go_check.proofs.names.add_next.Goals as goal
 

@@ -1,32 +1,58 @@
-use Rattle.std.proofs.Common.{◌≡◌, List, sym, ap, subst, ◌∙◌}
-use Rattle.std.proofs.Math.Path.{fun_ext}
-use Rattle.go_base.specs.declared.ids.ObjId.{ObjId}
-use Rattle.go_module.specs.Modules.Module.{package_view}
-use Rattle.go_module.specs.Names.Declarations.{declarations_in}
-use Rattle.go_model.specs.declared.header.Header.{Header}
-use Rattle.go_model.specs.Phases.{IsVerdict}
+use Rattle.std.proofs.Common.{◌≡◌, ◌∙◌, ℕ, Some, sym, ap, subst}
+use Rattle.std.specs.Prelude.{◌↔◌}
+use Rattle.std.proofs.lemmas.Result.{IfOk-weaker}
+use Rattle.go_module.specs.Modules.Module.{PackageData, module_view, package_view}
+use Rattle.go_module.specs.Names.Declarations.{declarations_of}
+use Rattle.go_model.specs.declared.headers.Headers.{Headers as HeaderMap}
+use Rattle.go_model.specs.declared.meaning.Meaning.{Meaning}
+use Rattle.go_model.specs.Outcomes.Records.{HeaderData}
+use Rattle.go_model.specs.Outcomes.Walked.{AreWalked, nodes_of}
+use Rattle.go_model.specs.Phases.{BreaksValues, IsVerdict}
 use Rattle.go_model.specs.Report.{verdict_view}
+use Rattle.go_model.specs.Values.Headers.{Known}
 use Rattle.go_model.specs.Values.HeadersView.{headers_view}
-use Rattle.go_names.specs.Views.{declarations_view}
-use Rattle.go_check.specs.Lines.Found.{all_specs_in, own_files_view}
-use Rattle.go_check.specs.Packages.Known.{known_with, pairs_view}
-use Rattle.go_check.proofs.ValueLemmas.{specs_are}
+use Rattle.go_model.specs.Values.Meaning.{AreThere, meaning_by, meaning_in, names_in}
+use Rattle.go_expr.specs.Walker.{outcomes_view}
+use Rattle.go_decl.specs.Broken.{AreBroken}
+use Rattle.go_decl.proofs.ListLemmas.{viewed_at}
+use Rattle.go_check.specs.Packages.Book.{Standing, book_names, names_at}
+use Rattle.go_check.proofs.VerdictLemmas.{breaks}
 use Rattle.go_check.proofs.package.check_values.Goals as goal
 
-pub verdict_by_values-requires-clause-declarations : goal.verdict_by_values-requires-clause-declarations
-verdict_by_values-requires-clause-declarations c =
-    let p = package_view c.args.own.now in
-    ap declarations_view c.deref-4.ensures.value
-    ∙ c.in_ok-declarations.ensures
-    ∙ ap (λ files. declarations_in (all_specs_in (own_files_view files))) c.deref.ensures.value
-    ∙ ap (λ files. declarations_in (all_specs_in files)) c.in_ok-files.ensures
-    ∙ ap declarations_in (specs_are p.stub 0 p.files p.imports)
+pub rounds-requires-clause-there : goal.rounds-requires-clause-there
+rounds-requires-clause-there g c = subst AreThere (ap (λ (s : Standing). names_at s.scopes s.place) (sym c.enter.ensures.standing)) c.requires.there
 
-pub returns : goal.returns
-returns c m k at outline uses =
-    let p = package_view c.args.own.now in
-    let before = headers_view c.args.before.now in
-    let verdict = verdict_view c.in_ok-verdict.field-0.verdict in
-    let after : headers_view c.add_headers.new.before ≡ known_with before (pairs_view c.in_ok-verdict.field-0.headers.items) =
-    fun_ext c.in_ok-add_headers.ensures ∙ ap (λ (ps : List (ObjId × Header)). known_with before (pairs_view ps)) c.deref-5.ensures.value in
-    subst (IsVerdict m k p before verdict) (sym after) (c.in_ok-verdict.ensures m k at outline uses)
+pub rounds-requires-clause-same : goal.rounds-requires-clause-same
+rounds-requires-clause-same g c = c.requires.same ∙ ap headers_view (sym c.enter.ensures.headers)
+
+pub returns-clause-verdict : goal.returns-clause-verdict
+returns-clause-verdict g c =
+    let m = module_view c.args.book.now.judge.«module».now in
+    let k = c.args.place in
+    let before = headers_view c.args.book.now.judge.headers in
+    let entered = c.enter.new.self in
+    let after = c.rounds.new.rules in
+    let headers = headers_view after.judge.headers in
+    let own = package_view c.index.result.now in
+    let list = c.in_ok-list.list.items in
+    let here = viewed_at package_view c.args.book.now.judge.«module».now.packages.items k c.index.result.now c.requires.within c.index.ensures in
+    IfOk-weaker c.verdict_by.result _ _
+    (λ verdict is p at outline names sound.
+    let same : own ≡ p = cc (here, at) in
+    let named : book_names entered.judge ≡ names_in m k p = ap (λ (s : Standing). names_at s.scopes s.place) c.enter.ensures.standing ∙ names in
+    let means : meaning_by (book_names entered.judge) ≡ meaning_in m k p = ap meaning_by named in
+    let known : (d : ℕ) (h : HeaderData) → (headers d ≡ Some h) ↔ Known before (meaning_in m k p) (declarations_of p) d h =
+    λ d h. subst (λ (ms : ℕ → Meaning). (headers d ≡ Some h) ↔ Known before ms (declarations_of p) d h) means
+    (subst (λ (b : HeaderMap). (headers d ≡ Some h) ↔ Known (headers_view b) (meaning_by (book_names entered.judge)) (declarations_of p) d h) c.enter.ensures.headers (c.in_ok-list.ensures.exact p at d h)) in
+    let walked = subst (λ (ms : ℕ → Meaning). AreWalked ms headers (nodes_of p) (outcomes_view after.walker)) means (c.in_ok-list.ensures.nodes p at) in
+    let broken = subst (λ (ms : ℕ → Meaning). AreBroken ms headers p list) means (c.in_ok-list.ensures.list p at) in
+    let found = breaks m k p before headers list sound known broken in
+    subst (λ (q : PackageData). book_names after.judge ≡ names_in m k q → AreWalked (meaning_in m k q) headers (nodes_of q) (outcomes_view after.walker) → BreaksValues m k q before headers c.deref.result.now → IsVerdict m k q before (verdict_view verdict) headers) same
+    (is m k before headers outline) (c.rounds.ensures.names ∙ named) walked (subst (BreaksValues m k p before headers) (sym c.deref.ensures.value) found))
+    c.verdict_by.ensures
+
+pub returns-clause-module : goal.returns-clause-module
+returns-clause-module g c = ap (λ (s : Standing). s.«module») (c.rounds.ensures.world ∙ c.enter.ensures.standing)
+
+pub returns-clause-scopes : goal.returns-clause-scopes
+returns-clause-scopes g c = ap (λ (s : Standing). s.scopes) (c.rounds.ensures.world ∙ c.enter.ensures.standing)

@@ -1,0 +1,32 @@
+-- What a rulebook stands on: the module, the scopes of its packages, and which package is entered.
+use Rattle.std.specs.Prelude.{ℕ, List, Option, slice_get}
+use Rattle.std.specs.Option.{option_map_or}
+use Rattle.go_base.specs.declared.ids.ObjId.{ObjId}
+use Rattle.go_tree.specs.declared.node.NodeId.{NodeId}
+use Rattle.go_module.specs.declared.module.Module.{Module}
+use Rattle.go_module.specs.declared.scopes.Scopes.{Scopes}
+use Rattle.go_model.specs.Values.Meaning.{Names, names_by, no_names}
+use Rattle.go_check.specs.declared.rulebook.ModuleJudge.{ModuleJudge}
+
+pub record Standing : Type 0 where
+  pub «module» : Module
+  pub scopes : List Scopes
+  pub place : ℕ
+
+abbrev pub standing_of : ModuleJudge → Standing
+standing_of judge = record { «module» = judge.module.now; scopes = judge.scopes.now; place = judge.place }
+
+-- what the scopes of a package say of identifiers and objects
+abbrev pub scope_names : Scopes → Names
+scope_names scopes = names_by scopes.uses.entries scopes.objects.entries
+
+-- what those at a place say: nothing where there are none
+abbrev pub names_at : List Scopes → ℕ → Names
+names_at scopes place = option_map_or scope_names (slice_get scopes place) no_names
+
+abbrev pub book_names : ModuleJudge → Names
+book_names judge = names_at judge.scopes.now judge.place
+
+-- the object that an identifier of the package that is entered denotes
+abbrev pub denotes_by : ModuleJudge → NodeId → Option ObjId
+denotes_by judge id = (book_names judge).denotes id.0
