@@ -25,8 +25,7 @@ use Rattle.go_model.proofs.ExactWaitLemmas.{outcome_exactly}
 use Rattle.go_laws.specs.Complete.{asked_in, asked_in_each}
 use Rattle.go_laws.proofs.Asked.{AreIntegers, IsAsked}
 use Rattle.go_laws.proofs.IntegerLemmas.{HaveIntegers, part_integer}
-use Rattle.go_model.proofs.FlatLemmas.{flat_cases, flat_contains, map_cases, only_is}
-use Rattle.go_laws.proofs.ListLemmas.{map_contains}
+use Rattle.go_model.proofs.FlatLemmas.{flat_cases, flat_contains, map_cases, map_contains, only_is}
 
 -- a part of a node, and what is found of it
 part_at : (ts : Trees) (n : ℕ) → n < length (list_of ts) → (t : Tree) × (slice_get (list_of ts) n ≡ Some t)

@@ -42,8 +42,8 @@ use Rattle.go_laws.proofs.AskedLemmas.{IsGood, IsUnbroken, asked_are_nodes, each
 use Rattle.go_laws.proofs.DenotedLemmas.{declared_by_number}
 use Rattle.go_laws.proofs.Denoting.{ImportsHaveHeaders}
 use Rattle.go_laws.proofs.IntegerLemmas.{HaveIntegers, integer_declared, known_integer, record_integer}
-use Rattle.go_model.proofs.FlatLemmas.{flat_cases, flat_contains, map_cases}
-use Rattle.go_laws.proofs.ListLemmas.{left_is_empty, map_contains, map_is_empty, none_of_each, right_is_empty}
+use Rattle.go_model.proofs.FlatLemmas.{flat_cases, flat_contains, map_cases, map_contains}
+use Rattle.go_laws.proofs.ListLemmas.{left_is_empty, map_is_empty, none_of_each, right_is_empty}
 use Rattle.go_laws.proofs.MeantLemmas.{HasDeclaration, meant_known}
 use Rattle.go_laws.proofs.WalkLemmas.{no_walk}
 

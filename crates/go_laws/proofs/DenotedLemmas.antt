@@ -22,8 +22,8 @@ use Rattle.go_module.proofs.MemberLemmas.{cons_cases, contains_head, contains_no
 use Rattle.go_module.proofs.TableLemmas.{object_declared}
 use Rattle.go_model.specs.Values.Declared.{declared_as}
 use Rattle.go_laws.specs.NodeNumbers.{nodes_in_files, numbers_in_files}
-use Rattle.go_model.proofs.FlatLemmas.{flat_cases, map_cases, only_is}
-use Rattle.go_laws.proofs.ListLemmas.{found_from, map_contains}
+use Rattle.go_model.proofs.FlatLemmas.{flat_cases, map_cases, map_contains, only_is}
+use Rattle.go_laws.proofs.ListLemmas.{found_from}
 use Rattle.go_laws.proofs.NameNodeLemmas.{IsOfFiles, of_files}
 use Rattle.go_laws.proofs.PickedLemmas.{picked_contains, picked_filter}
 

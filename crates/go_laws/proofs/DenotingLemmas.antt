@@ -42,9 +42,9 @@ use Rattle.go_laws.specs.Complete.{asked_in, values_in}
 use Rattle.go_laws.specs.NodeNumbers.{NodeNumbersAscend, numbers_in_files}
 use Rattle.go_laws.proofs.DenotedLemmas.{IsImported, block_no_package, exported_declared, file_imported, universal}
 use Rattle.go_laws.proofs.FileLemmas.{AtFile, at_file, spec_file}
-use Rattle.go_model.proofs.FlatLemmas.{flat_cases, flat_contains}
+use Rattle.go_model.proofs.FlatLemmas.{flat_cases, flat_contains, map_contains}
 use Rattle.go_laws.proofs.KindLemmas.{IsConst, block_const, export_const, file_entry, member_entry}
-use Rattle.go_laws.proofs.ListLemmas.{left_is_empty, map_contains, map_is_empty, none_of_each, not_told, right_is_empty}
+use Rattle.go_laws.proofs.ListLemmas.{left_is_empty, map_is_empty, none_of_each, not_told, right_is_empty}
 use Rattle.go_laws.proofs.OccursLemmas.{Occurs, asked_occurs}
 use Rattle.go_laws.proofs.ResolvedLemmas.{Denotes, Stands, held_denotes}
 use Rattle.go_laws.proofs.UseLemmas.{use_found}

@@ -1,7 +1,7 @@
 -- What the table of a package's objects holds: of a declaration of the package, and of what a package that it imports
 -- exports, a constant.
 use Rattle.std.proofs.Common.{◌≡◌, ℕ, ◌<◌, Bool, true, false, cond, Option, Some, None, List, [], ◌∷◌, ◌++◌, ◌⊎◌, inl, inr, map, Contains, refl, sym, ap, ◌∙◌, subst, arith}
-use Rattle.std.specs.Prelude.{filter, find, if◌then◌else◌, is_some, option_and_then, slice_get}
+use Rattle.std.specs.Prelude.{filter, if◌then◌else◌, is_some, option_and_then, slice_get}
 use Rattle.std.specs.List.{flat_map}
 use Rattle.std.specs.Map.{lookup}
 use Rattle.std.specs.Option.{option_map_or}
@@ -27,21 +27,11 @@ use Rattle.go_module.specs.Scopes.{same_object}
 use Rattle.go_module.proofs.MemberLemmas.{cons_cases, contains_head, contains_none, contains_tail}
 use Rattle.go_module.proofs.TableLemmas.{found_in, object_declared, present_in}
 use Rattle.go_model.specs.Values.Meaning.{objects_table}
-use Rattle.go_model.proofs.FlatLemmas.{filter_within, flat_cases, map_cases, only_is}
+use Rattle.go_model.proofs.FlatLemmas.{filter_within, find_within, flat_cases, map_cases, map_contains, only_is}
+use Rattle.go_model.proofs.ThereLemmas.{object_self}
 use Rattle.go_laws.specs.NodeNumbers.{NodeNumbersAscend, numbers_in_files}
 use Rattle.go_laws.proofs.DenotedLemmas.{IsDeclaredAt, IsImported, block_declared, block_no_package, exported_declared, file_imported, universal}
-use Rattle.go_laws.proofs.ListLemmas.{map_contains}
 use Rattle.go_laws.proofs.NameNodeLemmas.{is_constant}
-
--- LISTS
-
-find_within : {X : Type 0} (test : X → Bool) (xs : List X) (x : X) → find test xs ≡ Some x → Contains xs x
-find_within test [] x e = absurd (let never : None ≡ Some x = e in cc)
-find_within test (y ∷ ys) x e = by_test (test y) e (find_within test ys x)
-  where
-    by_test : (b : Bool) → cond b (Some y) (find test ys) ≡ Some x → (find test ys ≡ Some x → Contains ys x) → Contains (y ∷ ys) x
-    by_test true found later = let same : y ≡ x = cc in contains_head y ys x same
-    by_test false found later = contains_tail y ys x (later found)
 
 -- TABLES THAT PAIRS ARE PUT INTO: by a key of the last pairs one of these is found
 
@@ -74,9 +64,6 @@ module _ {K V : Type 0} (eq : K → K → Bool) (same : (x y : K) → eq x y ≡
 
 object_is : (a b : ObjId) → same_object a b ≡ true → a ≡ b
 object_is a b e = let at : a.0 ≡ b.0 = grind (arith, nat_tests) in λ i. record { 0 = at i }
-
-object_self : (a : ObjId) → same_object a a ≡ true
-object_self a = grind (arith, nat_tests)
 
 some_there : {X : Type 0} (o : Option X) → is_some o ≡ true → (x : X) × (o ≡ Some x)
 some_there None e = absurd (let never : false ≡ true = e in cc)

@@ -17,14 +17,6 @@ in_front xs y h = by_cases (Contains-append_cases xs [] y h)
     by_cases (inr none) = absurd (contains_none y none)
 
 -- what stands in a list that is made of several, or of another
-pub map_contains : {X Y : Type 0} (f : X → Y) (xs : List X) (x : X) → Contains xs x → Contains (map f xs) (f x)
-map_contains f [] x h = absurd (contains_none x h)
-map_contains f (z ∷ xs) x h = by_cases (cons_cases z xs x h) (map_contains f xs x)
-  where
-    by_cases : (z ≡ x) ⊎ Contains xs x → (Contains xs x → Contains (map f xs) (f x)) → Contains (map f (z ∷ xs)) (f x)
-    by_cases (inl same) later = contains_head (f z) (map f xs) (f x) (ap f same)
-    by_cases (inr there) later = contains_tail (f z) (map f xs) (f x) (later there)
-
 -- what is found for one of these
 found_by : {X Y : Type 0} (h : X → Option Y) (x : X) (xs : List X) (found : Option Y) (y : Y) → h x ≡ found → Contains (cons_option found (filter_map h xs)) y
     → (Contains (filter_map h xs) y → (z : X) × Contains xs z × (h z ≡ Some y)) → (z : X) × Contains (x ∷ xs) z × (h z ≡ Some y)

@@ -13,10 +13,9 @@ use Rattle.go_module.specs.Names.Declarations.{Declaration, Spec, const_spec, de
 use Rattle.go_module.specs.Names.Imports.{Importing, imports_from, imports_in}
 use Rattle.go_module.specs.NodeParts.{first_part}
 use Rattle.go_module.proofs.MemberLemmas.{cons_cases, contains_head, contains_none, contains_tail}
-use Rattle.go_model.proofs.FlatLemmas.{flat_cases, flat_contains, map_cases}
+use Rattle.go_model.proofs.FlatLemmas.{flat_cases, flat_contains, map_cases, map_contains}
 use Rattle.go_laws.specs.NodeNumbers.{nodes_by_end, nodes_in_files, numbers_in_files}
 use Rattle.go_laws.proofs.FileLemmas.{file_of_spec, spec_is}
-use Rattle.go_laws.proofs.ListLemmas.{map_contains}
 use Rattle.go_laws.proofs.NodeFileLemmas.{IsUnder, part_under, self_by_end}
 
 -- DECLARATIONS

@@ -28,8 +28,8 @@ use Rattle.go_load.proofs.FrontLemmas.{one_place_of, result_at}
 use Rattle.go_load.proofs.PathSetLemmas.{same}
 use Rattle.go_load.proofs.SlotLemmas.{passes}
 use Rattle.go_laws.specs.NodeNumbers.{NodeNumbersAscend, nodes_by_end, nodes_by_end_among, nodes_in_files, numbers_in_files}
-use Rattle.go_model.proofs.FlatLemmas.{flat_cases, flat_contains, map_cases}
-use Rattle.go_laws.proofs.ListLemmas.{found_from, map_contains}
+use Rattle.go_model.proofs.FlatLemmas.{flat_cases, flat_contains, map_cases, map_contains}
+use Rattle.go_laws.proofs.ListLemmas.{found_from}
 use Rattle.go_laws.proofs.PickedLemmas.{one_numbered, pairs_ascend}
 
 -- LISTS OF NUMBERS THAT ASCEND: the first is below the others, and two such lists, one below the other, make one

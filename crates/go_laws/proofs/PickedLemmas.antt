@@ -7,7 +7,7 @@ use Rattle.go_module.specs.declared.inner.Inner.{Inner}
 use Rattle.go_module.specs.declared.inner.Inner.TheVariants.{All, First, Last, BehindFirst, BehindNames, BehindKey, TypesAlone, Neither}
 use Rattle.go_module.specs.Names.Inner.{is_name_kind, is_tag_kind, is_named_param, is_unnamed_param, first_alone, last_alone, all_behind, behind_key, inner_by}
 use Rattle.go_module.proofs.MemberLemmas.{cons_cases, contains_head, contains_none, contains_tail}
-use Rattle.go_laws.proofs.ListLemmas.{map_contains}
+use Rattle.go_model.proofs.FlatLemmas.{map_contains}
 
 pub data Picked {X : Type 0} : List X → List X → Type 0 where
   none : {ys : List X} → Picked [] ys

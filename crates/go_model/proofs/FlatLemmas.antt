@@ -1,6 +1,6 @@
 -- What is made of the items of a list: of which items it is, and that it is the same where it is so item by item.
-use Rattle.std.proofs.Common.{◌≡◌, Bool, true, false, cond, List, [], ◌∷◌, ◌++◌, ◌⊎◌, Contains, map, inl, inr, refl, sym, subst}
-use Rattle.std.specs.Prelude.{filter}
+use Rattle.std.proofs.Common.{◌≡◌, Bool, true, false, cond, Some, None, List, [], ◌∷◌, ◌++◌, ◌⊎◌, Contains, map, inl, inr, refl, sym, ap, subst}
+use Rattle.std.specs.Prelude.{filter, find}
 use Rattle.std.specs.List.{flat_map}
 use Rattle.std.proofs.lemmas.List.Elements.{Contains-append_cases, Contains-append_left, Contains-append_right}
 use Rattle.go_module.proofs.MemberLemmas.{cons_cases, contains_head, contains_none, contains_tail}
@@ -55,3 +55,20 @@ flat_map-same f g (x ∷ xs) same = (λ i. same x (contains_head x xs x refl) i 
 pub map-same : {A B : Type 0} (f g : A → B) (xs : List A) → ((x : A) → Contains xs x → f x ≡ g x) → map f xs ≡ map g xs
 map-same f g [] same = refl
 map-same f g (x ∷ xs) same = (λ i. same x (contains_head x xs x refl) i ∷ map-same f g xs (λ y h. same y (contains_tail x xs y h)) i)
+
+-- what is found, and what a view shows of what is there
+pub find_within : {X : Type 0} (test : X → Bool) (xs : List X) (x : X) → find test xs ≡ Some x → Contains xs x
+find_within test [] x e = absurd (let never : None ≡ Some x = e in cc)
+find_within test (y ∷ ys) x e = by_test (test y) e (find_within test ys x)
+  where
+    by_test : (b : Bool) → cond b (Some y) (find test ys) ≡ Some x → (find test ys ≡ Some x → Contains ys x) → Contains (y ∷ ys) x
+    by_test true found later = let same : y ≡ x = cc in contains_head y ys x same
+    by_test false found later = contains_tail y ys x (later found)
+
+pub map_contains : {X Y : Type 0} (f : X → Y) (xs : List X) (x : X) → Contains xs x → Contains (map f xs) (f x)
+map_contains f [] x h = absurd (contains_none x h)
+map_contains f (z ∷ xs) x h = by_cases (cons_cases z xs x h) (map_contains f xs x)
+  where
+    by_cases : (z ≡ x) ⊎ Contains xs x → (Contains xs x → Contains (map f xs) (f x)) → Contains (map f (z ∷ xs)) (f x)
+    by_cases (inl same) later = contains_head (f z) (map f xs) (f x) (ap f same)
+    by_cases (inr there) later = contains_tail (f z) (map f xs) (f x) (later there)

@@ -22,27 +22,10 @@ use Rattle.go_module.specs.Scopes.{same_node, same_object}
 use Rattle.go_module.proofs.MemberLemmas.{cons_cases, contains_head, contains_none, contains_tail}
 use Rattle.go_module.proofs.TableLemmas.{node_denotes, present_in}
 use Rattle.go_model.specs.Values.Meaning.{AreThere, names_by, names_in, uses_table}
-use Rattle.go_model.proofs.FlatLemmas.{filter_within, flat_cases, flat_contains, map_cases, only_is}
+use Rattle.go_model.proofs.FlatLemmas.{filter_within, find_within, flat_cases, flat_contains, map_cases, map_contains, only_is}
 
--- LISTS
-
-find_within : {X : Type 0} (test : X → Bool) (xs : List X) (x : X) → find test xs ≡ Some x → Contains xs x
-find_within test [] x e = absurd (let never : None ≡ Some x = e in cc)
-find_within test (y ∷ ys) x e = by_test (test y) e (find_within test ys x)
-  where
-    by_test : (b : Bool) → cond b (Some y) (find test ys) ≡ Some x → (find test ys ≡ Some x → Contains ys x) → Contains (y ∷ ys) x
-    by_test true found later = let same : y ≡ x = cc in contains_head y ys x same
-    by_test false found later = contains_tail y ys x (later found)
-
-map_contains : {X Y : Type 0} (f : X → Y) (xs : List X) (x : X) → Contains xs x → Contains (map f xs) (f x)
-map_contains f [] x h = absurd (contains_none x h)
-map_contains f (z ∷ xs) x h = by_cases (cons_cases z xs x h) (map_contains f xs x)
-  where
-    by_cases : (z ≡ x) ⊎ Contains xs x → (Contains xs x → Contains (map f xs) (f x)) → Contains (map f (z ∷ xs)) (f x)
-    by_cases (inl same) later = contains_head (f z) (map f xs) (f x) (ap f same)
-    by_cases (inr there) later = contains_tail (f z) (map f xs) (f x) (later there)
-
-object_self : (a : ObjId) → same_object a a ≡ true
+-- an object has its own number
+pub object_self : (a : ObjId) → same_object a a ≡ true
 object_self a = grind (arith, nat_tests)
 
 -- WHAT IS DENOTED IS AN OBJECT OF THE PACKAGE
