@@ -1,4 +1,6 @@
+pub mod FindLemmas
 pub mod ListLemmas
+pub mod NamedLemmas
 pub mod PartLemmas
 pub mod PlaceLemmas
 pub mod ReadLemmas

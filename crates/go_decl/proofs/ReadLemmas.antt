@@ -1,5 +1,5 @@
 -- What is read off the outcomes of nodes that were walked is what their outcomes over the headers say.
-use Rattle.std.proofs.Common.{◌≡◌, ℕ, Bool, true, false, Option, List, [], ◌∷◌, ◌++◌, Contains, length, map, refl, sym, ap, subst, ⊎_elim}
+use Rattle.std.proofs.Common.{◌≡◌, ℕ, Bool, true, false, Option, List, [], ◌∷◌, ◌++◌, Contains, length, map, refl, sym, ap, subst, ⊎_elim, ◌∙◌}
 use Rattle.std.specs.Prelude.{◌==◌, ◌&&◌, is_some, not, option_and_then, if◌then◌else◌}
 use Rattle.std.specs.List.{flat_map, list_all}
 use Rattle.std.proofs.lemmas.List.Elements.{Contains-append_cases, Contains-append_left, Contains-append_right}
@@ -18,10 +18,11 @@ use Rattle.go_model.specs.Outcomes.Records.{RecData, declared_header}
 use Rattle.go_model.specs.Outcomes.Walk.{Headers, outcome}
 use Rattle.go_model.specs.Outcomes.Walked.{AreWalked, Outcomes, nodes_of}
 use Rattle.go_model.specs.Values.Records.{bound_value, header_by, header_over, record_by, record_of}
-use Rattle.go_model.specs.Values.Rules.{broken_by, broken_in, broken_node, broken_spec, broken_spec_by, unequal_sides}
+use Rattle.go_model.specs.Values.Rules.{broken_by, broken_in, broken_node, broken_spec, broken_spec_by, unequal_at, unequal_by, unequal_sides}
 use Rattle.go_model.proofs.FlatLemmas.{flat_cases, flat_contains, flat_map-same, map_cases, only_is}
 use Rattle.go_expr.specs.Read.{nodes_under, outcome_read}
 use Rattle.go_expr.proofs.ReadLemmas.{read_is}
+use Rattle.go_decl.specs.Parts.{broken_under, unequal_for}
 
 -- a node is a node in itself
 self_in : (t : Tree) → Contains (nodes_in t) t
@@ -59,6 +60,26 @@ rests_within spec d h x i = by_test (length spec.names == length spec.values) h
         let name = map_cases (with_list spec) spec.names d j in
         subst (λ (e : Declaration). Contains (rests_on e) x) (sym name.2) i
 
+pairs_built : (spec : Spec) (names values : List Tree) (d : Declaration) → Contains (pairs spec names values) d → d.built ≡ Pair
+pairs_built spec [] values d h = absurd (contains_none d h)
+pairs_built spec (n ∷ names) [] d h = absurd (contains_none d h)
+pairs_built spec (n ∷ names) (v ∷ values) d h =
+    let first : Declaration = record { file = spec.file; kind = spec.kind; name = n; types = spec.types; values = v ∷ []; built = Pair } in
+    ⊎_elim
+    (λ (here : first ≡ d). sym (ap (λ (e : Declaration). e.built) here))
+    (λ (there : Contains (pairs spec names values) d). pairs_built spec names values d there)
+    (cons_cases first (pairs spec names values) d h)
+
+-- a declaration to which the whole list belongs rests on all expressions of its spec
+whole_list : (spec : Spec) (d : Declaration) → Contains (declared_in spec) d → d.built ≡ WholeList → spec.values ≡ d.values
+whole_list spec d h is = by_test (length spec.names == length spec.values) h
+  where
+    by_test : (b : Bool) → Contains (if b then pairs spec spec.names spec.values else map (with_list spec) spec.names) d → spec.values ≡ d.values
+    by_test true j = absurd (let never : Pair ≡ WholeList = sym (pairs_built spec spec.names spec.values d j) ∙ is in cc)
+    by_test false j =
+        let name = map_cases (with_list spec) spec.names d j in
+        ap (λ (e : Declaration). e.values) name.2
+
 pub declared_within : (spec : Spec) (d : Declaration) → Contains (declared_in spec) d → (t : Tree) → Contains (nodes_under d) t → Contains (nodes_in_parts spec) t
 declared_within spec d h t i =
     let part = flat_cases nodes_in (rests_on d) t i in
@@ -85,16 +106,36 @@ module _ (means : ℕ → Meaning) (headers : Headers) (outcomes : Outcomes) whe
     record_same : (x : Tree) → ((t : Tree) → Contains (nodes_in x) t → Contains nodes t) → record_by read x ≡ record_of means headers x
     record_same x within = ap record_in (is x (within x (self_in x)))
 
+    each_same : (file : ℕ) (told : Option ℕ) (xs : List Tree) → ((x : Tree) → Contains xs x → (t : Tree) → Contains (nodes_in x) t → Contains nodes t) → flat_map (broken_by read file told) xs ≡ flat_map (broken_in file told means headers) xs
+    each_same file told xs inside = flat_map-same (broken_by read file told) (broken_in file told means headers) xs (λ x h. part_same file told x (inside x h))
+
+    unequal_same : (spec : Spec) → ((v : Tree) → Contains spec.values v → (t : Tree) → Contains (nodes_in v) t → Contains nodes t) → unequal_by read spec ≡ unequal_at means headers spec
+    unequal_same spec inside =
+        let records : list_all (λ v. is_some (record_by read v)) spec.values ≡ list_all (λ v. is_some (record_of means headers v)) spec.values =
+        list_all-same (λ v. is_some (record_by read v)) (λ v. is_some (record_of means headers v)) spec.values (λ v h. ap is_some (record_same v (inside v h))) in
+        (λ i. told_if (not (length spec.names == length spec.values) && records i) (broken_at spec.file (start_of spec.node) unequal_sides))
+
     spec_same : (spec : Spec) → ((t : Tree) → Contains (nodes_in_parts spec) t → Contains nodes t) → broken_spec_by read spec ≡ broken_spec means headers spec
     spec_same spec within =
         let inside : (x : Tree) → Contains (spec.types ++ spec.values) x → (t : Tree) → Contains (nodes_in x) t → Contains nodes t =
         λ x h t i. within t (flat_contains nodes_in (spec.types ++ spec.values) x t h i) in
-        let records : list_all (λ v. is_some (record_by read v)) spec.values ≡ list_all (λ v. is_some (record_of means headers v)) spec.values =
-        list_all-same (λ v. is_some (record_by read v)) (λ v. is_some (record_of means headers v)) spec.values
-        (λ v h. ap is_some (record_same v (inside v (Contains-append_right spec.types spec.values v h)))) in
-        let parts : flat_map (broken_by read spec.file spec.told_at) (spec.types ++ spec.values) ≡ flat_map (broken_in spec.file spec.told_at means headers) (spec.types ++ spec.values) =
-        flat_map-same (broken_by read spec.file spec.told_at) (broken_in spec.file spec.told_at means headers) (spec.types ++ spec.values) (λ x h. part_same spec.file spec.told_at x (inside x h)) in
-        (λ i. told_if (not (length spec.names == length spec.values) && records i) (broken_at spec.file (start_of spec.node) unequal_sides) ++ parts i)
+        let unequal = unequal_same spec (λ v h. inside v (Contains-append_right spec.types spec.values v h)) in
+        let parts = each_same spec.file spec.told_at (spec.types ++ spec.values) inside in
+        (λ i. unequal i ++ parts i)
+
+    unequal_for_same : (b : Built) (spec : Spec) → (b ≡ WholeList → (v : Tree) → Contains spec.values v → (t : Tree) → Contains (nodes_in v) t → Contains nodes t) → unequal_for read b spec ≡ unequal_for (outcome means headers) b spec
+    unequal_for_same WholeList spec inside = unequal_same spec (inside refl)
+    unequal_for_same Pair spec inside = refl
+    unequal_for_same Itself spec inside = refl
+
+    -- what a declaration of a spec breaks
+    pub under_same : (spec : Spec) (d : Declaration) → Contains (declared_in spec) d → ((t : Tree) → Contains (nodes_under d) t → Contains nodes t) → broken_under read spec d ≡ broken_under (outcome means headers) spec d
+    under_same spec d h within =
+        let inside : (x : Tree) → Contains (rests_on d) x → (t : Tree) → Contains (nodes_in x) t → Contains nodes t =
+        λ x i t j. within t (flat_contains nodes_in (rests_on d) x t i j) in
+        let unequal = unequal_for_same d.built spec (λ is v k. inside v (Contains-append_right d.types d.values v (subst (λ (vs : List Tree). Contains vs v) (whole_list spec d h is) k))) in
+        let parts = each_same spec.file spec.told_at (rests_on d) inside in
+        (λ i. unequal i ++ parts i)
 
     value_same : (b : Built) (values : List Tree) → ((x : Tree) → Contains values x → (t : Tree) → Contains (nodes_in x) t → Contains nodes t) → option_and_then (record_by read) (bound_value b values) ≡ option_and_then (record_of means headers) (bound_value b values)
     value_same Pair [] within = refl

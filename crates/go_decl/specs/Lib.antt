@@ -1,5 +1,6 @@
 -- what public contracts cite
 pub mod Broken
+pub mod Parts
 pub mod Rounds
 -- what inner functions promise each other
 pub mod Places

@@ -6,17 +6,18 @@ ghost use Rattle.std.specs.Option.{option_map};
 ghost use Rattle.go_tree.specs.Tree.{tree_of};
 ghost use Rattle.go_module.specs.Broken.{broken_at};
 ghost use Rattle.go_model.specs.Outcomes.Readings.{broken_spots, part_start, spot_start};
-ghost use Rattle.go_names.specs.Views.{spec_view};
+ghost use Rattle.go_names.specs.Views.{declaration_view, spec_view};
 ghost use Rattle.go_expr.specs.Read.{outcome_read};
 ghost use Rattle.go_model.specs.Values.Records.{record_by};
-ghost use Rattle.go_model.specs.Values.Rules.{are_unequal_by, broken_by, broken_spec_by};
+ghost use Rattle.go_model.specs.Values.Rules.{are_unequal_by, broken_by, broken_spec_by, unequal_by};
+ghost use Rattle.go_decl.specs.Parts.{broken_under, unequal_for};
 
 use crate::rules::UNEQUAL_SIDES;
 use go_base::{Broken, NoMemory, Rule};
 use go_expr::nodes_in;
 use go_model::{ExprWalk, Outcome, Spot};
-use go_module::{add_if, broken_at};
-use go_names::Spec;
+use go_module::{Built, add_if, broken_at};
+use go_names::{Declaration, Spec};
 use go_tree::Node;
 use std::alloc::Global;
 
@@ -31,11 +32,57 @@ pub fn push_spec<W: ExprWalk>(
     ensures { OnOk result (found.new.items ≡ found.old.items
         ++ broken_spec_by (outcome_read (W.outcomes walks.now)) (spec_view spec.now)) }
 {
-    let unequal = are_unequal(walks, spec.names, spec.values);
-    let start = spec.node.start();
-    add_if(found, unequal, broken_at(spec.file, start, UNEQUAL_SIDES))?;
+    push_unequal(walks, spec, found)?;
     push_nodes(alloc, walks, spec, spec.types, found)?;
     push_nodes(alloc, walks, spec, spec.values, found)
+}
+
+/// Pushes what a declaration of a spec breaks: R37 at the spec, where its header rests on the whole list, and what the
+/// nodes of its types and expressions break. An error is want of memory.
+pub fn push_part<W: ExprWalk>(
+    alloc: Global,
+    walks: &W,
+    spec: &Spec,
+    declaration: &Declaration,
+    found: &mut Vec<Broken>,
+) -> Result<(), NoMemory>
+    ensures { OnOk result (found.new.items ≡ found.old.items
+        ++ broken_under (outcome_read (W.outcomes walks.now)) (spec_view spec.now) (declaration_view declaration.now)) }
+{
+    push_unequal_for(walks, declaration.built, spec, found)?;
+    push_nodes(alloc, walks, spec, declaration.types, found)?;
+    push_nodes(alloc, walks, spec, declaration.values, found)
+}
+
+// Pushes R37 at a spec whose whole list belongs to each of its names.
+fn push_unequal_for<W: ExprWalk>(
+    walks: &W,
+    built: Built,
+    spec: &Spec,
+    found: &mut Vec<Broken>,
+) -> Result<(), NoMemory>
+    ensures { OnOk result (found.new.items
+        ≡ found.old.items ++ unequal_for (outcome_read (W.outcomes walks.now)) built (spec_view spec.now)) }
+{
+    match built {
+        Built::WholeList => push_unequal(walks, spec, found),
+        Built::Pair => Ok(()),
+        Built::Itself => Ok(()),
+    }
+}
+
+// Pushes R37 at a spec whose numbers of names and of expressions differ.
+fn push_unequal<W: ExprWalk>(
+    walks: &W,
+    spec: &Spec,
+    found: &mut Vec<Broken>,
+) -> Result<(), NoMemory>
+    ensures { OnOk result (found.new.items
+        ≡ found.old.items ++ unequal_by (outcome_read (W.outcomes walks.now)) (spec_view spec.now)) }
+{
+    let unequal = are_unequal(walks, spec.names, spec.values);
+    let start = spec.node.start();
+    add_if(found, unequal, broken_at(spec.file, start, UNEQUAL_SIDES))
 }
 
 // Whether the numbers of names and of expressions differ, and all expressions have records.

@@ -93,8 +93,8 @@ fn rounds_in<R: Rules, L: Ledger>(
     broken_values(alloc, &places, rules, &cyclic, &specs, &declarations, own)
 }
 
-// The specs of a package, file after file.
-fn package_specs<'a>(alloc: Global, own: &'a Package) -> Result<Vec<Spec<'a>>, NoMemory>
+/// The specs of a package, file after file. An error is want of memory.
+pub fn package_specs<'a>(alloc: Global, own: &'a Package) -> Result<Vec<Spec<'a>>, NoMemory>
     ensures { IfOk result (λ specs. specs_view specs.items ≡ specs_of (package_view own.now)) }
 {
     let mut specs = Vec::new(alloc);

@@ -1,11 +1,11 @@
 // Walks over the expressions and types of a package (Go specification, "Expressions", "Constant declarations").
-ghost use Rattle.std.specs.Prelude.{◌≡◌, ℕ, OnOk, map};
+ghost use Rattle.std.specs.Prelude.{◌≡◌, ◌++◌, ℕ, OnOk, map};
 ghost use Rattle.std.specs.List.{flat_map};
 ghost use Rattle.go_tree.specs.Tree.{tree_of};
 ghost use Rattle.go_module.specs.Names.Occurrences.{nodes_in, nodes_in_parts};
 ghost use Rattle.go_model.specs.Outcomes.Walked.{walked_over};
 ghost use Rattle.go_model.specs.Values.Meaning.{AreThere, meaning_by};
-ghost use Rattle.go_names.specs.Views.{spec_view, specs_view};
+ghost use Rattle.go_names.specs.Views.{specs_view};
 
 use go_base::NoMemory;
 use go_model::ExprWalk;
@@ -24,23 +24,30 @@ pub fn walk_specs<W: ExprWalk>(alloc: Global, walks: &mut W, specs: &[Spec]) -> 
     ensures world { W.world walks.new ≡ W.world walks.old }
 {
     for place in (0..specs.len()).rev() {
-        walk_spec(alloc, walks, &specs[place])?;
+        let spec = specs[place];
+        walk_parts(alloc, walks, spec.types, spec.values)?;
     }
     Ok(())
 }
 
-// Walks over the expressions and the type of a spec.
-fn walk_spec<W: ExprWalk>(alloc: Global, walks: &mut W, spec: &Spec) -> Result<(), NoMemory>
+/// Walks over these types and these expressions, the last first. It asks that each object that is denoted is there. An
+/// error is want of memory.
+pub fn walk_parts<W: ExprWalk>(
+    alloc: Global,
+    walks: &mut W,
+    types: &[Node],
+    values: &[Node],
+) -> Result<(), NoMemory>
     requires { AreThere (W.names walks.old) }
     ensures reached { OnOk result ((n : ℕ) → W.outcomes walks.new n
-        ≡ walked_over (meaning_by (W.names walks.old)) (W.headers walks.old) (nodes_in_parts (spec_view spec.now))
-        (W.outcomes walks.old) n) }
+        ≡ walked_over (meaning_by (W.names walks.old)) (W.headers walks.old)
+        (flat_map nodes_in (map tree_of types.now ++ map tree_of values.now)) (W.outcomes walks.old) n) }
     ensures same { W.headers walks.new ≡ W.headers walks.old }
     ensures names { W.names walks.new ≡ W.names walks.old }
     ensures world { W.world walks.new ≡ W.world walks.old }
 {
-    walk_nodes(alloc, walks, spec.values)?;
-    walk_nodes(alloc, walks, spec.types)
+    walk_nodes(alloc, walks, values)?;
+    walk_nodes(alloc, walks, types)
 }
 
 // Walks over these expressions and types, the last first.

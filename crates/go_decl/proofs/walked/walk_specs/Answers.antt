@@ -18,11 +18,11 @@ loop-place-preserved g c =
     let at : x ∷ drop c.loop-place.place xs ≡ drop i xs =
     sym (drop-cons xs i x (omega arith) ∙ (λ j. sym c.index-specs-place.is j ∷ drop (next j) xs)) in
     record {
-      same = c.walk_spec.ensures.same ∙ inv.same;
-      names = c.walk_spec.ensures.names ∙ inv.names;
-      world = c.walk_spec.ensures.world ∙ inv.world;
+      same = c.walk_parts.ensures.same ∙ inv.same;
+      names = c.walk_parts.ensures.names ∙ inv.names;
+      world = c.walk_parts.ensures.world ∙ inv.world;
       reached = walked_more (meaning_by (g.W.Ask.names c.args.walks.now)) (meaning_by (g.W.Ask.names c.loop-place.walks)) (g.W.Ask.headers c.args.walks.now) (g.W.Ask.headers c.loop-place.walks)
           (nodes_in_parts (spec_view x)) (flat_map nodes_in_parts (specs_view (drop c.loop-place.place xs))) (flat_map nodes_in_parts (specs_view (drop i xs)))
-          (g.W.Ask.outcomes c.args.walks.now) (g.W.Ask.outcomes c.loop-place.walks) (g.W.Ask.outcomes c.walk_spec.new.walks) (ap meaning_by inv.names) inv.same
-          (ap (λ (l : List Spec). flat_map nodes_in_parts (specs_view l)) at) inv.reached c.in_ok-walk_spec.ensures.reached;
+          (g.W.Ask.outcomes c.args.walks.now) (g.W.Ask.outcomes c.loop-place.walks) (g.W.Ask.outcomes c.walk_parts.new.walks) (ap meaning_by inv.names) inv.same
+          (ap (λ (l : List Spec). flat_map nodes_in_parts (specs_view l)) at) inv.reached c.in_ok-walk_parts.ensures.reached;
     }
