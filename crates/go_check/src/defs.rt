@@ -18,8 +18,9 @@ ghost use Rattle.go_check.specs.View.{outline_view};
 
 use crate::outline::Outline;
 use crate::own_file::OwnFile;
+use crate::rulebook::Rulebook;
 use go_base::NoMemory;
-use go_expr::{Walker, header_by};
+use go_expr::header_by;
 use go_model::{DefKind, Header, Line, What};
 use go_module::text_name;
 use go_names::{Declaration, declarations_in};
@@ -31,10 +32,10 @@ pub fn found_defs(
     alloc: Global,
     outline: &Outline,
     file: &OwnFile,
-    walker: &Walker,
+    book: &Rulebook,
 ) -> Result<Vec<Line>, NoMemory>
     ensures { IfOk result (λ lines. map line_view lines.items ≡ def_lines (outline_view outline.now)
-        (outcome_read (outcomes_view walker.now)) (own_file_view file.now)) }
+        (outcome_read (outcomes_view book.now.walker)) (own_file_view file.now)) }
 {
     let mut lines = Vec::new(alloc);
     push_imports(
@@ -46,7 +47,7 @@ pub fn found_defs(
         &mut lines,
     )?;
     let declarations = declarations_in(alloc, &file.specs)?;
-    push_declarations(alloc, file, walker, &declarations, &mut lines)?;
+    push_declarations(alloc, file, book, &declarations, &mut lines)?;
     Ok(lines)
 }
 
@@ -116,16 +117,16 @@ fn is_dot(name: &Node) -> bool
 fn push_declarations(
     alloc: Global,
     file: &OwnFile,
-    walker: &Walker,
+    book: &Rulebook,
     declarations: &[Declaration],
     lines: &mut Vec<Line>,
 ) -> Result<(), NoMemory>
     ensures { OnOk result (map line_view lines.new.items ≡ map line_view lines.old.items ++ flat_map
-        (def_by (outcome_read (outcomes_view walker.now)) file.now.stub (file_view file.now.file.now))
+        (def_by (outcome_read (outcomes_view book.now.walker)) file.now.stub (file_view file.now.file.now))
         (declarations_view declarations.now)) }
 {
     for declaration in declarations {
-        push_declaration(alloc, file, walker, declaration, lines)?;
+        push_declaration(alloc, file, book, declaration, lines)?;
     }
     Ok(())
 }
@@ -134,15 +135,15 @@ fn push_declarations(
 fn push_declaration(
     alloc: Global,
     file: &OwnFile,
-    walker: &Walker,
+    book: &Rulebook,
     declaration: &Declaration,
     lines: &mut Vec<Line>,
 ) -> Result<(), NoMemory>
     ensures { OnOk result (map line_view lines.new.items ≡ map line_view lines.old.items
-        ++ def_by (outcome_read (outcomes_view walker.now)) file.now.stub (file_view file.now.file.now)
+        ++ def_by (outcome_read (outcomes_view book.now.walker)) file.now.stub (file_view file.now.file.now)
         (declaration_view declaration.now)) }
 {
-    if let Some(header) = header_by(walker, declaration)? {
+    if let Some(header) = header_by(book, declaration)? {
         lines.push(def_line(alloc, file, declaration.name, told_as(header))?)?;
     }
     Ok(())

@@ -40,7 +40,7 @@ pub fn lines_of(
         → spec.AreLines (outline_view outline.now) k p (denotes_by book.now.judge) means headers
         (map line_view lines.items)) }
 {
-    let defs = all_defs(alloc, outline, files, &book.walker)?;
+    let defs = all_defs(alloc, outline, files, book)?;
     let uses = all_uses(alloc, outline, files, book)?;
     let exprs = all_exprs(alloc, files, &book.walker)?;
     joined(alloc, defs, uses, exprs)
@@ -80,14 +80,14 @@ fn all_defs(
     alloc: Global,
     outline: &Outline,
     files: &[OwnFile],
-    walker: &Walker,
+    book: &Rulebook,
 ) -> Result<Vec<Line>, NoMemory>
     ensures { IfOk result (λ lines. AreInOrder (map (def_lines (outline_view outline.now)
-        (outcome_read (outcomes_view walker.now))) (own_files_view files.now)) (map line_view lines.items)) }
+        (outcome_read (outcomes_view book.now.walker))) (own_files_view files.now)) (map line_view lines.items)) }
 {
     let mut lines = Vec::new(alloc);
     for file in files {
-        add_in_order(found_defs(alloc, outline, file, walker)?, &mut lines)?;
+        add_in_order(found_defs(alloc, outline, file, book)?, &mut lines)?;
     }
     Ok(lines)
 }

@@ -15,9 +15,9 @@ ghost use Rattle.go_decl.specs.Parts.{Part, broken_part, broken_part_by, part_na
 
 use crate::broken::push_part;
 use crate::parts::{FoundPart, part_named};
-use crate::read::header_by;
 use crate::walked::walk_parts;
 use go_base::{Broken, NoMemory, Steps};
+use go_expr::header_by;
 use go_model::{ExprWalk, Header, Rules};
 use go_module::{Module, ObjId, Scopes, ordered, with_numbers};
 use std::alloc::Global;

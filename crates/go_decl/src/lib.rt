@@ -15,7 +15,6 @@ mod places;
 
 // Walks over a package, and what is read off their outcomes.
 mod broken;
-mod read;
 mod values;
 mod waits;
 mod walked;

@@ -10,9 +10,7 @@ ghost use Rattle.go_model.specs.Values.Meaning.{AreThere, meaning_by};
 ghost use Rattle.go_model.specs.Values.Records as records;
 ghost use Rattle.go_names.specs.Views.{declaration_view};
 ghost use Rattle.go_expr.specs.Read.{outcome_read};
-ghost use Rattle.go_expr.specs.Walker.{outcomes_view};
 
-use crate::walker::Walker;
 use go_base::NoMemory;
 use go_model::{ExprWalk, Header, Outcome, Rec};
 use go_module::Built;
@@ -40,14 +38,31 @@ pub fn header_over<W: ExprWalk>(
     }
 }
 
-/// The header of a declaration by the outcomes of walks. An error is want of memory.
-pub fn header_by(walker: &Walker, declaration: &Declaration) -> Result<Option<Header>, NoMemory>
+/// The header of a declaration by the outcomes of its nodes. An error is want of memory.
+pub fn header_by<W: ExprWalk>(
+    walks: &W,
+    declaration: &Declaration,
+) -> Result<Option<Header>, NoMemory>
     ensures { IfOk result (λ header. option_map header_view header
-        ≡ records.header_by (outcome_read (outcomes_view walker.now)) (declaration_view declaration.now)) }
+        ≡ records.header_by (outcome_read (W.outcomes walks.now)) (declaration_view declaration.now)) }
 {
     match bound_value(declaration) {
-        Some(value) => header_of(walker.found(value.id())),
+        Some(value) => header_of(record_of(walks, value)),
         None => Ok(None),
+    }
+}
+
+// The record of a node by its outcome.
+fn record_of<'a, W: ExprWalk>(walks: &'a W, node: &Node) -> Option<&'a Rec>
+    ensures { option_map (λ rec. rec_view rec.now) result
+        ≡ records.record_by (outcome_read (W.outcomes walks.now)) (tree_of node.now) }
+{
+    match walks.outcome(node.id()) {
+        Some(Outcome::Found(found)) => Some(found),
+        Some(Outcome::Broken(_, _)) => None,
+        Some(Outcome::Waits(_)) => None,
+        Some(Outcome::Nothing) => None,
+        None => None,
     }
 }
 

@@ -11,5 +11,5 @@ use Rattle.go_check.proofs.defs.push_declarations.Given as goal
 -- what is pushed, with the lines of the declarations left, are those of all declarations
 abbrev pub invariant-loop-declaration : goal.invariant-loop-declaration
 invariant-loop-declaration l =
-    let line = def_by (outcome_read (outcomes_view l.walker)) l.file.stub (file_view l.file.file.now) in
+    let line = def_by (outcome_read (outcomes_view l.book.walker)) l.file.stub (file_view l.file.file.now) in
     map line_view l.lines.items ++ flat_map line (declarations_view (drop l.declaration-index l.declarations)) ≡ map line_view l.fn.lines.items ++ flat_map line (declarations_view l.declarations)

@@ -10,4 +10,4 @@ use Rattle.go_check.proofs.lines.all_defs.Given as goal
 -- what is added, before lines of the files left in order, is in order
 abbrev pub invariant-loop-file : goal.invariant-loop-file
 invariant-loop-file l =
-    (rest : List LineData) → AreInOrder (map (def_lines (outline_view l.outline) (outcome_read (outcomes_view l.walker))) (own_files_view (drop l.file-index l.files))) rest → AreInOrder (map (def_lines (outline_view l.outline) (outcome_read (outcomes_view l.walker))) (own_files_view l.files)) (map line_view l.lines.items ++ rest)
+    (rest : List LineData) → AreInOrder (map (def_lines (outline_view l.outline) (outcome_read (outcomes_view l.book.walker))) (own_files_view (drop l.file-index l.files))) rest → AreInOrder (map (def_lines (outline_view l.outline) (outcome_read (outcomes_view l.book.walker))) (own_files_view l.files)) (map line_view l.lines.items ++ rest)
