@@ -54,21 +54,27 @@ module _ (m : ModuleData) (k : ℕ) (p : PackageData) where
   HasEntry d = (o : Object) × Contains entries (d, o)
 
   outer_entry : (r : Region) → Contains (outer_regions (known_in m) k p) r → HasEntry (object_id r.object)
-  outer_entry r h =
-      (r.object, Contains-append_left outer_entries (member_entries ++ block_entries) (object_id r.object, r.object)
-      (map_contains (λ (x : Region). (object_id x.object, x.object)) (outer_regions (known_in m) k p) r h))
+  outer_entry r h = (
+    r.object,
+    Contains-append_left outer_entries (member_entries ++ block_entries) (object_id r.object, r.object)
+        (map_contains (λ (x : Region). (object_id x.object, x.object)) (outer_regions (known_in m) k p) r h),
+  )
 
   member_entry : (member : Member) → Contains (members_of (known_in m) k p) member → HasEntry (object_id member.object)
-  member_entry member h =
-      (member.object, Contains-append_right outer_entries (member_entries ++ block_entries) (object_id member.object, member.object)
-      (Contains-append_left member_entries block_entries (object_id member.object, member.object)
-      (map_contains (λ (x : Member). (object_id x.object, x.object)) (members_of (known_in m) k p) member h)))
+  member_entry member h = (
+    member.object,
+    Contains-append_right outer_entries (member_entries ++ block_entries) (object_id member.object, member.object)
+        (Contains-append_left member_entries block_entries (object_id member.object, member.object)
+        (map_contains (λ (x : Member). (object_id x.object, x.object)) (members_of (known_in m) k p) member h)),
+  )
 
   block_entry : (r : Region) → Contains (package_block k p) r → HasEntry (object_id r.object)
-  block_entry r h =
-      (r.object, Contains-append_right outer_entries (member_entries ++ block_entries) (object_id r.object, r.object)
-      (Contains-append_right member_entries block_entries (object_id r.object, r.object)
-      (map_contains (λ (x : Region). (object_id x.object, x.object)) (package_block k p) r h)))
+  block_entry r h = (
+    r.object,
+    Contains-append_right outer_entries (member_entries ++ block_entries) (object_id r.object, r.object)
+        (Contains-append_right member_entries block_entries (object_id r.object, r.object)
+        (map_contains (λ (x : Region). (object_id x.object, x.object)) (package_block k p) r h)),
+  )
 
   region_entry : (r : Region) → Contains regions r → HasEntry (object_id r.object)
   region_entry r h = by_universe (Contains-append_cases universe (package_block k p ++ file_regions) r h)
