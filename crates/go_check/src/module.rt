@@ -34,10 +34,11 @@ pub struct State<'a> {
     pub reports: Vec<PackageReport>,
 }
 
-/// The report of a module, package after package in import order: what its names break, else what its values
-/// break, else its lines; a package is skipped where one that it imports is not accepted. The scopes of all packages
-/// are collected before values are asked. It asks that in no package two nodes of types or expressions have one number, as
-/// in each module that is loaded. An error is want of memory. Steps are counted, and nothing is said of their count.
+/// The report of a module, package after package in import order: what its names break, else what its values break,
+/// else its lines; a package is skipped where one that it imports is not accepted. The scopes of all packages are
+/// collected before values are asked. It asks that in no package two nodes of types or expressions have one number,
+/// as in each module that is loaded. An error is want of memory. Steps are counted, and nothing is said of their
+/// count.
 pub fn check_module<L: Ledger>(
     alloc: Global,
     module: &Module,

@@ -15,8 +15,8 @@ use go_term::Ty;
 use go_tree::{Node, NodeId};
 use std::alloc::Global;
 
-/// The headers of a module that are known, and the scopes of its packages, of which one is entered: the identifiers that
-/// it speaks of are those of this package.
+/// The headers of a module that are known, and the scopes of its packages, of which one is entered: the identifiers
+/// that it speaks of are those of this package.
 #[derive(Drop)]
 pub struct ModuleJudge<'a> {
     pub module: &'a Module,

@@ -20,8 +20,8 @@ use indexmap::IndexMap;
 use std::alloc::Global;
 use std::sync::ledger::Ledger;
 
-/// Goes round until a round adds no header. The rules and `known` have the same headers. An error is want of memory; some
-/// headers may be known then, and no others.
+/// Goes round until a round adds no header. The rules and `known` have the same headers. An error is want of memory;
+/// some headers may be known then, and no others.
 pub fn add_rounds<R: Rules, L: Ledger>(
     alloc: Global,
     rules: &mut R,
@@ -35,8 +35,8 @@ pub fn add_rounds<R: Rules, L: Ledger>(
     requires places { ArePlaces (declarations_view declarations.now) places.now.entries }
     ensures exact { OnOk result ((d : ℕ) (h : HeaderData) → (R.headers rules.new d ≡ Some h)
         ↔ Known (R.headers rules.old) (meaning_by (R.names rules.old)) (declarations_view declarations.now) d h) }
-    ensures backed { IsBacked (R.headers rules.old) (meaning_by (R.names rules.old)) (declarations_view declarations.now)
-        (R.headers rules.new) }
+    ensures backed { IsBacked (R.headers rules.old) (meaning_by (R.names rules.old))
+        (declarations_view declarations.now) (R.headers rules.new) }
     ensures known { OnOk result (headers_view known.new ≡ R.headers rules.new) }
     ensures kept { OnErr result (IsBacked (R.headers rules.old) (meaning_by (R.names rules.old))
         (declarations_view declarations.now) (headers_view known.new)) }
@@ -59,8 +59,8 @@ fn add_round<R: Rules, L: Ledger>(
     requires there { AreThere (R.names rules.old) }
     requires same { headers_view known.old ≡ R.headers rules.old }
     requires places { ArePlaces (declarations_view declarations.now) places.now.entries }
-    ensures backed { IsBacked (R.headers rules.old) (meaning_by (R.names rules.old)) (declarations_view declarations.now)
-        (R.headers rules.new) }
+    ensures backed { IsBacked (R.headers rules.old) (meaning_by (R.names rules.old))
+        (declarations_view declarations.now) (R.headers rules.new) }
     ensures fewer { IfOk result (λ added. IsTrue added
         → open_in (R.headers rules.new) (declarations_view declarations.now)
         < open_in (R.headers rules.old) (declarations_view declarations.now)) }
@@ -95,8 +95,8 @@ fn add_one<R: Rules, L: Ledger>(
     requires same { headers_view known.old ≡ R.headers rules.old }
     requires places { ArePlaces (declarations_view declarations.now) places.now.entries }
     requires within { place < length declarations.now }
-    ensures backed { IsBacked (R.headers rules.old) (meaning_by (R.names rules.old)) (declarations_view declarations.now)
-        (R.headers rules.new) }
+    ensures backed { IsBacked (R.headers rules.old) (meaning_by (R.names rules.old))
+        (declarations_view declarations.now) (R.headers rules.new) }
     ensures fewer { IfOk result (λ added. IsTrue added
         → open_in (R.headers rules.new) (declarations_view declarations.now)
         < open_in (R.headers rules.old) (declarations_view declarations.now)) }

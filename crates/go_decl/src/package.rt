@@ -24,13 +24,13 @@ use go_names::{Spec, declarations_in, specs_in_file};
 use std::alloc::Global;
 use std::sync::ledger::Ledger;
 
-/// Finds the headers of the package at a place of the module in rounds, and tells them to the rules and to `known`, which
-/// have the same headers before; then walks once over all that stands behind the names of its specs, and answers what its
-/// values break, as the list of a report: each declaration that waits for its own header, and each rule that a spec or a
-/// node breaks over these headers. It asks that the rules speak of the identifiers of this package, that each object that
-/// is denoted is there, and that no two nodes of the package have one number. Of several declarations with one number the
-/// first is meant. Each try to find a header is a step. An error is want of memory; some of these headers may be known
-/// then, and no others.
+/// Finds the headers of the package at a place of the module in rounds, and tells them to the rules and to `known`,
+/// which have the same headers before; then walks once over all that stands behind the names of its specs, and
+/// answers what its values break, as the list of a report: each declaration that waits for its own header, and each
+/// rule that a spec or a node breaks over these headers. It asks that the rules speak of the identifiers of this
+/// package, that each object that is denoted is there, and that no two nodes of the package have one number. Of
+/// several declarations with one number the first is meant. Each try to find a header is a step. An error is want of
+/// memory; some of these headers may be known then, and no others.
 pub fn rounds<R: Rules, L: Ledger>(
     alloc: Global,
     rules: &mut R,
@@ -54,7 +54,8 @@ pub fn rounds<R: Rules, L: Ledger>(
         → slice_get (module_view «module».now).packages «package» ≡ Some p
         → AreBroken (meaning_by (R.names rules.old)) (R.headers rules.new) p list.items) }
     ensures err { OnErr result ((p : PackageData) → slice_get (module_view «module».now).packages «package» ≡ Some p
-        → IsBacked (R.headers rules.old) (meaning_by (R.names rules.old)) (declarations_of p) (headers_view known.new)) }
+        → IsBacked (R.headers rules.old) (meaning_by (R.names rules.old)) (declarations_of p)
+        (headers_view known.new)) }
     ensures names { R.names rules.new ≡ R.names rules.old }
     ensures world { R.world rules.new ≡ R.world rules.old }
 {

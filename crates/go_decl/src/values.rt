@@ -26,8 +26,8 @@ use indexmap::IndexMap;
 use std::alloc::Global;
 
 /// What the values of a package with these specs and declarations break, as the list of a report: C1 at each
-/// declaration that is marked as cyclic, and what its specs break by the outcomes of their nodes, each told by the number
-/// of its file. An error is want of memory.
+/// declaration that is marked as cyclic, and what its specs break by the outcomes of their nodes, each told by the
+/// number of its file. An error is want of memory.
 pub fn broken_values<W: ExprWalk>(
     alloc: Global,
     places: &IndexMap<ObjId, usize>,

@@ -13,12 +13,13 @@ use go_names::Spec;
 use go_tree::Node;
 use std::alloc::Global;
 
-/// Walks over these specs, the last first. It asks that each object that is denoted is there. An error is want of memory.
+/// Walks over these specs, the last first. It asks that each object that is denoted is there. An error is want of
+/// memory.
 pub fn walk_specs<W: ExprWalk>(alloc: Global, walks: &mut W, specs: &[Spec]) -> Result<(), NoMemory>
     requires { AreThere (W.names walks.old) }
     ensures reached { OnOk result ((n : ℕ) → W.outcomes walks.new n
-        ≡ walked_over (meaning_by (W.names walks.old)) (W.headers walks.old) (flat_map nodes_in_parts (specs_view specs.now))
-        (W.outcomes walks.old) n) }
+        ≡ walked_over (meaning_by (W.names walks.old)) (W.headers walks.old)
+        (flat_map nodes_in_parts (specs_view specs.now)) (W.outcomes walks.old) n) }
     ensures same { W.headers walks.new ≡ W.headers walks.old }
     ensures names { W.names walks.new ≡ W.names walks.old }
     ensures world { W.world walks.new ≡ W.world walks.old }

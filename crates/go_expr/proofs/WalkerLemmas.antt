@@ -15,7 +15,7 @@ use Rattle.go_model.specs.Outcomes.Records.{RecData}
 use Rattle.go_model.specs.Outcomes.View.{outcome_view}
 use Rattle.go_model.specs.Outcomes.Walk.{Headers, outcome}
 use Rattle.go_model.specs.Outcomes.Walked.{ArePartly, Outcomes, walked_over}
-use Rattle.go_model.proofs.WalkedLemmas.{partly_more, walked-append, walked-same}
+use Rattle.go_model.proofs.WalkedLemmas.{partly_more, partly_walked, walked-append, walked-same}
 use Rattle.go_module.proofs.MemberLemmas.{contains_none, contains_tail}
 use Rattle.go_names.specs.Views.{trees_at}
 use Rattle.go_names.proofs.WalkLemmas.{nodes_in-inner}
@@ -49,6 +49,12 @@ pub part_within : (n : ℕ) (parts : List (Bor Node)) (part : Bor Node) (rest : 
 part_within n parts part rest t are at s h =
     rest_within n parts t are s
     (subst (λ (ps : List (Bor Node)). Contains (flat_map nodes_in (trees_at ps)) s) at (Contains-append_left (nodes_in (tree_of part.now)) (flat_map nodes_in (trees_at rest)) s h))
+
+-- where a walk over a node breaks off behind those over its parts from a place on
+pub broken_off : (means : ℕ → Meaning) (headers : Headers) (node : Tree) (inner : List (Bor Node)) (place : ℕ) (old mid : Outcomes) → trees_at inner ≡ inner_parts node
+    → ((n : ℕ) → mid n ≡ walked_over means headers (flat_map nodes_in (trees_at (drop place inner))) old n) → ArePartly means headers (nodes_in node) old mid
+broken_off means headers node inner place old mid are reached =
+    partly_walked means headers (flat_map nodes_in (trees_at (drop place inner))) (nodes_in node) old mid (rest_within place inner node are) reached
 
 -- a walk over a part that broke off, by the same meanings and headers
 pub partly_next : (means k : ℕ → Meaning) (headers h : Headers) (part node : Tree) (old mid new : Outcomes) → k ≡ means → h ≡ headers → ((s : Tree) → Contains (nodes_in part) s → Contains (nodes_in node) s)

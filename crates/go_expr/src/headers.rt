@@ -18,16 +18,17 @@ use go_names::Declaration;
 use go_tree::Node;
 use std::alloc::Global;
 
-/// The header of a declaration over the headers that are known, which stay as they are. It asks that each object that is
-/// denoted is there. An error is want of memory.
+/// The header of a declaration over the headers that are known, which stay as they are. It asks that each object that
+/// is denoted is there. An error is want of memory.
 pub fn header_over<W: ExprWalk>(
     alloc: Global,
     walks: &mut W,
     declaration: &Declaration,
 ) -> Result<Option<Header>, NoMemory>
     requires { AreThere (W.names walks.old) }
-    ensures header { IfOk result (λ header. option_map header_view header ≡ records.header_over (meaning_by (W.names walks.old))
-        (W.headers walks.old) (declaration_view declaration.now)) }
+    ensures header { IfOk result (λ header. option_map header_view header
+        ≡ records.header_over (meaning_by (W.names walks.old)) (W.headers walks.old)
+        (declaration_view declaration.now)) }
     ensures same { W.headers walks.new ≡ W.headers walks.old }
     ensures names { W.names walks.new ≡ W.names walks.old }
     ensures world { W.world walks.new ≡ W.world walks.old }

@@ -1,9 +1,9 @@
 //! What expressions come to over the headers that are known.
 //!
-//! A `Walker` walks over expressions and types and keeps the outcome of each node, by the node's number: a judge answers
-//! which headers are known and what identifiers denote, and each construct has a file of its own. `header_over` reads the
-//! header of a declaration off a walk, `header_by` off outcomes that are kept; `nodes_in` lists the nodes. How headers
-//! are found is left to go_decl, which rules are told where to go_check.
+//! A `Walker` walks over expressions and types and keeps the outcome of each node, by the node's number: a judge
+//! answers which headers are known and what identifiers denote, and each construct has a file of its own.
+//! `header_over` reads the header of a declaration off a walk, `header_by` off outcomes that are kept; `nodes_in`
+//! lists the nodes. How headers are found is left to go_decl, which rules are told where to go_check.
 #![tactic(auto)]
 
 mod rules;

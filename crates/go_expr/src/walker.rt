@@ -45,9 +45,9 @@ impl Walker {
     }
 
     /// The outcome of a node over the headers of the judge, which stays as it is, also on an error. It asks that each
-    /// object that is denoted is there. The walk reaches the node and all nodes in it, the name of a package before a `.`
-    /// too. `_want` is the type of the variable or the result to which the value is given; nothing is built yet that looks
-    /// at it. An error is want of memory; some of these nodes may have their outcomes then.
+    /// object that is denoted is there. The walk reaches the node and all nodes in it, the name of a package before a
+    /// `.` too. `_want` is the type of the variable or the result to which the value is given; nothing is built yet
+    /// that looks at it. An error is want of memory; some of these nodes may have their outcomes then.
     pub fn walk_node<J: Judge>(
         &mut self,
         alloc: Global,
@@ -60,8 +60,8 @@ impl Walker {
             ≡ walk.outcome (meaning_by (J.names judge.old)) (J.headers judge.old) (tree_of node.now)) }
         ensures reached { OnOk result ((n : ℕ) → outcomes_view self.new n ≡ walked_over (meaning_by (J.names judge.old))
             (J.headers judge.old) (nodes_in (tree_of node.now)) (outcomes_view self.old) n) }
-        ensures err { OnErr result (ArePartly (meaning_by (J.names judge.old)) (J.headers judge.old) (nodes_in (tree_of node.now))
-            (outcomes_view self.old) (outcomes_view self.new)) }
+        ensures err { OnErr result (ArePartly (meaning_by (J.names judge.old)) (J.headers judge.old)
+            (nodes_in (tree_of node.now)) (outcomes_view self.old) (outcomes_view self.new)) }
         ensures same { J.headers judge.new ≡ J.headers judge.old }
         ensures names { J.names judge.new ≡ J.names judge.old }
         ensures world { J.world judge.new ≡ J.world judge.old }
@@ -76,8 +76,8 @@ impl Walker {
         self.table.get(&id)
     }
 
-    /// The record of a node, None exactly where the last walk that reached it gave it none, or none did. Over more headers
-    /// records stay.
+    /// The record of a node, None exactly where the last walk that reached it gave it none, or none did. Over more
+    /// headers records stay.
     pub fn found(&self, id: NodeId) -> Option<&Rec>
         ensures { option_map (λ rec. rec_view rec.now) result
             ≡ option_and_then record_in (outcomes_view self.now id.0) }
@@ -104,8 +104,8 @@ fn walk<J: Judge>(
         ≡ walk.outcome (meaning_by (J.names judge.old)) (J.headers judge.old) (tree_of node.now)) }
     ensures reached { OnOk result ((n : ℕ) → outcomes_view walker.new n ≡ walked_over (meaning_by (J.names judge.old))
         (J.headers judge.old) (nodes_in (tree_of node.now)) (outcomes_view walker.old) n) }
-    ensures err { OnErr result (ArePartly (meaning_by (J.names judge.old)) (J.headers judge.old) (nodes_in (tree_of node.now))
-        (outcomes_view walker.old) (outcomes_view walker.new)) }
+    ensures err { OnErr result (ArePartly (meaning_by (J.names judge.old)) (J.headers judge.old)
+        (nodes_in (tree_of node.now)) (outcomes_view walker.old) (outcomes_view walker.new)) }
     ensures same { J.headers judge.new ≡ J.headers judge.old }
     ensures names { J.names judge.new ≡ J.names judge.old }
     ensures world { J.world judge.new ≡ J.world judge.old }

@@ -1,11 +1,11 @@
 //! Laws that join what the crates below define.
 //!
-//! `accepted_is_complete`: where the check of a module that is loaded accepts a package whose imports are accepted, each
-//! declaration of it has a header, and each node of its expressions that is asked for a record has one.
+//! `accepted_is_complete`: where the check of a module that is loaded accepts a package whose imports are accepted,
+//! each declaration of it has a header, and each node of its expressions that is asked for a record has one.
 //! `reports_are_reached`: the check of a module comes to each package that its report calls accepted, and accepts it.
-//! `node_numbers_ascend`: each node of a module that is loaded has a number of its own; `nodes_are_numbered`: so have the
-//! nodes of a package's expressions, which the check of a module asks.
-//! `values_are_built`: in such a module each expression of a declaration is made of what is built.
+//! `node_numbers_ascend`: each node of a module that is loaded has a number of its own; `nodes_are_numbered`: so have
+//! the nodes of a package's expressions, which the check of a module asks. `values_are_built`: in such a module each
+//! expression of a declaration is made of what is built.
 #![tactic(auto)]
 
 mod built;

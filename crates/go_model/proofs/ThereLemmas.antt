@@ -1,6 +1,6 @@
 -- Each object that an identifier of a package denotes is in the package's table of objects.
-use Rattle.std.proofs.Common.{◌≡◌, ℕ, Bool, true, false, cond, Option, Some, None, List, [], ◌∷◌, ◌++◌, ◌⊎◌, inl, inr, map, Contains, refl, sym, ap, subst, arith}
-use Rattle.std.specs.Prelude.{IfSome, filter, find}
+use Rattle.std.proofs.Common.{◌≡◌, ℕ, true, Option, Some, None, List, [], ◌∷◌, ◌++◌, ◌⊎◌, inl, inr, map, Contains, refl, sym, subst, arith}
+use Rattle.std.specs.Prelude.{IfSome, filter}
 use Rattle.std.specs.List.{flat_map}
 use Rattle.std.specs.Map.{lookup}
 use Rattle.std.specs.Option.{option_map_or}
@@ -19,7 +19,7 @@ use Rattle.go_module.specs.Names.Regions.{holds, lies_inside_others, regions_of,
 use Rattle.go_module.specs.Names.Tables.{HasTables, Member, members_at, members_of, objects_in, occurrences_from, outer_regions, uses_at, uses_of}
 use Rattle.go_module.specs.Names.Universe.{universe}
 use Rattle.go_module.specs.Scopes.{same_node, same_object}
-use Rattle.go_module.proofs.MemberLemmas.{cons_cases, contains_head, contains_none, contains_tail}
+use Rattle.go_module.proofs.MemberLemmas.{contains_none}
 use Rattle.go_module.proofs.TableLemmas.{node_denotes, present_in}
 use Rattle.go_model.specs.Values.Meaning.{AreThere, names_by, names_in, uses_table}
 use Rattle.go_model.proofs.FlatLemmas.{filter_within, find_within, flat_cases, flat_contains, map_cases, map_contains, only_is}

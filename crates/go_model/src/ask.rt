@@ -15,12 +15,12 @@ pub trait Ask {
     /// What the map has for each declaration, by its number.
     ghost headers: { Self → walk.Headers };
 
-    /// What identifiers denote in the package whose expressions are judged, and the objects there; nothing where the map
-    /// knows no identifiers. It stands here, since a call of `ask` keeps it.
+    /// What identifiers denote in the package whose expressions are judged, and the objects there; nothing where the
+    /// map knows no identifiers. It stands here, since a call of `ask` keeps it.
     ghost names: { Self → Names };
 
-    /// The outcomes that walks over expressions left, by the numbers of nodes; nothing where no walk keeps any. They stand
-    /// here, since a call of `ask` keeps them.
+    /// The outcomes that walks over expressions left, by the numbers of nodes; nothing where no walk keeps any. They
+    /// stand here, since a call of `ask` keeps them.
     ghost outcomes: { Self → Outcomes };
 
     /// Whether want of memory was met while a header was told: then each call that can answer it does.

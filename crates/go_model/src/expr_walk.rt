@@ -25,8 +25,9 @@ pub trait ExprWalk: Ask {
         requires { AreThere (Self.names self.old) }
         ensures outcome { IfOk result (λ found. outcome_view found
             ≡ walk.outcome (meaning_by (Self.names self.old)) (Self.headers self.old) (tree_of node.now)) }
-        ensures reached { OnOk result ((n : ℕ) → Self.outcomes self.new n ≡ walked_over (meaning_by (Self.names self.old))
-            (Self.headers self.old) (nodes_in (tree_of node.now)) (Self.outcomes self.old) n) }
+        ensures reached { OnOk result ((n : ℕ) → Self.outcomes self.new n
+            ≡ walked_over (meaning_by (Self.names self.old)) (Self.headers self.old) (nodes_in (tree_of node.now))
+            (Self.outcomes self.old) n) }
         ensures err { OnErr result (ArePartly (meaning_by (Self.names self.old)) (Self.headers self.old)
             (nodes_in (tree_of node.now)) (Self.outcomes self.old) (Self.outcomes self.new)) }
         ensures same { Self.headers self.new ≡ Self.headers self.old }

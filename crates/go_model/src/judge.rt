@@ -10,7 +10,8 @@ use go_base::NoMemory;
 use go_module::{ObjId, Object};
 use go_tree::NodeId;
 
-/// What is known of identifiers and objects (Go specification, "Declarations and scope"). Of types nothing is asked yet.
+/// What is known of identifiers and objects (Go specification, "Declarations and scope"). Of types nothing is asked
+/// yet.
 pub trait Forms: Ask {
     /// The object that an identifier of the package denotes, by its node, None exactly where it denotes none.
     fn resolve(&self, id: NodeId) -> Option<ObjId>
@@ -31,8 +32,8 @@ pub trait Finds: Same {}
 /// Type sets and core types (Go specification, "Interface types", "Core types"). None is judged yet.
 pub trait Sets: Finds {}
 
-/// Assignability, conversion and inference (Go specification, "Assignability", "Conversions", "Type inference"). None is
-/// judged yet.
+/// Assignability, conversion and inference (Go specification, "Assignability", "Conversions", "Type inference"). None
+/// is judged yet.
 pub trait Judge: Sets {}
 
 /// A judge that walks over expressions and is told headers.

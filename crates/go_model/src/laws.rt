@@ -21,19 +21,19 @@ pub fn decided_stays<H, A>()
         → (q : Quest H A) → Stays more (run known q) (run more q) }
 {}
 
-/// The outcome of a node over some headers and over more: a record stays, a broken rule stays, at its places and maybe
-/// more, and `Nothing` stays `Nothing`. What a node waits for is missing; it waits for that or has failed as long as that is
-/// missing.
+/// The outcome of a node over some headers and over more: a record stays, a broken rule stays, at its places and
+/// maybe more, and `Nothing` stays `Nothing`. What a node waits for is missing; it waits for that or has failed as
+/// long as that is missing.
 pub fn outcomes_stay()
     ensures { (means : ℕ → Meaning) (known more : Headers) → IsPart known more
         → (t : Tree) → OutcomeStays means known more t }
 {}
 
-/// A node has a record exactly where its operands have, its tests are all Yes and what its record asks is decided. It breaks
-/// a rule exactly where its operands have records, the tests before are Yes and that one is No, at exactly the places where
-/// it is No. It waits exactly where its first operand without a record does and none has failed, or where its first test
-/// that is not Yes is No nowhere and lacks a header, or where what its record asks lacks one. It has nothing exactly where
-/// an operand has failed or nothing is asked.
+/// A node has a record exactly where its operands have, its tests are all Yes and what its record asks is decided. It
+/// breaks a rule exactly where its operands have records, the tests before are Yes and that one is No, at exactly the
+/// places where it is No. It waits exactly where its first operand without a record does and none has failed, or
+/// where its first test that is not Yes is No nowhere and lacks a header, or where what its record asks lacks one. It
+/// has nothing exactly where an operand has failed or nothing is asked.
 pub fn outcomes_exactly()
     ensures { (means : ℕ → Meaning) (headers : Headers) (id from to : ℕ) (kind : NodeKind) (text : List ℕ) (parts : Trees)
         → OutcomeExactly means headers id from to kind text parts }

@@ -17,7 +17,7 @@ use Rattle.go_names.specs.Views.{trees_at}
 use Rattle.go_expr.specs.Outcomes.{outcome_by_parts}
 use Rattle.go_expr.specs.Walker.{outcomes_view}
 use Rattle.go_expr.proofs.NodeOutcomeLemmas.{by_parts_is}
-use Rattle.go_expr.proofs.WalkerLemmas.{map-reverse, node_done, outcomes_more, part_within, partly_next, parts_done, rest_within, told_at, walked_more}
+use Rattle.go_expr.proofs.WalkerLemmas.{broken_off, map-reverse, node_done, outcomes_more, part_within, partly_next, parts_done, told_at, walked_more}
 use Rattle.go_model.proofs.WalkedLemmas.{partly_walked}
 use Rattle.go_model.specs.Outcomes.Walked.{ArePartly}
 use Rattle.go_model.specs.Values.Meaning.{AreThere, meaning_by}
@@ -95,7 +95,7 @@ returns-in_err-walk-clause-err g t c =
     let headers = g.J.Ask.headers c.args.judge.now in
     let node = tree_of c.args.node.now in
     let inner = c.in_ok-inner.inner.items in
-    let so_far = partly_walked means headers (flat_map nodes_in (trees_at (drop c.loop-place.place inner))) (nodes_in node) (outcomes_view c.args.walker.now) (outcomes_view c.loop-place.walker) (rest_within c.loop-place.place inner node c.in_ok-inner.ensures) inv.reached in
+    let so_far = broken_off means headers node inner c.loop-place.place (outcomes_view c.args.walker.now) (outcomes_view c.loop-place.walker) c.in_ok-inner.ensures inv.reached in
     let i = c.loop-place.place - 1 in
     let part = c.index.result.now in
     let next : suc i ≡ c.loop-place.place = omega arith in
@@ -112,7 +112,7 @@ returns-in_err-push-clause-err g t c =
     let headers = g.J.Ask.headers c.args.judge.now in
     let node = tree_of c.args.node.now in
     let inner = c.in_ok-inner.inner.items in
-    let so_far = partly_walked means headers (flat_map nodes_in (trees_at (drop c.loop-place.place inner))) (nodes_in node) (outcomes_view c.args.walker.now) (outcomes_view c.loop-place.walker) (rest_within c.loop-place.place inner node c.in_ok-inner.ensures) inv.reached in
+    let so_far = broken_off means headers node inner c.loop-place.place (outcomes_view c.args.walker.now) (outcomes_view c.loop-place.walker) c.in_ok-inner.ensures inv.reached in
     let i = c.loop-place.place - 1 in
     let part = c.index.result.now in
     let next : suc i ≡ c.loop-place.place = omega arith in
@@ -125,31 +125,22 @@ returns-in_err-push-clause-err g t c =
 
 pub returns-in_err-made-clause-err : goal.returns-in_err-made-clause-err
 returns-in_err-made-clause-err g t c =
-    let inv = c.loop-place.invariant in
-    let means = meaning_by (g.J.Ask.names c.args.judge.now) in
-    let headers = g.J.Ask.headers c.args.judge.now in
-    let node = tree_of c.args.node.now in
-    let inner = c.in_ok-inner.inner.items in
-    let so_far = partly_walked means headers (flat_map nodes_in (trees_at (drop c.loop-place.place inner))) (nodes_in node) (outcomes_view c.args.walker.now) (outcomes_view c.loop-place.walker) (rest_within c.loop-place.place inner node c.in_ok-inner.ensures) inv.reached in
+    let so_far =
+    broken_off (meaning_by (g.J.Ask.names c.args.judge.now)) (g.J.Ask.headers c.args.judge.now) (tree_of c.args.node.now) c.in_ok-inner.inner.items c.loop-place.place
+    (outcomes_view c.args.walker.now) (outcomes_view c.loop-place.walker) c.in_ok-inner.ensures c.loop-place.invariant.reached in
     on_err c.from_residual-in_err-made.result _ so_far
 
 pub returns-in_err-clone-clause-err : goal.returns-in_err-clone-clause-err
 returns-in_err-clone-clause-err g t c =
-    let inv = c.loop-place.invariant in
-    let means = meaning_by (g.J.Ask.names c.args.judge.now) in
-    let headers = g.J.Ask.headers c.args.judge.now in
-    let node = tree_of c.args.node.now in
-    let inner = c.in_ok-inner.inner.items in
-    let so_far = partly_walked means headers (flat_map nodes_in (trees_at (drop c.loop-place.place inner))) (nodes_in node) (outcomes_view c.args.walker.now) (outcomes_view c.loop-place.walker) (rest_within c.loop-place.place inner node c.in_ok-inner.ensures) inv.reached in
+    let so_far =
+    broken_off (meaning_by (g.J.Ask.names c.args.judge.now)) (g.J.Ask.headers c.args.judge.now) (tree_of c.args.node.now) c.in_ok-inner.inner.items c.loop-place.place
+    (outcomes_view c.args.walker.now) (outcomes_view c.loop-place.walker) c.in_ok-inner.ensures c.loop-place.invariant.reached in
     on_err c.from_residual-in_err-clone.result _ so_far
 
 pub returns-in_err-insert-clause-err : goal.returns-in_err-insert-clause-err
 returns-in_err-insert-clause-err g t c =
-    let inv = c.loop-place.invariant in
-    let means = meaning_by (g.J.Ask.names c.args.judge.now) in
-    let headers = g.J.Ask.headers c.args.judge.now in
-    let node = tree_of c.args.node.now in
-    let inner = c.in_ok-inner.inner.items in
-    let so_far = partly_walked means headers (flat_map nodes_in (trees_at (drop c.loop-place.place inner))) (nodes_in node) (outcomes_view c.args.walker.now) (outcomes_view c.loop-place.walker) (rest_within c.loop-place.place inner node c.in_ok-inner.ensures) inv.reached in
+    let so_far =
+    broken_off (meaning_by (g.J.Ask.names c.args.judge.now)) (g.J.Ask.headers c.args.judge.now) (tree_of c.args.node.now) c.in_ok-inner.inner.items c.loop-place.place
+    (outcomes_view c.args.walker.now) (outcomes_view c.loop-place.walker) c.in_ok-inner.ensures c.loop-place.invariant.reached in
     on_err c.from_residual-in_err-insert.result _
-    (subst (λ es. ArePartly means headers (nodes_in node) (outcomes_view c.args.walker.now) (λ n. option_map outcome_view (lookup (same_node (record { 0 = n })) es))) (sym c.in_err-insert.ensures.err) so_far)
+    (subst (λ es. ArePartly (meaning_by (g.J.Ask.names c.args.judge.now)) (g.J.Ask.headers c.args.judge.now) (nodes_in (tree_of c.args.node.now)) (outcomes_view c.args.walker.now) (λ n. option_map outcome_view (lookup (same_node (record { 0 = n })) es))) (sym c.in_err-insert.ensures.err) so_far)
