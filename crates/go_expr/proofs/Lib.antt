@@ -1,4 +1,3 @@
-pub mod AwaitedLemmas
 pub mod NodeOutcomeLemmas
 pub mod ReadLemmas
 pub mod ResultLemmas

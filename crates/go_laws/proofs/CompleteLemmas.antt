@@ -35,9 +35,9 @@ use Rattle.go_model.specs.Values.Waiting.{Chain, Waits as WaitsFor, awaited_by_n
 use Rattle.go_model.proofs.ExactWaitLemmas.{outcome_exactly}
 use Rattle.go_model.proofs.HeaderLemmas.{both_justified, closed_under, header_over-part, headers_of-here, kept, later_part, stays}
 use Rattle.go_model.proofs.OutcomeLemmas.{outcome_stays}
-use Rattle.go_expr.proofs.AwaitedLemmas.{awaited_means}
 use Rattle.go_laws.specs.Complete.{IsComplete, asked_in, values_in}
 use Rattle.go_laws.proofs.Asked.{AreAsked}
+use Rattle.go_laws.proofs.AwaitedLemmas.{awaited_means}
 use Rattle.go_laws.proofs.AskedLemmas.{IsGood, IsUnbroken, asked_are_nodes, each_good}
 use Rattle.go_laws.proofs.DenotedLemmas.{declared_by_number}
 use Rattle.go_laws.proofs.Denoting.{ImportsHaveHeaders}

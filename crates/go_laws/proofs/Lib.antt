@@ -3,6 +3,7 @@ pub mod Denoting
 pub mod ListLemmas
 pub mod IntegerLemmas
 pub mod AskedLemmas
+pub mod AwaitedLemmas
 pub mod WalkLemmas
 pub mod CompleteLemmas
 pub mod NodeNumberLemmas
