@@ -1,4 +1,4 @@
--- Packages, one after another: their names, what these denote, the verdicts on them.
+-- Packages, one after another: their names, the rulebook over them, the verdicts on them.
 pub mod Names
 pub mod Book
 pub mod Verdicts

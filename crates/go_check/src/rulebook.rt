@@ -19,19 +19,19 @@ use std::alloc::Global;
 /// that it speaks of are those of this package.
 #[derive(Drop)]
 pub struct ModuleJudge<'a> {
-    pub module: &'a Module,
-    pub scopes: &'a [Scopes],
-    pub place: usize,
-    pub headers: Headers,
+    pub(crate) module: &'a Module,
+    pub(crate) scopes: &'a [Scopes],
+    pub(crate) place: usize,
+    pub(crate) headers: Headers,
 }
 
 /// The rules over a module: a judge, and a walker, to which walks lend the judge. Once want of memory was met while a
 /// header was told, each call that can answer it does.
 #[derive(Drop)]
 pub struct Rulebook<'a> {
-    pub judge: ModuleJudge<'a>,
-    pub walker: Walker,
-    pub is_spent: bool,
+    pub(crate) judge: ModuleJudge<'a>,
+    pub(crate) walker: Walker,
+    pub(crate) is_spent: bool,
 }
 
 impl<'a> Rulebook<'a> {

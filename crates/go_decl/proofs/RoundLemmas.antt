@@ -186,14 +186,14 @@ declared_at [] d c lt e = absurd (omega arith)
 declared_at (x ∷ list) zero c lt e = ap (λ (y : OwnDeclaration). Some (declaration_view y)) (sym e)
 declared_at (x ∷ list) (suc d) c lt e = declared_at list d c (omega arith) e
 
--- what an answer of a map says
-pub is_known : (o : Option Header) (x : Option HeaderData) → true ≡ is_some o → option_map header_view o ≡ x → x ≡ None → ⊥
-is_known None x some e none = cc
-is_known (Some h) x some e none = let never : Some (header_view h) ≡ None = e ∙ none in cc
+-- what is there, and what is not
+pub is_known : (x : Option HeaderData) → is_some x ≡ true → x ≡ None → ⊥
+is_known None some e = let never : false ≡ true = some in cc
+is_known (Some h) some e = cc
 
-pub is_vacant : (o : Option Header) (x : Option HeaderData) → false ≡ is_some o → option_map header_view o ≡ x → x ≡ None
-is_vacant None x none e = sym e
-is_vacant (Some h) x none e = cc
+pub is_vacant : (x : Option HeaderData) → is_some x ≡ false → x ≡ None
+is_vacant None none = refl
+is_vacant (Some h) none = absurd (let never : true ≡ false = none in cc)
 
 -- what is found of a declaration over the same headers with the same meanings is found over these
 pub found_over : (means k : ℕ → Meaning) (headers m : Headers) (declaration : Declaration) (o x : Option Header) → k ≡ means → m ≡ headers → option_map header_view o ≡ header_over k m declaration → o ≡ x → header_over means headers declaration ≡ option_map header_view x

@@ -32,10 +32,10 @@ pub struct Elaborated {
 }
 
 /// Walks once over the type and the expressions on which the header of a declaration of the module rests, and answers
-/// what follows over the headers that are known, which stay: its header, and what it breaks. It asks that the rules
-/// speak of the identifiers of its package, that each object that is denoted is there, and that no two nodes of a
-/// package have one number. Of several declarations with one number the first is meant. A call is a step. An error is
-/// want of memory.
+/// what follows over the headers that are known, which stay: its header, and what it breaks. Identifiers mean what the
+/// rules say, which so have to speak of the package of the declaration. It asks that each object that is denoted is
+/// there, and that no two nodes of a package have one number. Of several declarations with one number the first is
+/// meant. A call is a step. An error is want of memory.
 pub fn elaborate<R: Rules, L: Ledger>(
     alloc: Global,
     d: ObjId,

@@ -1,5 +1,5 @@
 // The headers of declarations, found in rounds, told to rules, and kept (Go specification, "Constant declarations").
-ghost use Rattle.std.specs.Prelude.{◌≡◌, ◌<◌, ◌↔◌, ◌∷◌, [], ℕ, None, Some, false, length, IfOk, OnErr, OnOk, IsTrue};
+ghost use Rattle.std.specs.Prelude.{◌≡◌, ◌<◌, ◌↔◌, ◌∷◌, [], ℕ, None, Some, false, is_some, length, IfOk, OnErr, OnOk, IsTrue};
 ghost use Rattle.std.specs.Map.{lookup};
 ghost use Rattle.go_base.specs.declared.ids.ObjId.{ObjId as Object};
 ghost use Rattle.go_module.specs.Scopes.{same_object};
@@ -112,7 +112,7 @@ fn add_one<R: Rules, L: Ledger>(
 {
     let declaration = &declarations[place];
     let number = declaration.number();
-    if rules.ask(number)?.is_some() {
+    if is_known(known, number) {
         return Ok(false);
     }
     if !stands_at(places, number, place) {
@@ -126,6 +126,13 @@ fn add_one<R: Rules, L: Ledger>(
         }
         None => Ok(false),
     }
+}
+
+// Whether a declaration has a header.
+fn is_known(known: &Headers, d: ObjId) -> bool
+    ensures { result ≡ is_some (headers_view known.now d.0) }
+{
+    known.get(d).is_some()
 }
 
 // Tells the rules a header, and keeps it.

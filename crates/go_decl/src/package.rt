@@ -27,9 +27,9 @@ use std::sync::ledger::Ledger;
 /// Finds the headers of the package at a place of the module in rounds, and tells them to the rules and to `known`,
 /// which have the same headers before; then walks once over all that stands behind the names of its specs, and
 /// answers what its values break, as the list of a report: each declaration that waits for its own header, and each
-/// rule that a spec or a node breaks over these headers. It asks that the rules speak of the identifiers of this
-/// package, that each object that is denoted is there, and that no two nodes of the package have one number. Of
-/// several declarations with one number the first is meant. Each try to find a header is a step. An error is want of
+/// rule that a spec or a node breaks over these headers. Identifiers mean what the rules say, which so have to speak of
+/// this package. It asks that each object that is denoted is there, and that no two nodes of a package have one number.
+/// Of several declarations with one number the first is meant. Each try to find a header is a step. An error is want of
 /// memory; some of these headers may be known then, and no others.
 pub fn rounds<R: Rules, L: Ledger>(
     alloc: Global,

@@ -69,7 +69,7 @@ module _ (m : ModuleData) where
     pub integers : HaveIntegers before
     pub declared : (i : ℕ) (q : PackageData) → is_marked marks i ≡ true → slice_get m.packages i ≡ Some q → AreDeclared q before
 
-  -- of a package that is not accepted no more is known than before
+  -- behind a package that is not accepted there may be more headers, and those of its declarations are not owed
   not_accepted : (k : ℕ) (marks : List Bool) (before after : Headers) → IsKnown k marks before → IsPart before after → HaveIntegers after → IsKnown (k + 1) (marks ++ false ∷ []) after
   not_accepted k marks before after is part integers = record {
     many = more_marks marks false ∙ ap (λ n. n + 1) is.many;
@@ -84,7 +84,7 @@ module _ (m : ModuleData) where
   same_headers : (k : ℕ) (marks : List Bool) (before : Headers) → IsKnown k marks before → IsKnown (k + 1) (marks ++ false ∷ []) before
   same_headers k marks before is = not_accepted k marks before before is (λ d h e. e) is.integers
 
-  -- of an accepted one more is known
+  -- behind an accepted one those of its declarations are
   known_more : (k : ℕ) (marks : List Bool) (p : PackageData) (before after : Headers) → IsKnown k marks before → slice_get m.packages k ≡ Some p
       → IsPart before after → HaveIntegers after → AreDeclared p after → IsKnown (k + 1) (marks ++ true ∷ []) after
   known_more k marks p before after is here part integers declared = record {

@@ -4,7 +4,7 @@ ghost use Rattle.std.specs.Option.{option_map};
 ghost use Rattle.go_model.specs.Outcomes.Records.{header_view};
 ghost use Rattle.go_model.specs.Outcomes.Walk as walk;
 ghost use Rattle.go_model.specs.Outcomes.Walked.{Outcomes};
-ghost use Rattle.go_model.specs.Values.Meaning.{Names};
+ghost use Rattle.go_model.specs.Values.Meaning.{Naming};
 
 use crate::header::Header;
 use go_base::NoMemory;
@@ -17,7 +17,7 @@ pub trait Ask {
 
     /// What identifiers denote in the package whose expressions are judged, and the objects there; nothing where the
     /// map knows no identifiers. It stands here, since a call of `ask` keeps it.
-    ghost names: { Self → Names };
+    ghost names: { Self → Naming };
 
     /// The outcomes that walks over expressions left, by the numbers of nodes; nothing where no walk keeps any. They
     /// stand here, since a call of `ask` keeps them.

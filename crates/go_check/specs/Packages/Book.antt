@@ -5,7 +5,7 @@ use Rattle.go_base.specs.declared.ids.ObjId.{ObjId}
 use Rattle.go_tree.specs.declared.node.NodeId.{NodeId}
 use Rattle.go_module.specs.declared.module.Module.{Module}
 use Rattle.go_module.specs.declared.scopes.Scopes.{Scopes}
-use Rattle.go_model.specs.Values.Meaning.{Names, names_by, no_names}
+use Rattle.go_model.specs.Values.Meaning.{Naming, names_by, no_names}
 use Rattle.go_check.specs.declared.rulebook.ModuleJudge.{ModuleJudge}
 
 pub record Standing : Type 0 where
@@ -17,14 +17,14 @@ abbrev pub standing_of : ModuleJudge → Standing
 standing_of judge = record { «module» = judge.module.now; scopes = judge.scopes.now; place = judge.place }
 
 -- what the scopes of a package say of identifiers and objects
-abbrev pub scope_names : Scopes → Names
+abbrev pub scope_names : Scopes → Naming
 scope_names scopes = names_by scopes.uses.entries scopes.objects.entries
 
 -- what those at a place say: nothing where there are none
-abbrev pub names_at : List Scopes → ℕ → Names
+abbrev pub names_at : List Scopes → ℕ → Naming
 names_at scopes place = option_map_or scope_names (slice_get scopes place) no_names
 
-abbrev pub book_names : ModuleJudge → Names
+abbrev pub book_names : ModuleJudge → Naming
 book_names judge = names_at judge.scopes.now judge.place
 
 -- the object that an identifier of the package that is entered denotes

@@ -18,19 +18,19 @@ use Rattle.go_model.specs.declared.meaning.Meaning.TheVariants.{Declared, Predec
 use Rattle.go_model.specs.Outline.{is_predeclared}
 
 -- the object that each identifier denotes, by the number of the identifier's node; and the objects, by their numbers
-pub record Names : Type 0 where
+pub record Naming : Type 0 where
   pub denotes : ℕ → Option ObjId
   pub objects : ℕ → Option Object
 
 -- nothing is denoted
-abbrev pub no_names : Names
+abbrev pub no_names : Naming
 no_names = record { denotes = λ id. None; objects = λ d. None }
 
 -- each object that is denoted is there
-abbrev pub AreThere : Names → Type 0
+abbrev pub AreThere : Naming → Type 0
 AreThere names = (id : ℕ) (d : ObjId) → names.denotes id ≡ Some d → IsSome (names.objects d.0)
 
--- what an object that is no universe name means, by its kind: a constant has a header
+-- what an object that is no universe name means, by its kind: a constant is asked for its header
 abbrev pub kind_meaning : ObjId → ObjKind → Meaning
 kind_meaning d Const = Declared d
 kind_meaning d kind = Other
@@ -43,11 +43,11 @@ denoted_meaning objects None = Other
 denoted_meaning objects (Some d) = object_meaning objects d
 
 -- what an identifier means, by the number of its node
-abbrev pub meaning_by : Names → ℕ → Meaning
+abbrev pub meaning_by : Naming → ℕ → Meaning
 meaning_by names id = denoted_meaning names.objects (names.denotes id)
 
 -- by tables
-abbrev pub names_by : List (NodeId × ObjId) → List (ObjId × Object) → Names
+abbrev pub names_by : List (NodeId × ObjId) → List (ObjId × Object) → Naming
 names_by uses objects = record {
   denotes = λ id. lookup (same_node (record { 0 = id })) uses;
   objects = λ d. lookup (same_object (record { 0 = d })) objects;
@@ -60,7 +60,7 @@ uses_table m k p = insert_all same_node [] (uses_of (known_in m) k p)
 abbrev pub objects_table : ModuleData → ℕ → PackageData → List (ObjId × Object)
 objects_table m k p = insert_all same_object [] (objects_in (known_in m) k p)
 
-abbrev pub names_in : ModuleData → ℕ → PackageData → Names
+abbrev pub names_in : ModuleData → ℕ → PackageData → Naming
 names_in m k p = names_by (uses_table m k p) (objects_table m k p)
 
 -- what each identifier of the package at a place means, by the number of its node

@@ -1,5 +1,5 @@
-use Rattle.std.proofs.Common.{◌≡◌, ◌∙◌, Some, None, sym, ap, subst}
-use Rattle.std.specs.Prelude.{IsTrue}
+use Rattle.std.proofs.Common.{◌≡◌, ◌∙◌, Some, None, refl, sym, ap, subst}
+use Rattle.std.specs.Prelude.{IsTrue, is_some}
 use Rattle.std.specs.Map.{lookup}
 use Rattle.go_base.specs.declared.ids.ObjId.{ObjId}
 use Rattle.go_module.specs.Scopes.{same_object}
@@ -12,13 +12,14 @@ use Rattle.go_decl.specs.Rounds.{IsSettled, IsToldOrNot}
 use Rattle.go_decl.proofs.RoundLemmas.{at_place, backed_either, backed_one, backed_same, declared_at, fewer_open, found_over, is_known, is_vacant, learnt_over, settled_none}
 use Rattle.go_decl.proofs.headers.add_one.Goals as goal
 
-pub returns-then-is_some-clause-settled : goal.returns-then-is_some-clause-settled
-returns-then-is_some-clause-settled g c = λ _ d at h vacant _.
+pub returns-then-is_known-clause-settled : goal.returns-then-is_known-clause-settled
+returns-then-is_known-clause-settled g c = λ _ d at h vacant _.
     let headers = g.R.Ask.headers c.args.rules.now in
     let there = declared_at c.args.declarations.now c.args.place c.index-declarations-place.result c.requires.within c.index-declarations-place.is in
     let is = at_place (declarations_view c.args.declarations.now) c.args.places.now.entries c.requires.places d c.args.place at _ there in
-    is_known c.in_ok-ask.field-0 (headers c.number-number.result.0) c.if-is_some.ensures c.in_ok-ask.ensures.answer
-    (ap (λ (e : ObjId). headers e.0) (c.number-number.ensures ∙ is.number) ∙ ap (λ (m : Headers). m d.0) (sym c.ask.ensures.same) ∙ vacant)
+    is_known (headers c.number-number.result.0)
+    (ap (λ (m : Headers). is_some (m c.number-number.result.0)) (sym c.requires.same) ∙ sym c.is_known.ensures ∙ c.if-is_known.true)
+    (ap (λ (e : ObjId). headers e.0) (c.number-number.ensures ∙ is.number) ∙ vacant)
 
 pub returns-then-not-stands_at-clause-settled : goal.returns-then-not-stands_at-clause-settled
 returns-then-not-stands_at-clause-settled g c = λ _ d at h _ _.
@@ -32,11 +33,11 @@ returns-then-not-stands_at-clause-settled g c = λ _ d at h _ _.
 pub tell-requires-clause-vacant : goal.tell-requires-clause-vacant
 tell-requires-clause-vacant g c =
     let headers = g.R.Ask.headers c.args.rules.now in
-    ap (λ (m : Headers). m c.number-number.result.0) (c.header_over.ensures.same ∙ c.ask.ensures.same)
-    ∙ is_vacant c.in_ok-ask.field-0 (headers c.number-number.result.0) c.if-is_some.ensures c.in_ok-ask.ensures.answer
+    ap (λ (m : Headers). m c.number-number.result.0) (c.header_over.ensures.same)
+    ∙ is_vacant (headers c.number-number.result.0) (ap (λ (m : Headers). is_some (m c.number-number.result.0)) (sym c.requires.same) ∙ sym c.is_known.ensures ∙ c.if-is_known.false)
 
 pub tell-requires-clause-same : goal.tell-requires-clause-same
-tell-requires-clause-same g c = c.requires.same ∙ sym (c.header_over.ensures.same ∙ c.ask.ensures.same)
+tell-requires-clause-same g c = c.requires.same ∙ sym (c.header_over.ensures.same)
 
 pub returns-in_ok-tell-in-Some-clause-backed : goal.returns-in_ok-tell-in-Some-clause-backed
 returns-in_ok-tell-in-Some-clause-backed g c =
@@ -48,9 +49,9 @@ returns-in_ok-tell-in-Some-clause-backed g c =
     let h = header_view c.in-Some.header in
     let there = declared_at c.args.declarations.now c.args.place c.index-declarations-place.result c.requires.within c.index-declarations-place.is in
     let is = at_place declarations c.args.places.now.entries c.requires.places d c.args.place (c.stands_at.ensures.0 c.if-not-stands_at.false) declaration there in
-    let kept : g.R.Ask.headers c.header_over.new.walks ≡ headers = c.header_over.ensures.same ∙ c.ask.ensures.same in
-    let vacant : headers d.0 ≡ None = is_vacant c.in_ok-ask.field-0 (headers d.0) c.if-is_some.ensures c.in_ok-ask.ensures.answer in
-    let follows = found_over means (meaning_by (g.R.Ask.names c.ask.new.self)) headers (g.R.Ask.headers c.ask.new.self) declaration c.in_ok-header.field-0 (Some c.in-Some.header) (ap meaning_by c.ask.ensures.names) c.ask.ensures.same c.in_ok-header.ensures.header c.in-Some.is in
+    let kept : g.R.Ask.headers c.header_over.new.walks ≡ headers = c.header_over.ensures.same in
+    let vacant : headers d.0 ≡ None = is_vacant (headers d.0) (ap (λ (m : Headers). is_some (m d.0)) (sym c.requires.same) ∙ sym c.is_known.ensures ∙ c.if-is_known.false) in
+    let follows = found_over means means headers headers declaration c.in_ok-header.field-0 (Some c.in-Some.header) refl refl c.in_ok-header.ensures.header c.in-Some.is in
     backed_one headers means declarations (g.R.Ask.headers c.tell.new.rules) d.0 h declaration is.declared vacant follows
     (learnt_over headers (g.R.Ask.headers c.header_over.new.walks) (g.R.Ask.headers c.tell.new.rules) d.0 h kept c.in_ok-tell-in-Some.ensures.learned)
 
@@ -64,20 +65,15 @@ returns-in_err-tell-in-Some-clause-backed g c =
     let h = header_view c.in-Some.header in
     let there = declared_at c.args.declarations.now c.args.place c.index-declarations-place.result c.requires.within c.index-declarations-place.is in
     let is = at_place declarations c.args.places.now.entries c.requires.places d c.args.place (c.stands_at.ensures.0 c.if-not-stands_at.false) declaration there in
-    let kept : g.R.Ask.headers c.header_over.new.walks ≡ headers = c.header_over.ensures.same ∙ c.ask.ensures.same in
-    let vacant : headers d.0 ≡ None = is_vacant c.in_ok-ask.field-0 (headers d.0) c.if-is_some.ensures c.in_ok-ask.ensures.answer in
-    let follows = found_over means (meaning_by (g.R.Ask.names c.ask.new.self)) headers (g.R.Ask.headers c.ask.new.self) declaration c.in_ok-header.field-0 (Some c.in-Some.header) (ap meaning_by c.ask.ensures.names) c.ask.ensures.same c.in_ok-header.ensures.header c.in-Some.is in
+    let kept : g.R.Ask.headers c.header_over.new.walks ≡ headers = c.header_over.ensures.same in
+    let vacant : headers d.0 ≡ None = is_vacant (headers d.0) (ap (λ (m : Headers). is_some (m d.0)) (sym c.requires.same) ∙ sym c.is_known.ensures ∙ c.if-is_known.false) in
+    let follows = found_over means means headers headers declaration c.in_ok-header.field-0 (Some c.in-Some.header) refl refl c.in_ok-header.ensures.header c.in-Some.is in
     backed_either headers means declarations (g.R.Ask.headers c.tell.new.rules) d.0 h declaration is.declared vacant follows
     (subst (λ (m : Headers). IsToldOrNot m d.0 h (g.R.Ask.headers c.tell.new.rules)) kept c.in_err-tell-in-Some.ensures.err)
 
-pub returns-in_err-ask-clause-kept : goal.returns-in_err-ask-clause-kept
-returns-in_err-ask-clause-kept g c =
-    on_err c.from_residual.result _
-    (backed_same (g.R.Ask.headers c.args.rules.now) (meaning_by (g.R.Ask.names c.args.rules.now)) (declarations_view c.args.declarations.now) _ c.requires.same)
-
 pub returns-in_err-header-clause-kept : goal.returns-in_err-header-clause-kept
 returns-in_err-header-clause-kept g c =
-    on_err c.from_residual-in_err-header.result _
+    on_err c.from_residual.result _
     (backed_same (g.R.Ask.headers c.args.rules.now) (meaning_by (g.R.Ask.names c.args.rules.now)) (declarations_view c.args.declarations.now) _ c.requires.same)
 
 pub returns-in_err-tell-in-Some-clause-kept : goal.returns-in_err-tell-in-Some-clause-kept
@@ -94,11 +90,11 @@ returns-in_ok-tell-in-Some-clause-fewer g c = λ _.
     let h = header_view c.in-Some.header in
     let there = declared_at c.args.declarations.now c.args.place c.index-declarations-place.result c.requires.within c.index-declarations-place.is in
     let is = at_place declarations c.args.places.now.entries c.requires.places d c.args.place (c.stands_at.ensures.0 c.if-not-stands_at.false) declaration there in
-    let kept : g.R.Ask.headers c.header_over.new.walks ≡ headers = c.header_over.ensures.same ∙ c.ask.ensures.same in
+    let kept : g.R.Ask.headers c.header_over.new.walks ≡ headers = c.header_over.ensures.same in
     fewer_open headers (g.R.Ask.headers c.tell.new.rules) d.0 h
     (learnt_over headers (g.R.Ask.headers c.header_over.new.walks) (g.R.Ask.headers c.tell.new.rules) d.0 h kept c.in_ok-tell-in-Some.ensures.learned)
     declarations declaration is.declared
-    (is_vacant c.in_ok-ask.field-0 (headers d.0) c.if-is_some.ensures c.in_ok-ask.ensures.answer)
+    (is_vacant (headers d.0) (ap (λ (m : Headers). is_some (m d.0)) (sym c.requires.same) ∙ sym c.is_known.ensures ∙ c.if-is_known.false))
 
 pub returns-in-None-clause-settled : goal.returns-in-None-clause-settled
 returns-in-None-clause-settled g c = λ _ d at.
@@ -108,6 +104,6 @@ returns-in-None-clause-settled g c = λ _ d at.
     let declaration = declaration_view c.index-declarations-place.result in
     let there = declared_at c.args.declarations.now c.args.place c.index-declarations-place.result c.requires.within c.index-declarations-place.is in
     let is = at_place declarations c.args.places.now.entries c.requires.places d c.args.place at declaration there in
-    let kept : g.R.Ask.headers c.header_over.new.walks ≡ headers = c.header_over.ensures.same ∙ c.ask.ensures.same in
+    let kept : g.R.Ask.headers c.header_over.new.walks ≡ headers = c.header_over.ensures.same in
     subst (λ (m : Headers). IsSettled m means declarations m d.0) (sym kept)
-    (settled_none headers means declarations d.0 declaration is.declared (found_over means (meaning_by (g.R.Ask.names c.ask.new.self)) headers (g.R.Ask.headers c.ask.new.self) declaration c.in_ok-header.field-0 None (ap meaning_by c.ask.ensures.names) c.ask.ensures.same c.in_ok-header.ensures.header c.in-None.is))
+    (settled_none headers means declarations d.0 declaration is.declared (found_over means means headers headers declaration c.in_ok-header.field-0 None refl refl c.in_ok-header.ensures.header c.in-None.is))
