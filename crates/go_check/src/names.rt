@@ -1,7 +1,8 @@
 // What the names of the packages of a module denote or break (Go specification, "Declarations and scope").
-ghost use Rattle.std.specs.Prelude.{◌≡◌, ◌∷◌, ◌++◌, [], ◌<◌, ◌+◌, IfOk, OnOk, length};
+ghost use Rattle.std.specs.Prelude.{◌≡◌, ◌∷◌, ◌++◌, [], ◌<◌, ◌+◌, ℕ, IfOk, OnOk, length};
 ghost use Rattle.std.specs.List.{list_all};
-ghost use Rattle.go_module.specs.Modules.Module.{module_view};
+ghost use Rattle.go_module.specs.Modules.Module.{ModuleData, module_view};
+ghost use Rattle.go_module.specs.Names.Tables.{IsScopesOf};
 ghost use Rattle.go_check.specs.Packages.Names as spec;
 
 use go_base::{Broken, NoMemory};
@@ -52,10 +53,20 @@ fn add_next(alloc: Global, module: &Module, place: usize, names: &mut Names) -> 
         return add_empty(alloc, NamesVerdict::Unasked, names);
     }
     match collect(alloc, place, module, &names.scopes) {
-        Ok(scopes) => add(scopes, NamesVerdict::Sound, names),
+        Ok(scopes) => add(shrunk(scopes), NamesVerdict::Sound, names),
         Err(ScopeFault::Broken(list)) => add_empty(alloc, NamesVerdict::Broken(list), names),
         Err(ScopeFault::NoMemory) => Err(NoMemory),
     }
+}
+
+// The same scopes in no more room than they need, since those of all packages are kept.
+fn shrunk(scopes: Scopes) -> Scopes
+    ensures { (m : ModuleData) (k : ℕ) → IsScopesOf m k scopes → IsScopesOf m k result }
+{
+    let mut shrunk = scopes;
+    shrunk.objects.shrink_to_fit();
+    shrunk.uses.shrink_to_fit();
+    shrunk
 }
 
 // Adds what is said of the names of a package, with the scopes of the universe alone.

@@ -37,8 +37,8 @@ returns-in-Ok c =
     let m = module_view c.args.module.now in
     let old = c.args.names.now in
     both_on_ok c.add.result
-    (λ scopes verdicts. one_more m c.args.place old c.add.new.names _ c.requires.before verdicts (record { one = c.in-Ok.scopes; added = scopes })
-    (λ _. collected_at m c.args.place old.scopes.items c.add.new.names.scopes.items c.in-Ok.scopes scopes c.requires.before.scopes_length c.in-Ok.ensures.ok)
+    (λ scopes verdicts. one_more m c.args.place old c.add.new.names _ c.requires.before verdicts (record { one = c.shrunk.result; added = scopes })
+    (λ _. collected_at m c.args.place old.scopes.items c.add.new.names.scopes.items c.shrunk.result scopes c.requires.before.scopes_length (c.shrunk.ensures m c.args.place c.in-Ok.ensures.ok))
     tt
     (λ q e there are. cc e))
     c.add.ensures.scopes c.add.ensures.verdicts
