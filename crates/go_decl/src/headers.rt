@@ -11,12 +11,12 @@ ghost use Rattle.go_decl.specs.Places.{ArePlaces};
 ghost use Rattle.go_decl.specs.Rounds.{IsBacked, IsSettled, IsToldOrNot, open_in};
 ghost use Rattle.go_names.specs.Views.{declarations_view};
 
+use crate::places::Places;
 use go_base::{NoMemory, Steps};
 use go_expr::header_over;
 use go_model::{Header, Headers, Rules};
 use go_module::ObjId;
 use go_names::Declaration;
-use indexmap::IndexMap;
 use std::alloc::Global;
 use std::sync::ledger::Ledger;
 
@@ -26,7 +26,7 @@ pub fn add_rounds<R: Rules, L: Ledger>(
     alloc: Global,
     rules: &mut R,
     known: &mut Headers,
-    places: &IndexMap<ObjId, usize>,
+    places: &Places,
     declarations: &[Declaration],
     steps: &mut Steps<L>,
 ) -> Result<(), NoMemory>
@@ -52,7 +52,7 @@ fn add_round<R: Rules, L: Ledger>(
     alloc: Global,
     rules: &mut R,
     known: &mut Headers,
-    places: &IndexMap<ObjId, usize>,
+    places: &Places,
     declarations: &[Declaration],
     steps: &mut Steps<L>,
 ) -> Result<bool, NoMemory>
@@ -86,7 +86,7 @@ fn add_one<R: Rules, L: Ledger>(
     alloc: Global,
     rules: &mut R,
     known: &mut Headers,
-    places: &IndexMap<ObjId, usize>,
+    places: &Places,
     declarations: &[Declaration],
     place: usize,
     steps: &mut Steps<L>,
@@ -157,7 +157,7 @@ fn tell<R: Rules>(
 }
 
 // Whether a number has that place.
-fn stands_at(places: &IndexMap<ObjId, usize>, d: ObjId, place: usize) -> bool
+fn stands_at(places: &Places, d: ObjId, place: usize) -> bool
     ensures { IsTrue result ↔ (lookup (same_object d) places.now.entries ≡ Some place) }
 {
     places.get(&d).copied() == Some(place)

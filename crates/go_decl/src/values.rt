@@ -16,13 +16,13 @@ ghost use Rattle.go_decl.specs.Places.{placed_by};
 ghost use Rattle.go_decl.specs.Waits.{marked_by};
 
 use crate::broken::push_spec;
+use crate::places::Places;
 use crate::rules::CYCLIC_DECLARATION;
 use crate::waits::is_cyclic;
 use go_base::{Broken, NoMemory};
 use go_model::ExprWalk;
 use go_module::{ObjId, Package, add_if, broken_at, ordered, with_numbers};
 use go_names::{Declaration, Spec};
-use indexmap::IndexMap;
 use std::alloc::Global;
 
 /// What the values of a package with these specs and declarations break, as the list of a report: C1 at each
@@ -30,7 +30,7 @@ use std::alloc::Global;
 /// number of its file. An error is want of memory.
 pub fn broken_values<W: ExprWalk>(
     alloc: Global,
-    places: &IndexMap<ObjId, usize>,
+    places: &Places,
     walks: &W,
     cyclic: &[bool],
     specs: &[Spec],
@@ -52,7 +52,7 @@ pub fn broken_values<W: ExprWalk>(
 
 // Pushes C1 at the name of each declaration that is marked as cyclic.
 fn push_cycles(
-    places: &IndexMap<ObjId, usize>,
+    places: &Places,
     cyclic: &[bool],
     declarations: &[Declaration],
     list: &mut Vec<Broken>,

@@ -12,6 +12,7 @@ ghost use Rattle.go_decl.specs.Places.{ArePlaces, placed_by};
 ghost use Rattle.go_decl.specs.Waits.{awaited_places, marked_by, place_list, waits_of};
 ghost use Rattle.go_expr.specs.Read.{nodes_under, outcome_read};
 
+use crate::places::Places;
 use go_base::NoMemory;
 use go_expr::nodes_in;
 use go_graph::{Numbers, cyclic_vertices, is_marked};
@@ -19,14 +20,13 @@ use go_model::{ExprWalk, Outcome};
 use go_module::ObjId;
 use go_names::Declaration;
 use go_tree::Node;
-use indexmap::IndexMap;
 use std::alloc::Global;
 
 /// For each declaration by its place, of several with one number the first, whether it waits for its own header, be it
 /// through others, by the outcomes of its nodes over the headers that are known. An error is want of memory.
 pub fn cyclic_declarations<W: ExprWalk>(
     alloc: Global,
-    places: &IndexMap<ObjId, usize>,
+    places: &Places,
     walks: &W,
     declarations: &[Declaration],
 ) -> Result<Vec<bool>, NoMemory>
@@ -42,7 +42,7 @@ pub fn cyclic_declarations<W: ExprWalk>(
 }
 
 /// Whether a declaration is marked, by its number.
-pub fn is_cyclic(places: &IndexMap<ObjId, usize>, cyclic: &[bool], d: ObjId) -> bool
+pub fn is_cyclic(places: &Places, cyclic: &[bool], d: ObjId) -> bool
     ensures { result ≡ marked_by (placed_by places.now.entries) cyclic.now d.0 }
 {
     match places.get(&d) {
@@ -54,7 +54,7 @@ pub fn is_cyclic(places: &IndexMap<ObjId, usize>, cyclic: &[bool], d: ObjId) -> 
 // For each declaration, the places of those for whose headers the nodes of its parts wait.
 fn waits_of<W: ExprWalk>(
     alloc: Global,
-    places: &IndexMap<ObjId, usize>,
+    places: &Places,
     walks: &W,
     declarations: &[Declaration],
 ) -> Result<Vec<Numbers>, NoMemory>
@@ -71,7 +71,7 @@ fn waits_of<W: ExprWalk>(
 // The places of the declarations for whose headers the nodes of the parts of one wait.
 fn awaited_places<W: ExprWalk>(
     alloc: Global,
-    places: &IndexMap<ObjId, usize>,
+    places: &Places,
     walks: &W,
     declaration: &Declaration,
 ) -> Result<Numbers, NoMemory>
@@ -83,11 +83,7 @@ fn awaited_places<W: ExprWalk>(
 }
 
 // The places that these numbers of declarations have.
-fn places_in(
-    alloc: Global,
-    places: &IndexMap<ObjId, usize>,
-    numbers: &[usize],
-) -> Result<Numbers, NoMemory>
+fn places_in(alloc: Global, places: &Places, numbers: &[usize]) -> Result<Numbers, NoMemory>
     ensures { IfOk result (λ list. list ≡ flat_map (place_list (placed_by places.now.entries)) numbers.now) }
 {
     let mut list = Numbers::new(alloc);
@@ -98,7 +94,7 @@ fn places_in(
 }
 
 // Pushes the place that an object has, if any.
-fn push_place(places: &IndexMap<ObjId, usize>, d: ObjId, list: &mut Numbers) -> Result<(), NoMemory>
+fn push_place(places: &Places, d: ObjId, list: &mut Numbers) -> Result<(), NoMemory>
     ensures { OnOk result (list.new ≡ list.old ++ place_list (placed_by places.now.entries) d.0) }
 {
     match places.get(&d) {

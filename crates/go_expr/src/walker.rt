@@ -21,7 +21,7 @@ use crate::parentheses::parentheses;
 use crate::selector::selector;
 use crate::sum::sum;
 use go_base::NoMemory;
-use go_model::{Judge, Meaning, Outcome, Rec};
+use go_model::{Judge, Meaning, NumberHasher, Outcome, Rec};
 use go_names::inner_parts;
 use go_term::Ty;
 use go_tree::{Node, NodeId, NodeKind};
@@ -31,7 +31,7 @@ use std::alloc::Global;
 /// The outcomes of the nodes that walks reached, by the numbers of the nodes.
 #[derive(Drop)]
 pub struct Walker {
-    table: IndexMap<NodeId, Outcome>,
+    table: IndexMap<NodeId, Outcome, NumberHasher>,
 }
 
 impl Walker {
@@ -40,7 +40,7 @@ impl Walker {
         ensures { (n : ℕ) → outcomes_view result n ≡ None }
     {
         Walker {
-            table: IndexMap::new(alloc),
+            table: IndexMap::with_hasher(alloc, NumberHasher::new()),
         }
     }
 

@@ -10,6 +10,8 @@ pub mod Text
 pub mod Values
 pub mod Outcomes
 pub mod Laws
+-- how tables by numbers are hashed
+pub mod NumberHasher
 -- what these rest on
 pub use Rattle.go_module.specs.Modules
 pub use Rattle.go_module.specs.Names

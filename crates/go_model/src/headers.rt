@@ -9,6 +9,7 @@ ghost use Rattle.go_model.specs.Values.Meaning.{no_names};
 
 use crate::ask::Ask;
 use crate::header::Header;
+use crate::number_hasher::NumberHasher;
 use go_base::NoMemory;
 use go_module::ObjId;
 use indexmap::IndexMap;
@@ -17,7 +18,7 @@ use std::alloc::Global;
 /// Headers by the numbers of their declarations, each once.
 #[derive(Drop)]
 pub struct Headers {
-    table: IndexMap<ObjId, Header>,
+    table: IndexMap<ObjId, Header, NumberHasher>,
 }
 
 impl Headers {
@@ -26,7 +27,7 @@ impl Headers {
         ensures { (d : ℕ) → headers_view result d ≡ None }
     {
         Headers {
-            table: IndexMap::new(alloc),
+            table: IndexMap::with_hasher(alloc, NumberHasher::new()),
         }
     }
 

@@ -19,6 +19,7 @@ mod header;
 mod headers;
 mod judge;
 mod meaning;
+mod number_hasher;
 mod outcome;
 mod rec;
 mod value;
@@ -49,6 +50,7 @@ pub use laws::{
 };
 pub use lines::{DefKind, Line, NamedObject, Records, What};
 pub use meaning::Meaning;
+pub use number_hasher::NumberHasher;
 pub use outcome::{Answer, Outcome, Spot};
 pub use rec::{Mode, Rec};
 pub use report::{PackageReport, Report, Verdict};
