@@ -12,22 +12,22 @@ ghost use Rattle.go_check.specs.Lines.Found.{declared_in_file, own_file_view, ow
 
 use crate::own_file::{OwnFile, own_files};
 use go_base::NoMemory;
-use go_model::DeclaredObject;
+use go_model::{DeclaredObject, NumberHasher};
 use go_module::{Module, ObjId, first_part, text_name};
 use go_names::{Declaration, declarations_in};
 use go_tree::Node;
 use indexmap::IndexMap;
 use std::alloc::Global;
 
+/// Declarations by the numbers of their objects.
+pub type DeclaredObjects = IndexMap<ObjId, DeclaredObject, NumberHasher>;
+
 /// Each declaration of a module, by the number of the object. An error is want of memory.
-pub fn declared_objects(
-    alloc: Global,
-    module: &Module,
-) -> Result<IndexMap<ObjId, DeclaredObject>, NoMemory>
+pub fn declared_objects(alloc: Global, module: &Module) -> Result<DeclaredObjects, NoMemory>
     ensures { IfOk result (λ table. table.entries
         ≡ (spec.outline_of (module_view «module».now)).declared) }
 {
-    let mut table = IndexMap::new(alloc);
+    let mut table = IndexMap::with_hasher(alloc, NumberHasher::new());
     for (place, own) in module.packages.iter().enumerate() {
         add_files(alloc, place, &own_files(alloc, own)?, &mut table)?;
     }
@@ -40,7 +40,7 @@ fn add_files(
     alloc: Global,
     place: usize,
     files: &[OwnFile],
-    table: &mut IndexMap<ObjId, DeclaredObject>,
+    table: &mut DeclaredObjects,
 ) -> Result<(), NoMemory>
     ensures { OnOk result (table.new.entries ≡ insert_all same_object table.old.entries
         (flat_map (declared_in_file place) (own_files_view files.now))) }
@@ -56,7 +56,7 @@ fn add_file(
     alloc: Global,
     place: usize,
     file: &OwnFile,
-    table: &mut IndexMap<ObjId, DeclaredObject>,
+    table: &mut DeclaredObjects,
 ) -> Result<(), NoMemory>
     ensures { OnOk result (table.new.entries ≡ insert_all same_object table.old.entries
         (declared_in_file place (own_file_view file.now))) }
@@ -77,7 +77,7 @@ fn add_imports(
     place: usize,
     file: &OwnFile,
     specs: &[&Node],
-    table: &mut IndexMap<ObjId, DeclaredObject>,
+    table: &mut DeclaredObjects,
 ) -> Result<(), NoMemory>
     ensures { OnOk result (table.new.entries ≡ insert_all same_object table.old.entries
         (map (spec.declared_by place file.now.stub (file_view file.now.file.now))
@@ -95,7 +95,7 @@ fn add_names(
     place: usize,
     file: &OwnFile,
     declarations: &[Declaration],
-    table: &mut IndexMap<ObjId, DeclaredObject>,
+    table: &mut DeclaredObjects,
 ) -> Result<(), NoMemory>
     ensures { OnOk result (table.new.entries ≡ insert_all same_object table.old.entries
         (map (spec.declared_by place file.now.stub (file_view file.now.file.now))
@@ -113,7 +113,7 @@ fn add_node(
     place: usize,
     file: &OwnFile,
     node: &Node,
-    table: &mut IndexMap<ObjId, DeclaredObject>,
+    table: &mut DeclaredObjects,
 ) -> Result<(), NoMemory>
     ensures { OnOk result (table.new.entries ≡ insert_entry same_object table.old.entries
         (spec.declared_by place file.now.stub (file_view file.now.file.now) (tree_of node.now)).0

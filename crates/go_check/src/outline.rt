@@ -5,17 +5,17 @@ ghost use Rattle.go_model.specs.Outline as spec;
 ghost use Rattle.go_model.specs.Report.{named_view};
 ghost use Rattle.go_check.specs.View.{outline_view};
 
+use crate::declared::DeclaredObjects;
 use go_base::{Name, NoMemory};
-use go_model::{DeclaredObject, NamedObject};
+use go_model::NamedObject;
 use go_module::{At, FIRST_NUMBER, ObjId, Package, universe};
-use indexmap::IndexMap;
 use std::alloc::Global;
 
 /// The packages of a module, and where its objects are declared.
 #[derive(Clone, Copy)]
 pub struct Outline<'a> {
     pub packages: &'a [Package],
-    pub declared: &'a IndexMap<ObjId, DeclaredObject>,
+    pub declared: &'a DeclaredObjects,
 }
 
 impl Outline<'_> {

@@ -1,4 +1,5 @@
 // Tables by numbers that are given out one after another.
+ghost use Rattle.std.specs.Prelude.{◌≡◌};
 ghost use Rattle.std.specs.List.{fold};
 ghost use Rattle.go_model.specs.NumberHasher.{byte_in, spread};
 
@@ -12,7 +13,9 @@ pub struct NumberHasher(u64);
 
 impl NumberHasher {
     /// The hasher before any byte.
-    pub fn new() -> NumberHasher {
+    pub fn new() -> NumberHasher
+        ensures { result.0 ≡ 0 }
+    {
         NumberHasher(0)
     }
 }
