@@ -7,7 +7,7 @@ use std::hash::{BuildHasher, Hasher};
 
 /// A hasher for the numbers of objects and nodes, which are given out one after another: those near each other get
 /// places near each other, so that a table that is read in their order is read from one end to the other. It has no
-/// seed, since no file picks its numbers.
+/// seed, as the kit's own has none: a file that is made for it can have many numbers at one place.
 #[derive(Clone, Copy)]
 pub struct NumberHasher(u64);
 
