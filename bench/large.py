@@ -23,6 +23,17 @@ def short_constants():
         before = name
 
 
+def dense_sums():
+    """Sums of ten literals: nearly every node of the file has an outcome, so that tables by numbers are dense."""
+    lines, size = ['package p\n'], 10
+    while True:
+        line = f'const c{len(lines):x}=' + '+'.join('1' * 10) + '\n'
+        size += len(line)
+        if size > SIZE:
+            return ''.join(lines)
+        lines.append(line)
+
+
 def open_parentheses():
     """Parentheses that are opened and never closed."""
     front = 'package p\nconst X = '
@@ -42,7 +53,7 @@ def main():
     with tempfile.TemporaryDirectory() as root:
         with open(root + '/go.mod', 'w') as file:
             file.write('module m\n\ngo 1.21\n')
-        for make in (short_constants, open_parentheses):
+        for make in (short_constants, dense_sums, open_parentheses):
             with open(root + '/a.go', 'w', newline='') as file:
                 file.write(make())
             status, seconds, memory = measure(program, root)

@@ -7,14 +7,15 @@ ghost use Rattle.go_module.specs.Scopes.{same_object};
 ghost use Rattle.go_model.specs.Outline as outlines;
 ghost use Rattle.go_model.specs.PackageLines as spec;
 ghost use Rattle.go_model.specs.Report.{line_view, named_view, what_view};
-ghost use Rattle.go_term.specs.Types.{type_of};
+ghost use Rattle.go_term.specs.Types.{parts_of};
+ghost use Rattle.go_term.specs.View.{elem_of, field_of, signature_of, type_of, union_term_of};
 ghost use Rattle.go_check.specs.View.{outline_view};
 
 use crate::outline::Outline;
 use go_base::NoMemory;
 use go_model::{DefKind, Line, NamedObject, What};
 use go_module::ObjId;
-use go_term::Term;
+use go_term::{ElemTerm, FieldTerm, FuncTerm, Term, UnionTerm};
 use indexmap::IndexMap;
 use std::alloc::Global;
 
@@ -45,33 +46,115 @@ fn add_line(line: &Line, objects: &mut IndexMap<ObjId, ObjId>) -> Result<(), NoM
         (map (λ d. (d, d)) (spec.objects_in_what (what_view line.now.what)))) }
 {
     match &line.what {
-        What::Def(_, DefKind::Const(term, _)) => add_term(*term, objects),
+        What::Def(_, DefKind::Const(term, _)) => add_type(term, objects),
         What::Def(_, DefKind::Package(_)) => Ok(()),
         What::Used(_, _) => Ok(()),
-        What::Expr(_, _, term, _) => add_some(*term, objects),
+        What::Expr(_, _, term, _) => add_some(term, objects),
     }
 }
 
-fn add_some(term: Option<Term>, objects: &mut IndexMap<ObjId, ObjId>) -> Result<(), NoMemory>
+fn add_some(term: &Option<Term>, objects: &mut IndexMap<ObjId, ObjId>) -> Result<(), NoMemory>
     ensures { OnOk result (objects.new.entries ≡ insert_all same_object objects.old.entries
-        (map (λ d. (d, d)) (spec.objects_in_some (option_map type_of term)))) }
+        (map (λ d. (d, d)) (spec.objects_in_some (option_map type_of term.now)))) }
 {
     match term {
-        Some(term) => add_term(term, objects),
+        Some(term) => add_type(term, objects),
         None => Ok(()),
     }
 }
 
-// Adds the object that a type names, if it names one.
-fn add_term(term: Term, objects: &mut IndexMap<ObjId, ObjId>) -> Result<(), NoMemory>
+// Adds the objects that a type names.
+#[cycle(named)]
+fn add_type(term: &Term, objects: &mut IndexMap<ObjId, ObjId>) -> Result<(), NoMemory>
     ensures { OnOk result (objects.new.entries ≡ insert_all same_object objects.old.entries
-        (map (λ d. (d, d)) (spec.objects_in_type (type_of term)))) }
+        (map (λ d. (d, d)) (spec.objects_in_type (type_of term.now)))) }
 {
     match term {
         Term::Basic(_) => Ok(()),
-        Term::Named(d) => {
-            objects.insert(d, d)?;
+        Term::Pointer(t) => add_type(t, objects),
+        Term::Slice(t) => add_type(t, objects),
+        Term::Array(_, t) => add_type(t, objects),
+        Term::Map(k, v) => {
+            add_type(k, objects)?;
+            add_type(v, objects)
+        }
+        Term::Chan(_, t) => add_type(t, objects),
+        Term::Func(f) => add_func(f, objects),
+        Term::Struct(fs) => add_fields(fs, objects),
+        Term::Interface(es) => add_elems(es, objects),
+        Term::Tuple(ts) => add_types(ts, objects),
+        Term::Named(d, ts) => {
+            objects.insert(*d, *d)?;
+            add_types(ts, objects)
+        }
+        Term::Param(d, _) => {
+            objects.insert(*d, *d)?;
             Ok(())
         }
+        Term::Bound(_) => Ok(()),
     }
+}
+
+#[cycle(named)]
+fn add_func(f: &FuncTerm, objects: &mut IndexMap<ObjId, ObjId>) -> Result<(), NoMemory>
+    ensures { OnOk result (objects.new.entries ≡ insert_all same_object objects.old.entries
+        (map (λ d. (d, d)) (spec.objects_in_parts (signature_of f.now).parts))) }
+{
+    add_types(&f.params, objects)?;
+    add_types(&f.results, objects)
+}
+
+#[cycle(named)]
+fn add_types(terms: &Vec<Term>, objects: &mut IndexMap<ObjId, ObjId>) -> Result<(), NoMemory>
+    ensures { OnOk result (objects.new.entries ≡ insert_all same_object objects.old.entries
+        (map (λ d. (d, d)) (spec.objects_in_parts (parts_of (map type_of terms.now.items))))) }
+{
+    for t in terms {
+        add_type(t, objects)?;
+    }
+    Ok(())
+}
+
+#[cycle(named)]
+fn add_fields(fields: &Vec<FieldTerm>, objects: &mut IndexMap<ObjId, ObjId>) -> Result<(), NoMemory>
+    ensures { OnOk result (objects.new.entries ≡ insert_all same_object objects.old.entries
+        (map (λ d. (d, d)) (spec.objects_in_parts (parts_of (map field_of fields.now.items))))) }
+{
+    for f in fields {
+        add_type(&f.ty, objects)?;
+    }
+    Ok(())
+}
+
+#[cycle(named)]
+fn add_elems(elems: &Vec<ElemTerm>, objects: &mut IndexMap<ObjId, ObjId>) -> Result<(), NoMemory>
+    ensures { OnOk result (objects.new.entries ≡ insert_all same_object objects.old.entries
+        (map (λ d. (d, d)) (spec.objects_in_parts (parts_of (map elem_of elems.now.items))))) }
+{
+    for e in elems {
+        add_elem(e, objects)?;
+    }
+    Ok(())
+}
+
+#[cycle(named)]
+fn add_elem(elem: &ElemTerm, objects: &mut IndexMap<ObjId, ObjId>) -> Result<(), NoMemory>
+    ensures { OnOk result (objects.new.entries ≡ insert_all same_object objects.old.entries
+        (map (λ d. (d, d)) (spec.objects_in_type (elem_of elem.now)))) }
+{
+    match elem {
+        ElemTerm::Method(_, _, _, f) => add_func(f, objects),
+        ElemTerm::Union(us) => add_unions(us, objects),
+    }
+}
+
+#[cycle(named)]
+fn add_unions(terms: &Vec<UnionTerm>, objects: &mut IndexMap<ObjId, ObjId>) -> Result<(), NoMemory>
+    ensures { OnOk result (objects.new.entries ≡ insert_all same_object objects.old.entries
+        (map (λ d. (d, d)) (spec.objects_in_parts (parts_of (map union_term_of terms.now.items))))) }
+{
+    for u in terms {
+        add_type(&u.ty, objects)?;
+    }
+    Ok(())
 }

@@ -33,8 +33,8 @@ use std::alloc::Global;
 use std::sync::ledger::Ledger;
 
 /// The verdict on the package at a place of the module, whose imports are accepted. The rulebook has the headers of the
-/// packages before whose values were asked, and `known` the same; both get those of the package where its names break no
-/// rule. An error is want of memory.
+/// packages before whose values were asked, and `known` the same; both get those of the package where its names break
+/// no rule. An error is want of memory.
 pub fn check_package<L: Ledger>(
     alloc: Global,
     names: &Names,

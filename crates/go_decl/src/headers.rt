@@ -1,5 +1,6 @@
 // The headers of declarations, found in rounds, told to rules, and kept (Go specification, "Constant declarations").
-ghost use Rattle.std.specs.Prelude.{◌≡◌, ◌<◌, ◌↔◌, ◌∷◌, [], ℕ, None, Some, false, is_some, length, IfOk, OnErr, OnOk, IsTrue};
+ghost use Rattle.std.specs.Prelude.{◌≡◌, ◌<◌, ◌↔◌, ◌∷◌, [], ℕ, None, Some, false, is_some, length};
+ghost use Rattle.std.specs.Prelude.{IfOk, OnErr, OnOk, IsTrue};
 ghost use Rattle.std.specs.Map.{lookup};
 ghost use Rattle.go_base.specs.declared.ids.ObjId.{ObjId as Object};
 ghost use Rattle.go_module.specs.Scopes.{same_object};

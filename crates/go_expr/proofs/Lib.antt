@@ -1,3 +1,4 @@
+pub mod BasicLemmas
 pub mod NodeOutcomeLemmas
 pub mod ReadLemmas
 pub mod ResultLemmas

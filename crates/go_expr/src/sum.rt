@@ -7,6 +7,8 @@ ghost use Rattle.go_model.specs.Outcomes.Judged.{OutcomeData, judged};
 ghost use Rattle.go_model.specs.Outcomes.Judged as outcomes;
 ghost use Rattle.go_model.specs.Outcomes.Records.{RecData, integer_by, integer_in, rec_view, untyped_int};
 ghost use Rattle.go_model.specs.Outcomes.View.{outcome_view};
+ghost use Rattle.go_term.specs.Types.{basic_type};
+ghost use Rattle.go_term.specs.View.{type_of};
 ghost use Rattle.go_model.specs.Outcomes.Walk as walk;
 
 use crate::literal::limited_outcome;
@@ -64,10 +66,42 @@ fn sum_of_records(alloc: Global, left: &Rec, right: &Rec) -> Result<Outcome, NoM
 fn integer_in(rec: &Rec) -> Option<i128>
     ensures { result ≡ integer_in (rec_view rec.now) }
 {
-    match rec.ty {
-        Some(Term::Basic(Basic::UntypedInt)) => integer(&rec.value),
-        Some(Term::Named(_)) => None,
+    match &rec.ty {
+        Some(ty) => integer_of(ty, &rec.value),
         None => None,
+    }
+}
+
+// The value, where it is an untyped integer.
+fn integer_of(ty: &Term, value: &Option<Value>) -> Option<i128>
+    ensures { result ≡ integer_by (Some (type_of ty.now)) value.now }
+{
+    match ty {
+        Term::Basic(basic) => basic_integer(*basic, value),
+        Term::Pointer(_) => None,
+        Term::Slice(_) => None,
+        Term::Array(_, _) => None,
+        Term::Map(_, _) => None,
+        Term::Chan(_, _) => None,
+        Term::Func(_) => None,
+        Term::Struct(_) => None,
+        Term::Interface(_) => None,
+        Term::Tuple(_) => None,
+        Term::Named(_, _) => None,
+        Term::Param(_, _) => None,
+        Term::Bound(_) => None,
+    }
+}
+
+// The value of a basic type, where that is the kind of an untyped integer.
+#[tactic(auto, using(crate::proofs::BasicLemmas::other_basic))]
+fn basic_integer(basic: Basic, value: &Option<Value>) -> Option<i128>
+    ensures { result ≡ integer_by (Some (basic_type basic)) value.now }
+{
+    if basic == Basic::UntypedInt {
+        integer(value)
+    } else {
+        None
     }
 }
 

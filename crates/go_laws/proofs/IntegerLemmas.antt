@@ -10,7 +10,8 @@ use Rattle.go_num.specs.declared.arithmetic.IntOp.TheVariants.{Add}
 use Rattle.go_num.specs.declared.value.Value.{Value}
 use Rattle.go_num.specs.Arithmetic.{binary_value, limited}
 use Rattle.go_term.specs.declared.basic.Basic.TheVariants.{UntypedInt}
-use Rattle.go_term.specs.Types.{TypeData, basic, named}
+use Rattle.go_term.specs.Types as types
+use Rattle.go_term.specs.Types.{TypeData}
 use Rattle.go_tree.specs.declared.node_kind.NodeKind.TheVariants.{AddExpr, IntLit, Name, ParenExpr, SelectorExpr}
 use Rattle.go_tree.specs.Lexical.LiteralValues.{int_lit_value}
 use Rattle.go_tree.specs.Tree.{Tree, Trees, branch, id_of, more_trees, no_trees}
@@ -140,8 +141,8 @@ module _ (headers : Headers) (integers : HaveIntegers headers) where
 
 -- without a value there is no integer
 valueless : (type : TypeData) → IsSome (integer_by (Some type) None) → ⊥
-valueless (basic UntypedInt) is = let never : false ≡ true = is in cc
-valueless (named object) is = let never : false ≡ true = is in cc
+valueless (types.made (types.basic UntypedInt) types.no_parts) is = let never : false ≡ true = is in cc
+valueless type is = let never : false ≡ true = is in cc
 
 -- what is declared with the record of an integer is an integer
 told_integer : (type : Option TypeData) (value : Option Value) → IsSome (integer_by type value) → (h : HeaderData) → option_and_then (λ t. option_map (constant t) value) type ≡ Some h → IsInteger h

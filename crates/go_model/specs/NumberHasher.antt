@@ -6,6 +6,6 @@ use Rattle.std.specs.Prelude.{ℕ, ◌+◌, ◌*◌, ◌/◌, ◌%◌, ◌^◌}
 abbrev pub byte_in : ℕ → ℕ → ℕ
 byte_in held byte = held / 256 + byte * 2 ^ 56
 
--- eight neighbours share a place, in the lowest 24 bits, and have a tag each, in the 8 bits above
+-- four neighbours share a place, in the lowest 24 bits, and have a tag each, in the 8 bits above
 abbrev pub spread : ℕ → ℕ
-spread held = held / 8 % 2 ^ 24 + held * 11400714819323198485 % 2 ^ 64 / 2 ^ 56 * 2 ^ 24
+spread held = held / 4 % 2 ^ 24 + held * 11400714819323198485 % 2 ^ 64 / 2 ^ 56 * 2 ^ 24

@@ -7,7 +7,7 @@ use Rattle.std.specs.List.{flat_map}
 use Rattle.std.specs.Option.{option_map_or}
 use Rattle.go_base.specs.Place.{line_of, column_of}
 use Rattle.go_base.specs.declared.ids.ObjId.{ObjId}
-use Rattle.go_term.specs.Types.{TypeData, basic, named}
+use Rattle.go_term.specs.Types.{Head, named, param, TypeData, Parts, made, no_parts, more_parts}
 use Rattle.go_tree.specs.declared.node.NodeId.{NodeId}
 use Rattle.go_tree.specs.Tree.{Tree, Trees, no_trees, more_trees, end_of, parts_of, start_of}
 use Rattle.go_module.specs.IndexMap.{insert_all}
@@ -115,10 +115,19 @@ pub record AreLines (outline : Outline) (k : ℕ) (p : PackageData) (denotes : N
   pub are_exprs : AreInOrder (exprs_from p.stub means headers 0 p.files) exprs
   pub all : lines ≡ defs ++ (uses ++ exprs)
 
--- the objects that a type names
-abbrev pub objects_in_type : TypeData → List ObjId
-objects_in_type (basic b) = []
-objects_in_type (named d) = d ∷ []
+-- the objects that a type names: declarations, and those of type parameters
+abbrev pub objects_at : Head → List ObjId
+objects_at (named d) = d ∷ []
+objects_at (param d i) = d ∷ []
+objects_at head = []
+
+abbrev mutual
+  pub objects_in_type : TypeData → List ObjId
+  objects_in_type (made head parts) = objects_at head ++ objects_in_parts parts
+
+  pub objects_in_parts : Parts → List ObjId
+  objects_in_parts no_parts = []
+  objects_in_parts (more_parts t ts) = objects_in_type t ++ objects_in_parts ts
 
 abbrev pub objects_in_some : Option TypeData → List ObjId
 objects_in_some None = []

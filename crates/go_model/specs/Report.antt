@@ -6,7 +6,8 @@ use Rattle.std.specs.Option.{option_map}
 use Rattle.go_base.specs.declared.ids.ObjId.{ObjId}
 use Rattle.go_base.specs.declared.places.LineCol.{LineCol}
 use Rattle.go_num.specs.declared.value.Value.{Value}
-use Rattle.go_term.specs.Types.{TypeData, type_of}
+use Rattle.go_term.specs.Types.{TypeData}
+use Rattle.go_term.specs.View.{type_of}
 use Rattle.go_module.specs.declared.places.At.{At}
 use Rattle.go_module.specs.declared.places.Placed.{Placed}
 use Rattle.go_model.specs.declared.lines.DefKind.{DefKind}

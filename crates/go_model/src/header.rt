@@ -1,5 +1,6 @@
 // Headers: what a declaration tells others.
 ghost use Rattle.std.specs.Prelude.{◌≡◌};
+ghost use Rattle.go_model.specs.Outcomes.Records.{header_view};
 
 use crate::value::copy_of;
 use go_num::Value;
@@ -14,12 +15,12 @@ pub enum Header {
 }
 
 impl Clone for Header {
-    ghost is_clone = { λ header copy. copy ≡ header };
+    ghost is_clone = { λ header copy. header_view copy ≡ header_view header };
 
     /// The header once more. An error is want of memory.
     fn clone(&self) -> Result<Header, AllocError> {
         match self {
-            Header::Const(ty, value) => Ok(Header::Const(*ty, copy_of(value)?)),
+            Header::Const(ty, value) => Ok(Header::Const(ty.clone()?, copy_of(value)?)),
         }
     }
 }

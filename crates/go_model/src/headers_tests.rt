@@ -20,7 +20,7 @@ fn a_map_of_headers_has_what_was_added(rt: HostRuntime) -> Result<(), Fail> {
             Some(Header::Const(_, Value::Bool(true)))
         )
     );
-    match map.ask(ObjId(46))? {
+    match &map.ask(ObjId(46))? {
         Some(Header::Const(_, Value::Text(bytes))) => {
             assert_eq!(rt; bytes.as_slice(), b"ab".as_slice());
         }

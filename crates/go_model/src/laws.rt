@@ -35,8 +35,8 @@ pub fn outcomes_stay()
 /// where its first test that is not Yes is No nowhere and lacks a header, or where what its record asks lacks one. It
 /// has nothing exactly where an operand has failed or nothing is asked.
 pub fn outcomes_exactly()
-    ensures { (means : ℕ → Meaning) (headers : Headers) (id from to : ℕ) (kind : NodeKind) (text : List ℕ) (parts : Trees)
-        → OutcomeExactly means headers id from to kind text parts }
+    ensures { (means : ℕ → Meaning) (headers : Headers) (id from to : ℕ) (kind : NodeKind) (text : List ℕ)
+        (parts : Trees) → OutcomeExactly means headers id from to kind text parts }
 {}
 
 /// A declaration has at most one header, whatever headers are known before.

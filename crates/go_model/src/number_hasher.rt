@@ -27,7 +27,7 @@ impl Hasher for NumberHasher {
 
     fn finish(&self) -> u64 {
         let tag = self.0.wrapping_mul(0x9e37_79b9_7f4a_7c15) >> 56;
-        self.0 / 8 % (1 << 24) + tag * (1 << 24)
+        self.0 / 4 % (1 << 24) + tag * (1 << 24)
     }
 
     fn write(&mut self, bytes: &[u8]) {

@@ -1,5 +1,8 @@
 // Records: what is known of an expression.
 ghost use Rattle.std.specs.Prelude.{◌≡◌, IfOk};
+ghost use Rattle.std.specs.Option.{option_map};
+ghost use Rattle.go_term.specs.View.{type_of};
+ghost use Rattle.go_model.specs.Outcomes.Records.{rec_view};
 
 use crate::value::copy_of;
 use go_module::ObjId;
@@ -25,16 +28,26 @@ pub struct Rec {
 }
 
 impl Clone for Rec {
-    ghost is_clone = { λ rec copy. copy ≡ rec };
+    ghost is_clone = { λ rec copy. rec_view copy ≡ rec_view rec };
 
     /// The record once more. An error is want of memory.
     fn clone(&self) -> Result<Rec, AllocError> {
         Ok(Rec {
             mode: self.mode,
-            ty: self.ty,
+            ty: type_copy(&self.ty)?,
             value: some_copy(&self.value)?,
             object: self.object,
         })
+    }
+}
+
+// The type, if there is one, once more.
+fn type_copy(ty: &Option<Ty>) -> Result<Option<Ty>, AllocError>
+    ensures { IfOk result (λ copy. option_map type_of copy ≡ option_map type_of ty.now) }
+{
+    match ty {
+        Some(ty) => Ok(Some(ty.clone()?)),
+        None => Ok(None),
     }
 }
 

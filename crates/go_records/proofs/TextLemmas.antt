@@ -57,11 +57,3 @@ refused_lines p v list told start next out is same first second =
     let whole = behind_text line_text broken_fields (package_fields p (codes "refused")) told start next out first second in
     let all = subst (λ (bs : List Placed). out ≡ start ++ flat_map line_text (package_fields p (codes "refused") ∷ map broken_fields bs)) same whole in
     subst (λ (w : VerdictData). out ≡ start ++ flat_map line_text (verdict_fields p w)) (sym is) all
-
--- a string between quotes
-pub quoted : (front rest start a b c out : List ℕ) → start ≡ [] → a ≡ start ++ 34 ∷ [] → b ≡ a ++ front → c ≡ b ++ 34 ∷ [] → out ≡ c ++ rest → out ≡ 34 ∷ (front ++ 34 ∷ rest)
-quoted front rest start a b c out e0 e1 e2 e3 e4 =
-    let first : a ≡ 34 ∷ [] = e1 ∙ ap (λ t. t ++ 34 ∷ []) e0 in
-    let second : b ≡ 34 ∷ front = e2 ∙ ap (λ t. t ++ front) first in
-    let third : c ≡ 34 ∷ (front ++ 34 ∷ []) = e3 ∙ ap (λ t. t ++ 34 ∷ []) second in
-    e4 ∙ (ap (λ t. t ++ rest) third ∙ ap (λ t. 34 ∷ t) (append_assoc front (34 ∷ []) rest))

@@ -7,9 +7,11 @@
 
 mod fields;
 mod lines;
+mod objects;
 mod places;
 mod status;
 mod text;
+mod types;
 mod values;
 
 pub use status::{refusal, verdict};
@@ -17,3 +19,5 @@ pub use text::{first_text, report_text};
 
 #[cfg(test)]
 mod tests;
+#[cfg(test)]
+mod type_tests;

@@ -1,14 +1,15 @@
 // The text of the lines of a report.
 ghost use Rattle.std.specs.Prelude.{◌≡◌, [], ◌++◌, ◌∷◌, OnOk, codes, map, option_map};
 ghost use Rattle.std.specs.List.{flat_map, join_with_byte};
-ghost use Rattle.go_term.specs.Types.{type_of};
+ghost use Rattle.go_term.specs.View.{type_of};
 ghost use Rattle.go_model.specs.Report.{defined, used, defined_view, line_view, named_view, package_view};
 ghost use Rattle.go_model.specs.Text.Lines.{broken_fields, line_fields, line_text, mode_text, module_fields, package_fields, type_fields, value_fields, what_fields};
 ghost use Rattle.go_model.specs.Text.Places.{end_text, place_text};
 
 use crate::fields::{put_field, put_fields, put_line};
 use crate::places::{declared_text, end_text, place_text};
-use crate::values::{type_text, value_text};
+use crate::types::type_text;
+use crate::values::value_text;
 use go_base::{LineCol, Name};
 use go_model::{DefKind, Line, Mode, NamedObject, PackageReport, Report, What};
 use go_module::{At, Placed};
@@ -89,14 +90,14 @@ fn put_def(
     let at = place_text(alloc, at)?;
     match kind {
         DefKind::Const(term, value) => {
-            let term = type_text(alloc, named, *term)?;
+            let term = type_text(alloc, named, term)?;
             let value = value_text(alloc, value)?;
             let fields = [
                 b"def",
                 at.as_bytes(),
                 name.as_bytes(),
                 b"const",
-                term.as_bytes(),
+                term.as_slice(),
                 value.as_slice(),
             ];
             put_line(out, &fields)
@@ -169,8 +170,8 @@ fn put_type_field(
     match term {
         None => Ok(()),
         Some(term) => {
-            let text = type_text(alloc, named, *term)?;
-            put_field(out, text.as_bytes())
+            let text = type_text(alloc, named, term)?;
+            put_field(out, text.as_slice())
         }
     }
 }

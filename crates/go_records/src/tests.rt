@@ -4,18 +4,16 @@ use go_base::{Bytes, Family, LineCol, Name, NoMemory, ObjId, Rule, Status};
 use go_model::{DefKind, Line, Mode, NamedObject, PackageReport, Records, Report, Verdict, What};
 use go_module::{At, Placed};
 use go_num::Value;
-use go_term::Term;
+use go_term::{Basic, Term};
 use std::alloc::Global;
 use std::test::Fail;
 
-// A universe name, a declared one, and one that is declared in a function.
-const STRING: ObjId = ObjId(20);
-
+// A declared name, and one that is declared in a function.
 const DECLARED: ObjId = ObjId(50);
 
 const LOCAL: ObjId = ObjId(51);
 
-fn name(alloc: Global, text: &str) -> Result<Name, NoMemory> {
+pub fn name(alloc: Global, text: &str) -> Result<Name, NoMemory> {
     Ok(Name::new(String::from_str(alloc, text)?))
 }
 
@@ -35,23 +33,24 @@ fn broken(alloc: Global, line: usize, family: Family) -> Result<Placed, NoMemory
     })
 }
 
-fn object(alloc: Global, object: ObjId, path: &str, text: &str) -> Result<NamedObject, NoMemory> {
+pub fn object(
+    alloc: Global,
+    object: ObjId,
+    path: &str,
+    text: &str,
+) -> Result<NamedObject, NoMemory> {
     Ok(NamedObject {
         object,
         path: name(alloc, path)?,
         name: name(alloc, text)?,
-        at: if object == STRING {
-            None
-        } else {
-            Some(at(alloc, 5, 2)?)
-        },
+        at: Some(at(alloc, 5, 2)?),
         local: object == LOCAL,
         params: Vec::new(alloc),
     })
 }
 
 fn seven(alloc: Global) -> Result<Line, NoMemory> {
-    let kind = DefKind::Const(Term::Named(DECLARED), Value::Int(7));
+    let kind = DefKind::Const(Term::Named(DECLARED, Vec::new(alloc)), Value::Int(7));
     Ok(Line {
         at: at(alloc, 3, 7)?,
         what: What::Def(name(alloc, "A")?, kind),
@@ -60,7 +59,7 @@ fn seven(alloc: Global) -> Result<Line, NoMemory> {
 
 fn two_bytes(alloc: Global) -> Result<Line, NoMemory> {
     let bytes = Bytes::new(b"\"\n".to_vec(alloc)?);
-    let kind = DefKind::Const(Term::Named(STRING), Value::Text(bytes));
+    let kind = DefKind::Const(Term::Basic(Basic::String), Value::Text(bytes));
     Ok(Line {
         at: at(alloc, 4, 7)?,
         what: What::Def(name(alloc, "B")?, kind),
@@ -76,7 +75,7 @@ fn used(alloc: Global) -> Result<Line, NoMemory> {
 
 fn expression(alloc: Global) -> Result<Line, NoMemory> {
     let end = LineCol { line: 3, col: 14 };
-    let term = Term::Named(LOCAL);
+    let term = Term::Named(LOCAL, Vec::new(alloc));
     Ok(Line {
         at: at(alloc, 3, 13)?,
         what: What::Expr(end, Mode::Const, Some(term), Some(Value::Int(7))),
@@ -92,7 +91,6 @@ fn records(alloc: Global) -> Result<Records, NoMemory> {
             expression(alloc)?,
         ]?,
         named: vec![in alloc;
-            object(alloc, STRING, "", "string")?,
             object(alloc, DECLARED, "m", "T")?,
             object(alloc, LOCAL, "m", "L")?,
         ]?,

@@ -6,7 +6,8 @@ use Rattle.go_base.specs.declared.ids.ObjId.{ObjId}
 use Rattle.go_num.specs.declared.value.Value.{Value}
 use Rattle.go_num.specs.declared.value.Value.TheVariants.{Int}
 use Rattle.go_term.specs.declared.basic.Basic.TheVariants.{UntypedInt}
-use Rattle.go_term.specs.Types.{TypeData, basic, type_of}
+use Rattle.go_term.specs.Types.{TypeData, basic, basic_type, made, no_parts}
+use Rattle.go_term.specs.View.{type_of}
 use Rattle.go_model.specs.declared.header.Header.{Header}
 use Rattle.go_model.specs.declared.header.Header.TheVariants.{Const as ConstHeader}
 use Rattle.go_model.specs.declared.rec.Mode.{Mode}
@@ -36,7 +37,7 @@ header_view (ConstHeader type value) = constant (type_of type) value
 
 -- the kind of an untyped integer constant
 abbrev pub untyped_int : TypeData
-untyped_int = basic UntypedInt
+untyped_int = basic_type UntypedInt
 
 -- the record of an untyped integer constant without a name
 abbrev pub integer_record : ℤ → RecData
@@ -44,7 +45,7 @@ integer_record v = record { mode = Const; type = Some untyped_int; value = Some 
 
 -- the value of an untyped integer constant
 abbrev pub integer_by : Option TypeData → Option Value → Option ℤ
-integer_by (Some (basic UntypedInt)) (Some (Int v)) = Some v
+integer_by (Some (made (basic UntypedInt) no_parts)) (Some (Int v)) = Some v
 integer_by type value = None
 
 abbrev pub integer_in : RecData → Option ℤ

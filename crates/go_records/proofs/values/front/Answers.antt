@@ -1,6 +1,6 @@
 use Rattle.std.proofs.Common.{ap, ◌∙◌, take}
 use Rattle.std.proofs.lemmas.List.{take_min}
-use Rattle.go_model.specs.Text.Values.{most_printed}
+use Rattle.go_model.specs.Text.Strings.{most_printed}
 use Rattle.go_records.proofs.values.front.Goals as goal
 
 pub returns : goal.returns

@@ -1,6 +1,6 @@
 use Rattle.std.proofs.Common.{◌≡◌, ◌++◌, take}
 use Rattle.std.specs.List.{flat_map}
-use Rattle.go_model.specs.Text.Values.{byte_text}
+use Rattle.go_model.specs.Text.Strings.{byte_text}
 use Rattle.go_records.proofs.values.put_bytes.Given as goal
 
 abbrev pub invariant-loop-byte : goal.invariant-loop-byte

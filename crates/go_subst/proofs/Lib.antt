@@ -1,0 +1,2 @@
+pub mod SubstLemmas
+pub mod ViewLemmas
