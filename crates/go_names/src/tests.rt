@@ -1,5 +1,8 @@
 // Each call once on small trees made by hand, where memory suffices.
-use crate::{Spec, declarations_of, import_specs, inner_parts, names_in_specs, specs_of};
+use crate::{
+    Spec, declarations_of, import_specs, inner_parts, is_blank_identifier, is_exported, name_of,
+    names_in_specs, specs_of,
+};
 use go_base::{Bytes, Name, ObjId};
 use go_module::{Built, ObjKind, SourceFile};
 use go_tree::{File, Node, NodeId, NodeKind};
@@ -196,5 +199,24 @@ fn each_name_of_a_group_is_declared(rt: HostRuntime) -> Result<(), Fail> {
     assert_eq!(rt; first.number(), ObjId(10));
     assert_eq!(rt; (second.number(), second.kind), (ObjId(20), ObjKind::Const));
     assert_eq!(rt; (second.built, second.values.len()), (Built::Pair, 1));
+    Ok(())
+}
+
+#[test]
+fn capital_letter_is_exported(rt: HostRuntime) -> Result<(), Fail> {
+    let alloc = rt.alloc();
+    for (text, exported, blank) in [
+        ("Ab", true, false),
+        ("É", true, false),
+        ("aB", false, false),
+        ("_A", false, false),
+        ("_", false, true),
+    ] {
+        let Ok(name) = name_of(alloc, &leaf(alloc, 1, 0, NodeKind::Name, text)?) else {
+            return Err(Fail::from("no name"));
+        };
+        assert_eq!(rt; is_exported(&name), exported, "{text}");
+        assert_eq!(rt; is_blank_identifier(&name), blank, "{text}");
+    }
     Ok(())
 }

@@ -7,9 +7,9 @@ ghost use Rattle.go_module.specs.Names.Rules.BlockRules as rule;
 
 use crate::held::Declared;
 use crate::rules::{MISSING_MAIN, REPEATED_NAME, RESERVED_NAME};
-use crate::words::is_word;
 use go_base::{Broken, Name, NoMemory};
 use go_module::{Block, Region, SourceFile, add_if, broken_at, first_part};
+use go_names::is_word;
 
 /// Adds the rule P4 at each declaration of a name that the block declares several times.
 pub fn add_repeated(block: &Declared, found: &mut Vec<Broken>) -> Result<(), NoMemory>

@@ -11,9 +11,9 @@ ghost use Rattle.go_module.specs.Scopes.{same_object};
 ghost use Rattle.go_scope.specs.Known.{known_by, importing};
 
 use crate::known::{Before, clause_name};
-use crate::words::{is_blank_identifier, is_exported, name_of};
 use go_base::{Name, NoMemory};
 use go_module::{Block, Import, ObjId, ObjKind, Object, Region, Scopes, copy_object};
+use go_names::{is_blank_identifier, is_exported, name_of};
 use go_tree::{Node, NodeKind};
 use std::alloc::Global;
 

@@ -7,9 +7,9 @@ ghost use Rattle.go_module.specs.Modules.Paths.{same_text};
 ghost use Rattle.go_module.specs.Scopes.{same_object};
 ghost use Rattle.go_scope.specs.Known.{known_by};
 
-use crate::words::is_exported;
 use go_base::{Name, NoMemory};
 use go_module::{Object, Package, Scopes};
+use go_names::is_exported;
 use std::alloc::Global;
 
 /// What the packages of a module are known by: the packages, by their places in the module, and the scopes of those

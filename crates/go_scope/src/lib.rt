@@ -6,7 +6,6 @@
 #![tactic(auto)]
 
 mod rules;
-mod words;
 
 // What is declared.
 mod file_block;

@@ -9,9 +9,9 @@ ghost use Rattle.go_scope.specs.Resolved as spec;
 use crate::known::{Before, exported};
 use crate::resolved::Resolved;
 use crate::rules::{BLANK_VALUE, COMPLEX_NAME, MISPLACED_PACKAGE, MISSING_MEMBER, UNDECLARED_NAME};
-use crate::words::is_blank_identifier;
 use go_base::{Broken, NoMemory};
 use go_module::{add_if, broken_at};
+use go_names::is_blank_identifier;
 
 /// Adds what these occurrences break, one after another.
 pub fn add_broken_occurrences(

@@ -5,10 +5,9 @@ ghost use Rattle.go_module.specs.Names.Declarations.{name_text};
 ghost use Rattle.go_module.specs.Names.PackageBlock as spec;
 ghost use Rattle.go_names.specs.Views.{declaration_view, declarations_view};
 
-use crate::words::{is_blank_identifier, name_of};
 use go_base::{Name, NoMemory};
 use go_module::{Block, Object, Region};
-use go_names::Declaration;
+use go_names::{Declaration, is_blank_identifier, name_of};
 use std::alloc::Global;
 
 /// The regions of the block of the package at a place of its module, which has these declarations. An error is want

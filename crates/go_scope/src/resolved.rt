@@ -7,9 +7,9 @@ ghost use Rattle.go_scope.specs.Held.{innermost, is_declared};
 ghost use Rattle.go_scope.specs.Resolved.{denoted_of, resolved_in};
 
 use crate::held::Declared;
-use crate::words::is_word;
 use go_base::{Name, NoMemory};
 use go_module::{Block, ObjId, Occurrence, Region, object_id};
+use go_names::is_word;
 use go_tree::NodeId;
 use std::alloc::Global;
 
