@@ -6,6 +6,7 @@ ghost use Rattle.go_model.specs.Outcomes.Judged.{OutcomeData, judged};
 ghost use Rattle.go_model.specs.Outcomes.Records.{RecData};
 ghost use Rattle.go_model.specs.Outcomes.View.{outcome_view};
 ghost use Rattle.go_model.specs.Outcomes.Walk as walk;
+ghost use Rattle.go_model.specs.Types.Own.{KeepsTypes};
 
 use crate::broken::broken;
 use crate::name::name;
@@ -27,6 +28,7 @@ pub fn selector<J: Judge>(
     ensures same { J.headers judge.new ≡ J.headers judge.old }
     ensures names { J.names judge.new ≡ J.names judge.old }
     ensures world { J.world judge.new ≡ J.world judge.old }
+    ensures types { KeepsTypes (J.is_type judge.old) (J.is_type judge.new) (J.tree judge.old) (J.tree judge.new) }
 {
     match meaning {
         Meaning::Other => of_value(alloc, operand),

@@ -9,6 +9,7 @@ ghost use Rattle.go_model.specs.Outcomes.Records.{rec_view};
 ghost use Rattle.go_model.specs.Outcomes.View.{outcome_view};
 ghost use Rattle.go_model.specs.Outcomes.Walk as walk;
 ghost use Rattle.go_model.specs.Outcomes.Walked.{ArePartly, walked_over};
+ghost use Rattle.go_model.specs.Types.Own.{KeepsTypes};
 ghost use Rattle.go_model.specs.Values.Meaning.{AreThere, meaning_by};
 ghost use Rattle.go_expr.specs.Outcomes.{both_of, only_of, outcome_by_parts};
 ghost use Rattle.go_expr.specs.Outcomes.{parentheses_by_parts, selector_by_parts, sum_by_parts};
@@ -65,6 +66,7 @@ impl Walker {
         ensures same { J.headers judge.new ≡ J.headers judge.old }
         ensures names { J.names judge.new ≡ J.names judge.old }
         ensures world { J.world judge.new ≡ J.world judge.old }
+        ensures types { KeepsTypes (J.is_type judge.old) (J.is_type judge.new) (J.tree judge.old) (J.tree judge.new) }
     {
         walk(alloc, judge, node, self)
     }
@@ -109,6 +111,7 @@ fn walk<J: Judge>(
     ensures same { J.headers judge.new ≡ J.headers judge.old }
     ensures names { J.names judge.new ≡ J.names judge.old }
     ensures world { J.world judge.new ≡ J.world judge.old }
+    ensures types { KeepsTypes (J.is_type judge.old) (J.is_type judge.new) (J.tree judge.old) (J.tree judge.new) }
 {
     let inner = inner_parts(alloc, node)?;
     let mut outcomes = Vec::new(alloc);
@@ -135,6 +138,7 @@ fn step<J: Judge>(
     ensures same { J.headers judge.new ≡ J.headers judge.old }
     ensures names { J.names judge.new ≡ J.names judge.old }
     ensures world { J.world judge.new ≡ J.world judge.old }
+    ensures types { KeepsTypes (J.is_type judge.old) (J.is_type judge.new) (J.tree judge.old) (J.tree judge.new) }
 {
     match node.kind() {
         NodeKind::IntLit => literal(alloc, node.text()),
@@ -166,6 +170,7 @@ fn selector_by_parts<J: Judge>(
     ensures same { J.headers judge.new ≡ J.headers judge.old }
     ensures names { J.names judge.new ≡ J.names judge.old }
     ensures world { J.world judge.new ≡ J.world judge.old }
+    ensures types { KeepsTypes (J.is_type judge.old) (J.is_type judge.new) (J.tree judge.old) (J.tree judge.new) }
 {
     match only(outcomes) {
         Some(operand) => selector(alloc, judge, meaning, operand),

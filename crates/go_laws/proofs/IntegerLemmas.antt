@@ -29,7 +29,7 @@ use Rattle.go_model.specs.Outcomes.Constructs.Sum.{sum}
 use Rattle.go_model.specs.Outcomes.Judged.{Asks, Broken, Found, Nothing, OutcomeData, Waits, asked, judged, made, outcome_at, tested}
 use Rattle.go_model.specs.Outcomes.Operands.{at_whole}
 use Rattle.go_model.specs.Outcomes.Readings.{record_in}
-use Rattle.go_model.specs.Outcomes.Records.{HeaderData, RecData, constant, declared_header, integer_by, integer_in, integer_record, named_record}
+use Rattle.go_model.specs.Outcomes.Records.{HeaderData, RecData, alias, constant, definition, func, variable, declared_header, integer_by, integer_in, integer_record, named_record}
 use Rattle.go_model.specs.Outcomes.Walk.{Headers, outcome, outcomes}
 use Rattle.go_model.specs.Values.Headers.{Justified, Known, headers_of}
 use Rattle.go_model.specs.Values.Quests.{Asked, Decided, Done, Lacks}
@@ -40,6 +40,7 @@ use Rattle.go_expr.proofs.NodeOutcomeLemmas.{by_operands_is, outcome_by_operands
 -- the header of an untyped integer constant
 abbrev pub IsInteger : HeaderData → Type 0
 IsInteger (constant type value) = IsSome (integer_by (Some type) (Some value))
+IsInteger header = ⊥
 
 abbrev pub HaveIntegers : Headers → Type 0
 HaveIntegers headers = (d : ℕ) (h : HeaderData) → headers d ≡ Some h → IsInteger h
@@ -73,6 +74,10 @@ tested_integer headers own x true = found_integer (integer_record x) refl
 
 named_integer : (object : ObjId) (h : HeaderData) → IsInteger h → IsIntegerRecord (named_record object h)
 named_integer object (constant type value) is = is
+named_integer object (variable type) is = absurd is
+named_integer object (func params type) is = absurd is
+named_integer object (definition params right methods) is = absurd is
+named_integer object (alias type) is = absurd is
 
 -- what is asked of a sum of two integers
 abbrev sum_of : ℤ → ℤ → Asks HeaderData RecData

@@ -8,6 +8,7 @@ pub mod HeaderLemmas
 pub mod LineOrderLemmas
 pub mod OneReportLemmas
 pub mod OutlineLemmas
+pub mod OwnLemmas
 pub mod OutcomeLemmas
 pub mod QuestLemmas
 pub mod StableLemmas

@@ -9,6 +9,7 @@ pub mod Text
 -- the values of a package's declarations, and the rules on them
 pub mod Values
 pub mod Outcomes
+pub mod Types
 pub mod Laws
 -- how tables by numbers are hashed
 pub mod NumberHasher

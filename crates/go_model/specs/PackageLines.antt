@@ -2,7 +2,7 @@
 -- Decides which lines it has: one for each name that is written where it is declared, one for each use of a name, and one
 -- for each expression; of what stands in a copy of an omitted list, neither uses nor expressions. How they are ordered:
 -- `LineOrder`. How a line reads: `Text`.
-use Rattle.std.specs.Prelude.{◌≡◌, ℕ, ◌+◌, Bool, is_none, if◌then◌else◌, List, [], ◌∷◌, ◌++◌, Option, Some, None, filter, map}
+use Rattle.std.specs.Prelude.{◌≡◌, ℕ, ◌+◌, Bool, is_none, if◌then◌else◌, List, [], ◌∷◌, ◌++◌, Option, Some, None, filter, map, option_and_then}
 use Rattle.std.specs.List.{flat_map}
 use Rattle.std.specs.Option.{option_map_or}
 use Rattle.go_base.specs.Place.{line_of, column_of}
@@ -47,14 +47,15 @@ import_defs_in outline stub f place parts = []
 abbrev pub import_defs : Outline → Bool → FileData → Importing → List LineData
 import_defs outline stub f i = import_defs_in outline stub f i.imported (parts_of i.spec)
 
--- what a declaration is told as, by its header
-abbrev pub told_as : HeaderData → DefinedData
-told_as (ConstantHeader type value) = constant type value
+-- what a declaration is told as, by its header; that of a kind that is not built yet is not told
+abbrev pub told_as : HeaderData → Option DefinedData
+told_as (ConstantHeader type value) = Some (constant type value)
+told_as header = None
 
 -- by whatever says which outcome a node has
 abbrev pub def_by : (Tree → OutcomeData RecData) → Bool → FileData → Declaration → List LineData
 def_by outcome stub f d =
-    option_map_or (λ h. line_at stub f (start_of d.name) (defined (name_text d.name) (told_as h)) ∷ []) (header_by outcome d) []
+    option_map_or (λ kind. line_at stub f (start_of d.name) (defined (name_text d.name) kind) ∷ []) (option_and_then told_as (header_by outcome d)) []
 
 abbrev pub declaration_defs : Bool → FileData → (ℕ → Meaning) → Headers → Declaration → List LineData
 declaration_defs stub f means headers d = def_by (outcome means headers) stub f d

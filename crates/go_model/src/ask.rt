@@ -4,7 +4,10 @@ ghost use Rattle.std.specs.Option.{option_map};
 ghost use Rattle.go_model.specs.Outcomes.Records.{header_view};
 ghost use Rattle.go_model.specs.Outcomes.Walk as walk;
 ghost use Rattle.go_model.specs.Outcomes.Walked.{Outcomes};
+ghost use Rattle.go_model.specs.Types.Own.{KeepsTypes};
 ghost use Rattle.go_model.specs.Values.Meaning.{Naming};
+ghost use Rattle.go_term.specs.Types.{TypeData};
+ghost use Rattle.go_term.specs.declared.term.Term.{Term};
 
 use crate::header::Header;
 use go_base::NoMemory;
@@ -32,8 +35,15 @@ pub trait Ask {
     /// What stays while headers are asked and told.
     ghost world: { Self → World };
 
+    /// Which types are its own: it gave them, or was given them as its own. They stand here, since a call of `ask` keeps
+    /// them.
+    ghost is_type: { Self → Term → Type 0 };
+
+    /// What a type of its own stands for.
+    ghost tree: { Self → Term → TypeData };
+
     /// The header of a declaration, None exactly where the map has none. An error is want of memory. The map, the
-    /// names, the outcomes, and what else stays are as before, also on an error.
+    /// names, the outcomes, its types, and what else stays are as before, also on an error.
     fn ask(&mut self, d: ObjId) -> Result<Option<Header>, NoMemory>
         ensures answer { IfOk result (λ header. option_map header_view header ≡ headers self.old d.0) }
         ensures same { headers self.new ≡ headers self.old }
@@ -41,5 +51,6 @@ pub trait Ask {
         ensures outcomes { outcomes self.new ≡ outcomes self.old }
         ensures unspent { IfOk result (λ header. is_spent self.old ≡ false) }
         ensures spent { is_spent self.new ≡ is_spent self.old }
-        ensures world { world self.new ≡ world self.old };
+        ensures world { world self.new ≡ world self.old }
+        ensures types { KeepsTypes (is_type self.old) (is_type self.new) (tree self.old) (tree self.new) };
 }

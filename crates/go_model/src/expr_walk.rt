@@ -6,6 +6,7 @@ ghost use Rattle.go_module.specs.Names.Occurrences.{nodes_in};
 ghost use Rattle.go_model.specs.Outcomes.View.{outcome_view};
 ghost use Rattle.go_model.specs.Outcomes.Walk as walk;
 ghost use Rattle.go_model.specs.Outcomes.Walked.{ArePartly, walked_over};
+ghost use Rattle.go_model.specs.Types.Own.{KeepsTypes};
 ghost use Rattle.go_model.specs.Values.Meaning.{AreThere, meaning_by};
 
 use crate::ask::Ask;
@@ -17,7 +18,7 @@ use std::alloc::Global;
 
 /// Who walks over expressions and types, and keeps the outcomes of their nodes.
 pub trait ExprWalk: Ask {
-    /// The outcome of a node over the headers, which stay, as the names do, also on an error. It asks that each object
+    /// The outcome of a node over the headers, which stay, as the names and its types do, also on an error. It asks that each object
     /// that is denoted is there. The walk reaches the node and all nodes in it, the name of a package before a `.` too.
     /// `want` is the type of the variable or the result to which the value is given; nothing is built yet that looks at
     /// it. An error is want of memory; some of these nodes may have their outcomes then.
@@ -34,7 +35,9 @@ pub trait ExprWalk: Ask {
         ensures names { Self.names self.new ≡ Self.names self.old }
         ensures unspent { IfOk result (λ found. Self.is_spent self.old ≡ false) }
         ensures spent { Self.is_spent self.new ≡ Self.is_spent self.old }
-        ensures world { Self.world self.new ≡ Self.world self.old };
+        ensures world { Self.world self.new ≡ Self.world self.old }
+        ensures types { KeepsTypes (Self.is_type self.old) (Self.is_type self.new)
+            (Self.tree self.old) (Self.tree self.new) };
 
     /// The outcome of a node in the last walk that reached it, None exactly where none did.
     fn outcome(&self, id: NodeId) -> Option<&Outcome>

@@ -6,6 +6,7 @@ ghost use Rattle.go_model.specs.Outcomes.Walked.{no_outcomes};
 ghost use Rattle.go_model.specs.Values.Headers.{headers_of};
 ghost use Rattle.go_model.specs.Values.HeadersView.{headers_view};
 ghost use Rattle.go_model.specs.Values.Meaning.{no_names};
+ghost use Rattle.go_term.specs.View.{type_of};
 
 use crate::ask::Ask;
 use crate::header::Header;
@@ -65,6 +66,11 @@ impl Ask for Headers {
     ghost World = { Unit {0} };
 
     ghost world = { λ _. tt };
+
+    // Any type is its own.
+    ghost is_type = { λ _ _. Unit {0} };
+
+    ghost tree = { λ _ t. type_of t };
 
     fn ask(&mut self, d: ObjId) -> Result<Option<Header>, NoMemory> {
         match self.table.get(&d) {

@@ -1,17 +1,27 @@
 // Who judges expressions, level above level: a call of one level is answered by those below alone.
-ghost use Rattle.std.specs.Prelude.{◌≡◌, ℕ, [], ◌∷◌, true, false, None, Some, IsSome, OnErr, OnOk};
+ghost use Rattle.std.specs.Prelude.{◌≡◌, ℕ, [], ◌∷◌, true, false, None, Some, IfErr, IfOk, IsSome, OnErr, OnOk, length, map};
+ghost use Rattle.std.specs.List.{AllByRecursion};
+ghost use Rattle.go_term.specs.Shapes.{IsCause, shape_tree};
+ghost use Rattle.go_term.specs.Size.{size_fault};
+ghost use Rattle.go_term.specs.Substitution.{subst};
 ghost use Rattle.go_model.specs.Outcomes.Records.{header_view};
+ghost use Rattle.go_model.specs.Types.Forms.{IsOwnForm, form_as, underlying_over};
+ghost use Rattle.go_model.specs.Types.Own.{AreOwn, Keeps, KeepsTypes};
 ghost use Rattle.go_model.specs.Values.Headers.{headers_of};
 
 use crate::ask::Ask;
 use crate::expr_walk::ExprWalk;
+use crate::form::Form;
 use crate::header::Header;
 use go_base::NoMemory;
 use go_module::{ObjId, Object};
+use go_term::{Shape, TermFault, Ty};
 use go_tree::NodeId;
+use std::alloc::Global;
 
-/// What is known of identifiers and objects (Go specification, "Declarations and scope"). Of types nothing is asked
-/// yet.
+/// What is known of identifiers and objects (Go specification, "Declarations and scope"), and of types: they are read
+/// and made by `see`, `make` and `subst` alone. An error is want of memory where nothing else is said; each call leaves
+/// the headers, the names, the outcomes, its types, and what else stays as they were, also on an error.
 pub trait Forms: Ask {
     /// The object that an identifier of the package denotes, by its node, None exactly where it denotes none.
     fn resolve(&self, id: NodeId) -> Option<ObjId>
@@ -21,6 +31,70 @@ pub trait Forms: Ask {
     fn object(&self, d: ObjId) -> &Object
         requires { IsSome ((Self.names self.now).objects d.0) }
         ensures { (Self.names self.now).objects d.0 ≡ Some result.now };
+
+    /// The outer form of a type.
+    fn see(&mut self, alloc: Global, t: &Ty) -> Result<Shape, NoMemory>
+        requires { Self.is_type self.old t.now }
+        ensures shape { IfOk result (λ shape. shape_tree (Self.tree self.new) shape ≡ Self.tree self.old t.now) }
+        ensures own { IfOk result (AreOwn (Self.is_type self.new)) }
+        ensures unspent { IfOk result (λ shape. Self.is_spent self.old ≡ false) }
+        ensures keeps { Keeps (Self.headers self.old) (Self.headers self.new) (Self.names self.old) (Self.names self.new)
+            (Self.outcomes self.old) (Self.outcomes self.new) (Self.is_spent self.old) (Self.is_spent self.new)
+            (Self.world self.old) (Self.world self.new) (Self.is_type self.old) (Self.is_type self.new)
+            (Self.tree self.old) (Self.tree self.new) };
+
+    /// The type of this form. Besides want of memory an error is Deep where it is deeper than 256, else Large where it
+    /// has more than 65,536 nodes.
+    fn make(&mut self, alloc: Global, shape: Shape) -> Result<Ty, TermFault>
+        requires { AreOwn (Self.is_type self.old) shape }
+        ensures made { IfOk result (λ t. Self.tree self.new t ≡ shape_tree (Self.tree self.old) shape) }
+        ensures own { IfOk result (Self.is_type self.new) }
+        ensures fits { IfOk result (λ t. size_fault (shape_tree (Self.tree self.old) shape) ≡ None) }
+        ensures cause { IfErr result (λ fault. IsCause fault (shape_tree (Self.tree self.old) shape)) }
+        ensures unspent { IfOk result (λ t. Self.is_spent self.old ≡ false) }
+        ensures keeps { Keeps (Self.headers self.old) (Self.headers self.new) (Self.names self.old) (Self.names self.new)
+            (Self.outcomes self.old) (Self.outcomes self.new) (Self.is_spent self.old) (Self.is_spent self.new)
+            (Self.world self.old) (Self.world self.new) (Self.is_type self.old) (Self.is_type self.new)
+            (Self.tree self.old) (Self.tree self.new) };
+
+    /// The type with arguments in the place of type parameters, each known by its declaration and its place there
+    /// ("Instantiations"). It asks for one argument for each parameter. Besides want of memory an error is Deep where the
+    /// type that it would be is deeper than 256, else Large where it has more than 65,536 nodes.
+    fn subst(
+        &mut self,
+        alloc: Global,
+        t: &Ty,
+        from: &[(ObjId, usize)],
+        to: &[Ty],
+    ) -> Result<Ty, TermFault>
+        requires long { length from.now ≡ length to.now }
+        requires own { Self.is_type self.old t.now }
+        requires arguments { AllByRecursion (Self.is_type self.old) to.now }
+        ensures made { IfOk result (λ made. Self.tree self.new made
+            ≡ subst from.now (map (Self.tree self.old) to.now) (Self.tree self.old t.now)) }
+        ensures own { IfOk result (Self.is_type self.new) }
+        ensures fits { IfOk result (λ made. size_fault
+            (subst from.now (map (Self.tree self.old) to.now) (Self.tree self.old t.now)) ≡ None) }
+        ensures cause { IfErr result (λ fault. IsCause fault
+            (subst from.now (map (Self.tree self.old) to.now) (Self.tree self.old t.now))) }
+        ensures unspent { IfOk result (λ made. Self.is_spent self.old ≡ false) }
+        ensures keeps { Keeps (Self.headers self.old) (Self.headers self.new) (Self.names self.old) (Self.names self.new)
+            (Self.outcomes self.old) (Self.outcomes self.new) (Self.is_spent self.old) (Self.is_spent self.new)
+            (Self.world self.old) (Self.world self.new) (Self.is_type self.old) (Self.is_type self.new)
+            (Self.tree self.old) (Self.tree self.new) };
+
+    /// The underlying type of a type ("Underlying types"). Absent exactly where the chain of right sides returns or
+    /// leads to a type that is too deep or too large, Unknown with the first header that the chain lacks.
+    fn underlying(&mut self, alloc: Global, t: &Ty) -> Result<Form, NoMemory>
+        requires { Self.is_type self.old t.now }
+        ensures answer { IfOk result (λ form. form_as (Self.tree self.new) form
+            ≡ underlying_over (Self.headers self.old) (Self.tree self.old t.now)) }
+        ensures own { IfOk result (IsOwnForm (Self.is_type self.new)) }
+        ensures unspent { IfOk result (λ form. Self.is_spent self.old ≡ false) }
+        ensures keeps { Keeps (Self.headers self.old) (Self.headers self.new) (Self.names self.old) (Self.names self.new)
+            (Self.outcomes self.old) (Self.outcomes self.new) (Self.is_spent self.old) (Self.is_spent self.new)
+            (Self.world self.old) (Self.world self.new) (Self.is_type self.old) (Self.is_type self.new)
+            (Self.tree self.old) (Self.tree self.new) };
 }
 
 /// Which types are identical (Go specification, "Type identity"). No type is judged yet.
@@ -38,8 +112,8 @@ pub trait Judge: Sets {}
 
 /// A judge that walks over expressions and is told headers.
 pub trait Rules: Judge + ExprWalk {
-    /// Adds the header of a declaration that has none. The names, the outcomes, and what else stays are as before. An
-    /// error is want of memory, and leaves the headers as they were; behind it each call that can answer it does.
+    /// Adds the header of a declaration that has none. The names, the outcomes, its types, and what else stays are as
+    /// before. An error is want of memory, and leaves the headers as they were; behind it each call that can answer it does.
     fn learn(&mut self, d: ObjId, header: &Header) -> Result<(), NoMemory>
         requires { Self.headers self.old d.0 ≡ None }
         ensures learned { OnOk result ((e : ℕ) → Self.headers self.new e
@@ -50,5 +124,7 @@ pub trait Rules: Judge + ExprWalk {
         ensures kept { OnOk result (Self.is_spent self.new ≡ false) }
         ensures spent { OnErr result (Self.is_spent self.new ≡ true) }
         ensures outcomes { Self.outcomes self.new ≡ Self.outcomes self.old }
-        ensures world { Self.world self.new ≡ Self.world self.old };
+        ensures world { Self.world self.new ≡ Self.world self.old }
+        ensures types { KeepsTypes (Self.is_type self.old) (Self.is_type self.new)
+            (Self.tree self.old) (Self.tree self.new) };
 }

@@ -15,6 +15,7 @@ mod laws;
 // What is known of declarations and expressions.
 mod ask;
 mod expr_walk;
+mod form;
 mod header;
 mod headers;
 mod judge;
@@ -38,11 +39,12 @@ mod law_tests;
 pub use ask::Ask;
 pub use declared_object::DeclaredObject;
 pub use expr_walk::ExprWalk;
+pub use form::{Form, Reached};
 pub use go_module::{
     At, Block, Import, Method, Module, ObjId, ObjKind, Object, Occurrence, Package, Placed, Region,
     Scopes, Selected, SourceFile,
 };
-pub use header::Header;
+pub use header::{Header, TypeParam};
 pub use headers::Headers;
 pub use judge::{Finds, Forms, Judge, Rules, Same, Sets};
 pub use laws::{

@@ -13,8 +13,24 @@ use std::alloc::AllocError;
 /// What an expression stands for (Go specification, "Expressions").
 #[derive(Clone, Copy, Debug, PartialEq, Eq)]
 pub enum Mode {
+    /// a call without results
+    NoValue,
+    /// a built-in function
+    Builtin,
+    /// a type
+    IsType,
     /// a constant
     Const,
+    /// a variable, or what else can be addressed
+    Var,
+    /// an element of a map
+    MapIndex,
+    /// any other value
+    Value,
+    /// `nil`
+    Nil,
+    /// a receive or a type assertion, which can give a second value
+    CommaOk,
 }
 
 /// The record of an expression: what it stands for, its type, its value where it is a constant, and the

@@ -155,7 +155,15 @@ fn mode_text(mode: Mode) -> &'static [u8]
     ensures { result.now ≡ mode_text mode }
 {
     match mode {
+        Mode::NoValue => b"novalue",
+        Mode::Builtin => b"builtin",
+        Mode::IsType => b"type",
         Mode::Const => b"const",
+        Mode::Var => b"var",
+        Mode::MapIndex => b"mapindex",
+        Mode::Value => b"value",
+        Mode::Nil => b"nil",
+        Mode::CommaOk => b"commaok",
     }
 }
 

@@ -1,17 +1,19 @@
--- Constants; Constant declarations; Expressions (Go specification).
+-- Expressions; Declarations and scope (Go specification).
 -- Says what is known of an expression, its record, and what a declaration tells others, its header, as plain data.
-use Rattle.std.specs.Prelude.{ℤ, Option, None, Some, option_and_then}
+use Rattle.std.specs.Prelude.{ℤ, List, Option, None, Some, map, option_and_then}
 use Rattle.std.specs.Option.{option_map}
 use Rattle.go_base.specs.declared.ids.ObjId.{ObjId}
 use Rattle.go_num.specs.declared.value.Value.{Value}
 use Rattle.go_num.specs.declared.value.Value.TheVariants.{Int}
 use Rattle.go_term.specs.declared.basic.Basic.TheVariants.{UntypedInt}
-use Rattle.go_term.specs.Types.{TypeData, basic, basic_type, made, no_parts}
+use Rattle.go_module.specs.declared.object.Method.{Method}
+use Rattle.go_term.specs.Types.{TypeData, basic, basic_type, made, named, no_parts}
 use Rattle.go_term.specs.View.{type_of}
 use Rattle.go_model.specs.declared.header.Header.{Header}
-use Rattle.go_model.specs.declared.header.Header.TheVariants.{Const as ConstHeader}
+use Rattle.go_model.specs.declared.header.Header.TheVariants as H
+use Rattle.go_model.specs.declared.header.TypeParam.{TypeParam}
 use Rattle.go_model.specs.declared.rec.Mode.{Mode}
-use Rattle.go_model.specs.declared.rec.Mode.TheVariants.{Const}
+use Rattle.go_model.specs.declared.rec.Mode.TheVariants as M
 use Rattle.go_model.specs.declared.rec.Rec.{Rec}
 
 -- what an expression stands for; its type; its value where it is a constant; the object that it denotes where it is a name
@@ -22,16 +24,37 @@ pub record RecData : Type 0 where
   pub value : Option Value
   pub object : Option ObjId
 
--- what a declaration tells others: a constant its type and its value
+-- a type parameter: its object, and its constraint as an interface
+pub record ParamData : Type 0 where
+  pub object : ObjId
+  pub constraint : TypeData
+
+-- what a declaration tells others
 pub data HeaderData : Type 0 where
+  -- a constant: its type and its value
   constant : TypeData → Value → HeaderData
+  -- a variable: its type
+  variable : TypeData → HeaderData
+  -- a function or a method: its type parameters and its type
+  func : List ParamData → TypeData → HeaderData
+  -- a defined type: its type parameters, its right side and its methods
+  definition : List ParamData → TypeData → List Method → HeaderData
+  -- an alias: the type for which it stands
+  alias : TypeData → HeaderData
 
 -- what the values of the program stand for
 abbrev pub rec_view : Rec → RecData
 rec_view r = record { mode = r.mode; type = option_map type_of r.ty; value = r.value; object = r.object }
 
+abbrev pub param_view : TypeParam → ParamData
+param_view p = record { object = p.object; constraint = type_of p.bound }
+
 abbrev pub header_view : Header → HeaderData
-header_view (ConstHeader type value) = constant (type_of type) value
+header_view (H.Const type value) = constant (type_of type) value
+header_view (H.Var type) = variable (type_of type)
+header_view (H.Func params type) = func (map param_view params.items) (type_of type)
+header_view (H.Defined params right methods) = definition (map param_view params.items) (type_of right) methods.items
+header_view (H.Alias type) = alias (type_of type)
 
 -- INTEGERS
 
@@ -41,7 +64,7 @@ untyped_int = basic_type UntypedInt
 
 -- the record of an untyped integer constant without a name
 abbrev pub integer_record : ℤ → RecData
-integer_record v = record { mode = Const; type = Some untyped_int; value = Some (Int v); object = None }
+integer_record v = record { mode = M.Const; type = Some untyped_int; value = Some (Int v); object = None }
 
 -- the value of an untyped integer constant
 abbrev pub integer_by : Option TypeData → Option Value → Option ℤ
@@ -53,9 +76,17 @@ integer_in r = integer_by r.type r.value
 
 -- NAMES AND DECLARATIONS
 
+-- the record of a name of this type that has no value
+abbrev pub typed_record : ObjId → Mode → TypeData → RecData
+typed_record d mode type = record { mode = mode; type = Some type; value = None; object = Some d }
+
 -- the record of a name, by the header of the declaration that it denotes
 abbrev pub named_record : ObjId → HeaderData → RecData
-named_record d (constant type value) = record { mode = Const; type = Some type; value = Some value; object = Some d }
+named_record d (constant type value) = record (typed_record d M.Const type) { value = Some value }
+named_record d (variable type) = typed_record d M.Var type
+named_record d (func params type) = typed_record d M.Value type
+named_record d (definition params right methods) = typed_record d M.IsType (made (named d) no_parts)
+named_record d (alias type) = typed_record d M.IsType type
 
 -- the header of a constant that is declared with this record and without a type; one with a type is not built
 abbrev pub declared_header : RecData → Option HeaderData

@@ -7,7 +7,7 @@ use Rattle.go_base.specs.Rule.{rule_text}
 use Rattle.go_term.specs.Types.{TypeData}
 use Rattle.go_num.specs.declared.value.Value.{Value}
 use Rattle.go_model.specs.declared.rec.Mode.{Mode}
-use Rattle.go_model.specs.declared.rec.Mode.TheVariants.{Const as ConstMode}
+use Rattle.go_model.specs.declared.rec.Mode.TheVariants as M
 use Rattle.go_module.specs.declared.places.At.{At}
 use Rattle.go_module.specs.declared.places.Placed.{Placed}
 use Rattle.go_model.specs.Report.{DefinedData, constant, imported, WhatData, defined, used, expression, LineData, NamedData, VerdictData, accepted, refused, skipped, PackageReportData, ReportData}
@@ -26,7 +26,15 @@ declared_text None = codes "universe"
 declared_text (Some at) = place_text at
 
 abbrev pub mode_text : Mode → List ℕ
-mode_text ConstMode = codes "const"
+mode_text M.NoValue = codes "novalue"
+mode_text M.Builtin = codes "builtin"
+mode_text M.IsType = codes "type"
+mode_text M.Const = codes "const"
+mode_text M.Var = codes "var"
+mode_text M.MapIndex = codes "mapindex"
+mode_text M.Value = codes "value"
+mode_text M.Nil = codes "nil"
+mode_text M.CommaOk = codes "commaok"
 
 -- a type and a value, where there are any
 abbrev pub type_fields : List NamedData → Option TypeData → List (List ℕ)

@@ -18,6 +18,7 @@ use Rattle.go_expr.specs.Outcomes.{outcome_by_parts}
 use Rattle.go_expr.specs.Walker.{outcomes_view}
 use Rattle.go_expr.proofs.NodeOutcomeLemmas.{by_parts_is}
 use Rattle.go_expr.proofs.WalkerLemmas.{broken_off, map-reverse, node_done, outcomes_more, part_within, partly_next, parts_done, told_at, walked_more}
+use Rattle.go_model.proofs.OwnLemmas.{types_then}
 use Rattle.go_model.proofs.WalkedLemmas.{partly_walked}
 use Rattle.go_model.specs.Outcomes.Walked.{ArePartly}
 use Rattle.go_model.specs.Values.Meaning.{AreThere, meaning_by}
@@ -46,6 +47,7 @@ loop-place-preserved g t c =
       same = c.walk.ensures.same ∙ inv.same;
       names = c.walk.ensures.names ∙ inv.names;
       world = c.walk.ensures.world ∙ inv.world;
+      types = types_then inv.types c.walk.ensures.types;
       found = outcomes_more means headers (tree_of part.now) (trees_at (drop c.loop-place.place inner)) (trees_at (drop i inner)) c.loop-place.outcomes.items c.push.new.self.items c.in_ok-walk.field-0
           (ap trees_at at) inv.found (did.outcome ∙ (λ j. outcome (meaning_by (inv.names j)) (inv.same j) (tree_of part.now))) c.in_ok-push.ensures.items;
       reached = walked_more means (meaning_by (g.J.Ask.names c.loop-place.judge)) headers (g.J.Ask.headers c.loop-place.judge) (nodes_in (tree_of part.now)) (flat_map nodes_in (trees_at (drop c.loop-place.place inner))) (flat_map nodes_in (trees_at (drop i inner)))

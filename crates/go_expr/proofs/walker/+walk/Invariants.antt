@@ -4,6 +4,7 @@ use Rattle.go_module.specs.Names.Occurrences.{nodes_in}
 use Rattle.go_model.specs.Outcomes.Walk.{outcome}
 use Rattle.go_model.specs.Outcomes.Walked.{walked_over}
 use Rattle.go_model.specs.Outcomes.View.{outcome_view}
+use Rattle.go_model.specs.Types.Own.{KeepsTypes}
 use Rattle.go_model.specs.Values.Meaning.{meaning_by}
 use Rattle.go_names.specs.Views.{trees_at}
 use Rattle.go_tree.specs.Tree.{tree_of, node_count}
@@ -19,6 +20,7 @@ invariant-loop-place g l = record {
   same : g.J.Ask.headers l.judge ≡ g.J.Ask.headers l.fn.judge;
   names : g.J.Ask.names l.judge ≡ g.J.Ask.names l.fn.judge;
   world : g.J.Ask.world l.judge ≡ g.J.Ask.world l.fn.judge;
+  types : KeepsTypes (g.J.Ask.is_type l.fn.judge) (g.J.Ask.is_type l.judge) (g.J.Ask.tree l.fn.judge) (g.J.Ask.tree l.judge);
   found : map outcome_view l.outcomes.items ≡ reverse (map (outcome (meaning_by (g.J.Ask.names l.fn.judge)) (g.J.Ask.headers l.fn.judge)) (trees_at (drop l.place l.inner.items)));
   reached : (n : ℕ) → outcomes_view l.walker n ≡ walked_over (meaning_by (g.J.Ask.names l.fn.judge)) (g.J.Ask.headers l.fn.judge) (flat_map nodes_in (trees_at (drop l.place l.inner.items))) (outcomes_view l.fn.walker) n;
 }

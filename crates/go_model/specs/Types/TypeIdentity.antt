@@ -1,0 +1,171 @@
+-- Type identity (Go specification).
+-- Decides which types are identical: a type that a declaration defines or that is predeclared "is always different from any
+-- other type"; else two types are identical "if their underlying type literals are structurally equivalent", interfaces where
+-- "they define the same type set". Which heads are the same: `Heads`; what an interface has: `TypeSets`. Of the parts of a
+-- question those are asked first that need no header, then interfaces in their order, in these methods by name. Names that
+-- interfaces embed are opened, at most 32 on one path, those of both sides together (own); types that are equal but for
+-- where fields and methods are declared need none.
+use Rattle.std.specs.Prelude.{ℕ, zero, suc, ◌+◌, ◌-◌, ◌*◌, ◌&&◌, nat_le, Bool, true, false, Option, None, Some, if◌then◌else◌, List, [], ◌∷◌, ◌++◌, map, filter}
+use Rattle.std.specs.List.{flat_map, list_all, list_any}
+use Rattle.go_term.specs.Types.{Head, interface_type, TypeData, Parts, made, no_parts, more_parts}
+use Rattle.go_module.specs.Modules.Paths.{same_text}
+use Rattle.go_model.specs.Outcomes.Records.{HeaderData}
+use Rattle.go_model.specs.Types.Forms.{found_in}
+use Rattle.go_model.specs.Types.Heads.{alike, same_head, same_truth}
+use Rattle.go_model.specs.Types.TypeSets.{MethodData, SetData, TermData, home_of, plain, set_of}
+use Rattle.go_model.specs.Types.UnderlyingType.{Reach, under}
+use Rattle.go_model.specs.Values.Quests.{Quest, Done, then_ask}
+
+abbrev pub Test : Type 0
+Test = Quest HeaderData Bool
+
+-- TESTS
+
+-- Yes where both are, where one is, where the second is if the first is, in this order
+abbrev pub and_ask : Test → Test → Test
+and_ask a b = then_ask a (λ yes. if yes then b else Done false)
+
+abbrev pub or_ask : Test → Test → Test
+or_ask a b = then_ask a (λ yes. if yes then Done true else b)
+
+abbrev pub implied : Test → Test → Test
+implied a b = then_ask a (λ yes. if yes then b else Done true)
+
+abbrev pub ask_each : {X : Type 0} → (X → Test) → List X → Test
+ask_each test [] = Done true
+ask_each test (x ∷ xs) = and_ask (test x) (ask_each test xs)
+
+abbrev pub ask_any : {X : Type 0} → (X → Test) → List X → Test
+ask_any test [] = Done false
+ask_any test (x ∷ xs) = or_ask (test x) (ask_any test xs)
+
+-- WHAT NEEDS NO HEADER
+
+abbrev pub are_interfaces : Head → Head → Bool
+are_interfaces interface_type interface_type = true
+are_interfaces h g = false
+
+-- the same heads and numbers of parts throughout, whatever interfaces have
+abbrev mutual
+  pub fit : TypeData → TypeData → Bool
+  fit (made h ts) (made g us) = if are_interfaces h g then true else (same_head home_of h g && all_fit ts us)
+
+  pub all_fit : Parts → Parts → Bool
+  all_fit no_parts no_parts = true
+  all_fit (more_parts t ts) (more_parts u us) = fit t u && all_fit ts us
+  all_fit ts us = false
+
+-- the interfaces that stand at the same places, in order
+abbrev mutual
+  pub interfaces_in : TypeData → TypeData → List (TypeData × TypeData)
+  interfaces_in (made h ts) (made g us) =
+      if are_interfaces h g then (made h ts, made g us) ∷ [] else interfaces_in_all ts us
+
+  pub interfaces_in_all : Parts → Parts → List (TypeData × TypeData)
+  interfaces_in_all (more_parts t ts) (more_parts u us) = interfaces_in t u ++ interfaces_in_all ts us
+  interfaces_in_all ts us = []
+
+-- METHODS BY NAME
+
+abbrev pub has_name : MethodData → MethodData → Bool
+has_name a b = same_text a.name b.name && same_text a.home b.home
+
+-- the name stands before the other, or is the same and stands so by the package
+abbrev pub text_before : List ℕ → List ℕ → Bool
+text_before [] [] = false
+text_before [] (c ∷ cs) = true
+text_before (b ∷ bs) [] = false
+text_before (b ∷ bs) (c ∷ cs) = if nat_le (b + 1) c then true else if nat_le (c + 1) b then false else text_before bs cs
+
+abbrev pub is_before : MethodData → MethodData → Bool
+is_before a b = if text_before a.name b.name then true else (same_text a.name b.name && text_before a.home b.home)
+
+abbrev pub put_by_name : MethodData → List MethodData → List MethodData
+put_by_name m [] = m ∷ []
+put_by_name m (n ∷ ns) = if is_before n m then n ∷ put_by_name m ns else m ∷ n ∷ ns
+
+abbrev pub by_name : List MethodData → List MethodData
+by_name [] = []
+by_name (m ∷ ms) = put_by_name m (by_name ms)
+
+-- each method of the ones with each of the others that has its name
+abbrev pub method_pairs : List MethodData → List MethodData → List (MethodData × MethodData)
+method_pairs ms ns = flat_map (λ m. map (λ n. (m, n)) (filter (has_name m) ns)) (by_name ms)
+
+abbrev pub has_names_of : List MethodData → List MethodData → Bool
+has_names_of ms ns = list_all (λ n. list_any (has_name n) ms) ns
+
+-- no union leaves a type out
+abbrev pub is_all_by : List (List TermData) → Bool
+is_all_by [] = true
+is_all_by (u ∷ us) = false
+
+abbrev pub is_all : SetData → Bool
+is_all s = is_all_by s.unions
+
+-- methods of the same names, unions in both or in neither, and where there are none `comparable` in both or in neither
+abbrev pub sets_fit : SetData → SetData → Bool
+sets_fit s t =
+    has_names_of s.methods t.methods && has_names_of t.methods s.methods && same_truth (is_all s) (is_all t)
+    && (if is_all s then same_truth s.comparable t.comparable else true)
+
+-- INTERFACES
+
+-- go says whether two types are identical where at most so many names are opened on one path, of which left are left
+module _ (go : ℕ → TypeData → TypeData → Test) (left : ℕ) where
+  -- behind so many names that were opened on the way
+  abbrev pub behind : ℕ → TypeData → TypeData → Test
+  behind opened a b = if nat_le opened left then go (left - opened) a b else Done false
+
+  abbrev pub same_methods : MethodData × MethodData → Test
+  same_methods p = behind (p.0.opened + p.1.opened) p.0.type p.1.type
+
+  abbrev pub same_found : ℕ → TypeData → Option TypeData → Test
+  same_found opened b None = Done false
+  same_found opened b (Some u) = behind opened (plain u) b
+
+  -- the types of a term are among those of another: that of T is the one type T, that of ~T "the set of all types whose
+  -- underlying type is T"
+  abbrev pub lies_within_by : Bool → Bool → ℕ → TypeData → TypeData → Test
+  lies_within_by false true opened a b = then_ask (under a) (λ reach. same_found opened b (found_in reach))
+  lies_within_by true false opened a b = Done false
+  lies_within_by tilde other opened a b = behind opened a b
+
+  abbrev pub lies_within : TermData → TermData → Test
+  lies_within a b = lies_within_by a.tilde b.tilde (a.opened + b.opened) a.type b.type
+
+  abbrev pub lies_in : List (List TermData) → TermData → Test
+  lies_in unions a = ask_each (λ u. ask_any (lies_within a) u) unions
+
+  -- each term of the one set that lies in all its unions lies in all those of the other
+  abbrev pub terms_lie : SetData → SetData → Test
+  terms_lie s t = ask_each (λ a. implied (lies_in s.unions a) (lies_in t.unions a)) (flat_map (λ u. u) s.unions)
+
+  abbrev pub same_sets : SetData → SetData → Test
+  same_sets s t =
+      if sets_fit s t then and_ask (ask_each same_methods (method_pairs s.methods t.methods)) (and_ask (terms_lie s t) (terms_lie t s))
+      else Done false
+
+  abbrev pub same_known : Option SetData → Option SetData → Test
+  same_known (Some s) (Some t) = same_sets s t
+  same_known s t = Done false
+
+  abbrev pub same_interfaces : TypeData × TypeData → Test
+  same_interfaces p =
+      if alike p.0 p.1 then Done true
+      else then_ask (set_of left p.0) (λ s. then_ask (set_of left p.1) (λ t. same_known s t))
+
+-- levels counts interfaces within methods of interfaces
+abbrev pub same : ℕ → ℕ → TypeData → TypeData → Test
+same zero left a b = Done false
+same (suc levels) left a b = if fit a b then ask_each (same_interfaces (same levels) left) (interfaces_in a b) else Done false
+
+-- no two types that are not too deep have more levels: 32 names are opened on a path, and between two of them stand at most 256
+unfoldable pub most_levels : ℕ
+most_levels = 33 * 257
+
+unfoldable pub most_opened : ℕ
+most_opened = 32
+
+abbrev pub identical : TypeData → TypeData → Test
+identical a b = same most_levels most_opened (plain a) (plain b)

@@ -1,0 +1,82 @@
+-- Underlying types; Type definitions; Type parameter declarations (Go specification).
+-- Decides what the underlying type of a type is, over the headers that are known: that of a predeclared type or a type
+-- literal is the type itself, that of a type that a declaration defines is "the underlying type of the type to which T
+-- refers in its declaration", and that of a type parameter is the underlying type of its constraint. A chain of such
+-- steps that comes back to a declaration has none, nor has one that leads to a type past the limits. There are at most
+-- 2 ^ 64 declarations, as many as objects have numbers, so a chain of more steps comes back to one.
+use Rattle.std.specs.Prelude.{ℕ, zero, suc, ◌+◌, ◌^◌, ◌==◌, Option, Some, None, List, [], ◌∷◌, if◌then◌else◌, length, slice_get}
+use Rattle.std.specs.List.{list_any}
+use Rattle.std.specs.Option.{option_map}
+use Rattle.go_base.specs.declared.ids.ObjId.{ObjId}
+use Rattle.go_term.specs.Size.{size_fault}
+use Rattle.go_term.specs.Substitution.{subst}
+use Rattle.go_term.specs.Types.{Head, named, param, TypeData, Parts, made, list_of}
+use Rattle.go_term.specs.declared.fault.TermFault.{TermFault}
+use Rattle.go_model.specs.Outcomes.Records.{HeaderData, ParamData, definition, func}
+use Rattle.go_model.specs.Values.Quests.{Quest, Done, Need}
+
+-- where a chain ends
+pub data Reach : Type 0 where
+  -- at a type that is its own underlying type
+  Reaches : TypeData → Reach
+  -- nowhere: it comes back to a declaration
+  Returns : Reach
+  -- at a type that is too deep or too large
+  Exceeds : TermFault → Reach
+
+abbrev pub Reaching : Type 0
+Reaching = Quest HeaderData Reach
+
+-- the type parameters of a declaration, the first of which has this place
+abbrev pub params_from : ObjId → ℕ → List ParamData → List (ObjId × ℕ)
+params_from d i [] = []
+params_from d i (p ∷ ps) = (d, i) ∷ params_from d (i + 1) ps
+
+-- the right side of a type definition with these type arguments; none of what defines no type, or has other parameters
+abbrev pub right_side : ObjId → List TypeData → HeaderData → Option TypeData
+right_side d args (definition params right methods) =
+    if length params == length args then Some (subst (params_from d 0 params) args right) else None
+right_side d args header = None
+
+-- the constraint of the type parameter at a place of a declaration
+abbrev pub constraint_of : ℕ → HeaderData → Option TypeData
+constraint_of i (definition params right methods) = option_map (λ p. p.constraint) (slice_get params i)
+constraint_of i (func params type) = option_map (λ p. p.constraint) (slice_get params i)
+constraint_of i header = None
+
+-- the type to which a type refers, by the header of the declaration that it names
+abbrev pub refers_to : Head → Parts → HeaderData → Option TypeData
+refers_to (named d) args header = right_side d (list_of args) header
+refers_to (param d i) parts header = constraint_of i header
+refers_to head parts header = None
+
+-- the declaration whose header says to which type a type of this head refers
+abbrev pub declared_by : Head → Option ObjId
+declared_by (named d) = Some d
+declared_by (param d i) = Some d
+declared_by head = None
+
+-- on with the type to which t refers, where there is one that is not too deep or too large
+abbrev pub on_with : (TypeData → Reaching) → TypeData → Option TypeData → Reaching
+on_with go t None = Done (Reaches t)
+on_with go t (Some next) = elim (size_fault next) [ Some fault ↦ Done (Exceeds fault) | None ↦ go next ]
+
+-- by the declaration whose header is asked; the chain has come through those of the path
+abbrev pub step_by : (List ℕ → TypeData → Reaching) → List ℕ → Head → Parts → Option ObjId → Reaching
+step_by go path head parts None = Done (Reaches (made head parts))
+step_by go path head parts (Some d) =
+    if list_any (λ e. e == d.0) path then Done Returns
+    else Need d.0 (λ header. on_with (go (d.0 ∷ path)) (made head parts) (refers_to head parts header))
+
+-- where the chain from a type leads, in at most so many steps, that has come through the declarations of the path
+abbrev pub under_from : ℕ → List ℕ → TypeData → Reaching
+under_from zero path t = Done Returns
+under_from (suc n) path (made head parts) = step_by (under_from n) path head parts (declared_by head)
+
+-- as many as there are numbers of objects
+unfoldable pub most_declarations : ℕ
+most_declarations = 2 ^ 64
+
+-- where the chain from a type leads
+abbrev pub under : TypeData → Reaching
+under t = under_from most_declarations [] t
