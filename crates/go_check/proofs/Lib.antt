@@ -9,5 +9,6 @@ pub mod PlacedLemmas
 pub mod ReadLemmas
 pub mod ResultLemmas
 pub mod StateLemmas
+pub mod TypeLemmas
 pub mod ValueLemmas
 pub mod VerdictLemmas

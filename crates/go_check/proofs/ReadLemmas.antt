@@ -1,6 +1,6 @@
 -- The lines that are read off the outcomes of nodes that were walked are those that their outcomes over the headers give.
 use Rattle.std.proofs.Common.{◌≡◌, ℕ, Bool, Option, List, [], ◌∷◌, ◌++◌, Contains, map, ap}
-use Rattle.std.specs.Prelude.{is_none}
+use Rattle.std.specs.Prelude.{is_none, option_and_then}
 use Rattle.std.specs.List.{flat_map, zip}
 use Rattle.std.specs.Option.{option_map_or}
 use Rattle.go_tree.specs.Tree.{Tree, end_of, start_of}
@@ -29,7 +29,7 @@ module _ (means : ℕ → Meaning) (headers : Headers) (outcomes : Outcomes) whe
   module _ (nodes : List Tree) (walked : AreWalked means headers nodes outcomes) where
     def_same : (stub : Bool) (f : FileData) (d : Declaration) → ((t : Tree) → Contains (nodes_under d) t → Contains nodes t) → def_by read stub f d ≡ declaration_defs stub f means headers d
     def_same stub f d within =
-        ap (λ (o : Option HeaderData). option_map_or (λ h. line_at stub f (start_of d.name) (defined (name_text d.name) (told_as h)) ∷ []) o []) (header_same means headers outcomes nodes walked d within)
+        ap (λ (o : Option HeaderData). option_map_or (λ kind. line_at stub f (start_of d.name) (defined (name_text d.name) kind) ∷ []) (option_and_then told_as o) []) (header_same means headers outcomes nodes walked d within)
 
     expr_same : (stub : Bool) (f : FileData) (t : Tree) → Contains nodes t → expr_by read stub f t ≡ expr_at stub f means headers t
     expr_same stub f t h = ap (λ (o : OutcomeData RecData). record_line stub f (start_of t) (end_of t) (record_in o)) (read_is means headers nodes outcomes walked t h)

@@ -1,7 +1,8 @@
 // The lines of declared names: of imports, and of declarations (Go specification, "Import declarations", "Constant
 // declarations").
-ghost use Rattle.std.specs.Prelude.{◌≡◌, ◌++◌, IfOk, OnOk, map};
+ghost use Rattle.std.specs.Prelude.{◌≡◌, ◌++◌, IfOk, OnOk, map, option_and_then};
 ghost use Rattle.std.specs.List.{flat_map, zip};
+ghost use Rattle.std.specs.Option.{option_map};
 ghost use Rattle.go_tree.specs.Tree.{tree_of, start_of, parts_of};
 ghost use Rattle.go_module.specs.Modules.Module.{file_view};
 ghost use Rattle.go_module.specs.Names.Declarations.{name_text};
@@ -143,18 +144,23 @@ fn push_declaration(
         ++ def_by (outcome_read (outcomes_view book.now.walker)) file.now.stub (file_view file.now.file.now)
         (declaration_view declaration.now)) }
 {
-    if let Some(header) = header_by(book, declaration)? {
-        lines.push(def_line(alloc, file, declaration.name, told_as(header))?)?;
+    if let Some(kind) = told_as(header_by(book, declaration)?) {
+        lines.push(def_line(alloc, file, declaration.name, kind)?)?;
     }
     Ok(())
 }
 
-// What a declaration is told as, by its header.
-fn told_as(header: Header) -> DefKind
-    ensures { defined_view result ≡ spec.told_as (header_view header) }
+// What a declaration is told as, by its header; that of a kind that is not built yet is not told.
+fn told_as(header: Option<Header>) -> Option<DefKind>
+    ensures { option_map defined_view result ≡ option_and_then spec.told_as (option_map header_view header) }
 {
     match header {
-        Header::Const(ty, value) => DefKind::Const(ty, value),
+        Some(Header::Const(ty, value)) => Some(DefKind::Const(ty, value)),
+        Some(Header::Var(_)) => None,
+        Some(Header::Func(_, _)) => None,
+        Some(Header::Defined(_, _, _)) => None,
+        Some(Header::Alias(_)) => None,
+        None => None,
     }
 }
 

@@ -7,6 +7,7 @@
 #![tactic(auto)]
 
 // The files of a package, its names, and who judges by these.
+mod module_judge;
 mod names;
 mod own_file;
 mod rulebook;
@@ -29,4 +30,5 @@ mod module;
 mod package;
 
 pub use module::check_module;
-pub use rulebook::{ModuleJudge, Rulebook};
+pub use module_judge::ModuleJudge;
+pub use rulebook::Rulebook;

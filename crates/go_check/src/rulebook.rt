@@ -5,25 +5,19 @@ ghost use Rattle.go_model.specs.Outcomes.Walked.{no_outcomes};
 ghost use Rattle.go_model.specs.Values.Headers.{headers_of};
 ghost use Rattle.go_model.specs.Values.HeadersView.{headers_view};
 ghost use Rattle.go_expr.specs.Walker.{outcomes_view};
+ghost use Rattle.go_term.specs.View.{type_of};
 ghost use Rattle.go_check.specs.Packages.Book.{Standing, book_names, standing_of};
 
+use crate::module_judge::ModuleJudge;
 use go_base::NoMemory;
 use go_expr::Walker;
-use go_model::{Ask, ExprWalk, Finds, Forms, Header, Headers, Judge, Outcome, Rules, Same, Sets};
+use go_model::{
+    Ask, ExprWalk, Finds, Form, Forms, Header, Headers, Judge, Outcome, Rules, Same, Sets,
+};
 use go_module::{Module, ObjId, Object, Scopes};
-use go_term::Ty;
+use go_term::{Shape, TermFault, Ty};
 use go_tree::{Node, NodeId};
 use std::alloc::Global;
-
-/// The headers of a module that are known, and the scopes of its packages, of which one is entered: the identifiers
-/// that it speaks of are those of this package.
-#[derive(Drop)]
-pub struct ModuleJudge<'a> {
-    pub(crate) module: &'a Module,
-    pub(crate) scopes: &'a [Scopes],
-    pub(crate) place: usize,
-    pub(crate) headers: Headers,
-}
 
 /// The rules over a module: a judge, and a walker, to which walks lend the judge. Once want of memory was met while a
 /// header was told, each call that can answer it does.
@@ -67,46 +61,6 @@ impl<'a> Rulebook<'a> {
     }
 }
 
-impl Ask for ModuleJudge<'_> {
-    ghost headers = { λ judge. headers_view judge.headers };
-
-    ghost names = { λ judge. book_names judge };
-
-    // A judge does not walk.
-    ghost outcomes = { λ _. no_outcomes };
-
-    ghost is_spent = { λ _. false };
-
-    ghost World = { Standing };
-
-    ghost world = { λ judge. standing_of judge };
-
-    fn ask(&mut self, d: ObjId) -> Result<Option<Header>, NoMemory> {
-        self.headers.ask(d)
-    }
-}
-
-impl Forms for ModuleJudge<'_> {
-    fn resolve(&self, id: NodeId) -> Option<ObjId> {
-        match self.scopes.get(self.place) {
-            Some(scopes) => scopes.resolve(id),
-            None => None,
-        }
-    }
-
-    fn object(&self, d: ObjId) -> &Object {
-        self.scopes[self.place].object(d)
-    }
-}
-
-impl Same for ModuleJudge<'_> {}
-
-impl Finds for ModuleJudge<'_> {}
-
-impl Sets for ModuleJudge<'_> {}
-
-impl Judge for ModuleJudge<'_> {}
-
 impl Ask for Rulebook<'_> {
     ghost headers = { λ book. headers_view book.judge.headers };
 
@@ -119,6 +73,11 @@ impl Ask for Rulebook<'_> {
     ghost World = { Standing };
 
     ghost world = { λ book. standing_of book.judge };
+
+    // Any type is its own.
+    ghost is_type = { λ _ _. Unit {0} };
+
+    ghost tree = { λ _ t. type_of t };
 
     fn ask(&mut self, d: ObjId) -> Result<Option<Header>, NoMemory> {
         if self.is_spent {
@@ -135,6 +94,40 @@ impl Forms for Rulebook<'_> {
 
     fn object(&self, d: ObjId) -> &Object {
         self.judge.object(d)
+    }
+
+    fn see(&mut self, alloc: Global, t: &Ty) -> Result<Shape, NoMemory> {
+        if self.is_spent {
+            return Err(NoMemory);
+        }
+        self.judge.see(alloc, t)
+    }
+
+    fn make(&mut self, alloc: Global, shape: Shape) -> Result<Ty, TermFault> {
+        if self.is_spent {
+            return Err(TermFault::NoMemory);
+        }
+        self.judge.make(alloc, shape)
+    }
+
+    fn subst(
+        &mut self,
+        alloc: Global,
+        t: &Ty,
+        from: &[(ObjId, usize)],
+        to: &[Ty],
+    ) -> Result<Ty, TermFault> {
+        if self.is_spent {
+            return Err(TermFault::NoMemory);
+        }
+        self.judge.subst(alloc, t, from, to)
+    }
+
+    fn underlying(&mut self, alloc: Global, t: &Ty) -> Result<Form, NoMemory> {
+        if self.is_spent {
+            return Err(NoMemory);
+        }
+        self.judge.underlying(alloc, t)
     }
 }
 

@@ -1,2 +1,6 @@
+pub mod ChainLemmas
+pub mod KeepLemmas
+pub mod ParamLemmas
+pub mod PathLemmas
 pub mod SubstLemmas
 pub mod ViewLemmas

@@ -1,6 +1,7 @@
-// Substitution where memory is ample: what is made is compared by its debug text.
-use crate::subst;
+// Substitution and underlying types where memory is ample: what is made is compared by its debug text.
+use crate::{subst, under};
 use go_base::{NoMemory, ObjId};
+use go_model::{Header, Headers, TypeParam};
 use go_term::{Basic, Term, TermFault};
 use std::alloc::Global;
 use std::test::Fail;
@@ -63,5 +64,85 @@ fn large_for_many_parameters(rt: HostRuntime) -> Result<(), Fail> {
         let made = subst(rt.alloc(), &t, &[(DECLARED, 0)], &to);
         assert_eq!(rt; made.err(), fault, "with {params} parameters");
     }
+    Ok(())
+}
+
+// What is told of a type definition with these type parameters and this right side.
+fn defined(alloc: Global, params: Vec<TypeParam>, right: Term) -> Header {
+    Header::Defined(params, right, Vec::new(alloc))
+}
+
+// The type without arguments that a declaration defines.
+fn named(alloc: Global, d: usize) -> Term {
+    Term::Named(ObjId(d), Vec::new(alloc))
+}
+
+// One type parameter, with a constraint that all types satisfy.
+fn any_param(alloc: Global) -> Result<Vec<TypeParam>, NoMemory> {
+    let mut params = Vec::new(alloc);
+    params.push(TypeParam {
+        object: ObjId(60),
+        bound: Term::Interface(Vec::new(alloc)),
+    })?;
+    Ok(params)
+}
+
+#[test]
+fn chain_of_two_definitions_leads_to_a_struct(rt: HostRuntime) -> Result<(), Fail> {
+    let alloc = rt.alloc();
+    let mut map = Headers::new(alloc);
+    let fields = Term::Struct(Vec::new(alloc));
+    map.add(ObjId(50), defined(alloc, Vec::new(alloc), named(alloc, 51)))?;
+    map.add(ObjId(51), defined(alloc, Vec::new(alloc), fields))?;
+    let reached = under(alloc, &mut map, &named(alloc, 50));
+    assert_eq!(rt;
+        format!(in alloc; "{reached:?}")?.as_str(),
+        "Ok(Is(Struct([])))"
+    );
+    Ok(())
+}
+
+#[test]
+fn two_definitions_of_each_other_are_a_cycle(rt: HostRuntime) -> Result<(), Fail> {
+    let alloc = rt.alloc();
+    let mut map = Headers::new(alloc);
+    map.add(ObjId(50), defined(alloc, Vec::new(alloc), named(alloc, 51)))?;
+    map.add(ObjId(51), defined(alloc, Vec::new(alloc), named(alloc, 50)))?;
+    let reached = under(alloc, &mut map, &named(alloc, 50));
+    assert_eq!(rt; format!(in alloc; "{reached:?}")?.as_str(), "Ok(Cycle)");
+    Ok(())
+}
+
+#[test]
+fn first_header_that_is_lacking_is_told(rt: HostRuntime) -> Result<(), Fail> {
+    let alloc = rt.alloc();
+    let mut map = Headers::new(alloc);
+    map.add(ObjId(50), defined(alloc, Vec::new(alloc), named(alloc, 51)))?;
+    let reached = under(alloc, &mut map, &named(alloc, 50));
+    assert_eq!(rt;
+        format!(in alloc; "{reached:?}")?.as_str(),
+        "Ok(Unknown(ObjId(51)))"
+    );
+    Ok(())
+}
+
+#[test]
+fn argument_stands_in_the_right_side(rt: HostRuntime) -> Result<(), Fail> {
+    let alloc = rt.alloc();
+    let mut map = Headers::new(alloc);
+    let element = Box::new(alloc, Term::Param(DECLARED, 0))?;
+    let right = Term::Slice(element);
+    map.add(DECLARED, defined(alloc, any_param(alloc)?, right))?;
+    let of_int = Term::Named(DECLARED, vec![in alloc; Term::Basic(Basic::Int)]?);
+    let reached = under(alloc, &mut map, &of_int);
+    assert_eq!(rt;
+        format!(in alloc; "{reached:?}")?.as_str(),
+        "Ok(Is(Slice(Basic(Int))))"
+    );
+    let reached = under(alloc, &mut map, &Term::Param(DECLARED, 0));
+    assert_eq!(rt;
+        format!(in alloc; "{reached:?}")?.as_str(),
+        "Ok(Is(Interface([])))"
+    );
     Ok(())
 }

@@ -6,7 +6,7 @@ use Rattle.go_tree.specs.declared.node.NodeId.{NodeId}
 use Rattle.go_module.specs.declared.module.Module.{Module}
 use Rattle.go_module.specs.declared.scopes.Scopes.{Scopes}
 use Rattle.go_model.specs.Values.Meaning.{Naming, names_by, no_names}
-use Rattle.go_check.specs.declared.rulebook.ModuleJudge.{ModuleJudge}
+use Rattle.go_check.specs.declared.module_judge.ModuleJudge.{ModuleJudge}
 
 pub record Standing : Type 0 where
   pub «module» : Module
