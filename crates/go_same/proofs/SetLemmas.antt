@@ -1,0 +1,212 @@
+-- What an interface has, as a question: that more names may be opened changes no set that is found, and the methods that a type
+-- without objects has are of types without objects.
+use Rattle.std.proofs.Common.{◌≡◌, ℕ, zero, suc, ◌+◌, Bool, true, false, if◌then◌else◌, Option, Some, None, List, [], ◌∷◌, map, refl, sym, ap, subst, ◌∙◌, arith}
+use Rattle.std.specs.Option.{option_map}
+use Rattle.std.specs.List.{AllByRecursion}
+use Rattle.go_term.specs.declared.basic.Basic.{Basic}
+use Rattle.go_term.specs.declared.basic.Basic.TheVariants as B
+use Rattle.go_term.specs.Types.{Head, basic, function, interface_type, named, param, method, union, union_term, MethodHead, TypeData, Parts, made, no_parts, more_parts}
+use Rattle.go_model.specs.Outcomes.Walk.{Headers}
+use Rattle.go_model.specs.Types.Forms.{found_in}
+use Rattle.go_model.specs.Types.TypeSets.{MethodData, SetAsked, SetData, all_types, basic_set, both_known, both_sets, either_set, element_set, elements_set, is_interface, joined, method_set, named_set, named_set_by, opened_method, opened_set, plain, plain_term_by, set_of, term_set, type_set, union_set, union_term_set}
+use Rattle.go_model.specs.Types.UnderlyingType.{under}
+use Rattle.go_model.specs.Values.Quests.{Decided, Done, run, then_ask}
+use Rattle.go_same.proofs.EveryLemmas.{every_both}
+use Rattle.go_same.proofs.NormLemmas.{ArePlain, IsPlain, first_plain, parts_plain, plain_twice, rest_plain}
+use Rattle.go_same.proofs.YesLemmas.{hence, thence}
+
+-- both are found where their join is
+record BothFound (join : SetData → SetData → SetData) (x y : Option SetData) (s : SetData) : Type 0 where
+  one : SetData
+  other : SetData
+  is_one : x ≡ Some one
+  is_other : y ≡ Some other
+  is : s ≡ join one other
+
+both_found : (join : SetData → SetData → SetData) (x y : Option SetData) (s : SetData) → Decided (both_known join x y) ≡ Decided (Some s) → BothFound join x y s
+both_found join (Some a) (Some b) s e = record { one = a; other = b; is_one = refl; is_other = refl; is = sym (found e) }
+  where
+    found : Decided (Some (join a b)) ≡ Decided (Some s) → join a b ≡ s
+    found e = cc e
+both_found join (Some a) None s e = absurd (let wrong : Decided None ≡ Decided (Some s) = e in cc wrong)
+both_found join None y s e = absurd (let wrong : Decided None ≡ Decided (Some s) = e in cc wrong)
+
+pub decided_is : (a b : SetData) → Decided (Some a) ≡ Decided (Some b) → a ≡ b
+decided_is a b e = cc e
+
+none_is : (s : SetData) → Decided None ≡ Decided (Some s) → ⊥
+none_is s e = cc e
+
+module _ (headers : Headers) where
+  abbrev pub Finds : SetAsked → SetData → Type 0
+  Finds q s = run headers q ≡ Decided (Some s)
+
+  -- what is found by the one question is found by the other
+  abbrev pub Grows : SetAsked → SetAsked → Type 0
+  Grows q r = (s : SetData) → Finds q s → Finds r s
+
+  joined_grows : (join : SetData → SetData → SetData) (a b c d : SetAsked) → Grows a c → Grows b d → Grows (joined join a b) (joined join c d)
+  joined_grows join a b c d first second s e =
+      let one = thence headers a (λ x. then_ask b (λ y. Done (both_known join x y))) (Some s) e in
+      let two = thence headers b (λ y. Done (both_known join one.answer y)) (Some s) one.second in
+      let both = both_found join one.answer two.answer s two.second in
+      hence headers c (λ x. then_ask d (λ y. Done (both_known join x y))) (Some both.one) (Some s) (first both.one (one.first ∙ ap Decided both.is_one))
+      (hence headers d (λ y. Done (both_known join (Some both.one) y)) (Some both.other) (Some s) (second both.other (two.first ∙ ap Decided both.is_other))
+      (λ i. Decided (Some (sym both.is i))))
+
+  option_found : (o : Option SetData) (s : SetData) → Decided (option_map opened_set o) ≡ Decided (Some s) → (u : SetData) × ((o ≡ Some u) × (s ≡ opened_set u))
+  option_found (Some u) s e = (u, (refl, sym (decided_is (opened_set u) s e)))
+  option_found None s e = absurd (none_is s e)
+
+  module _ (fewer more : TypeData → SetAsked) (grows : (t : TypeData) → Grows (fewer t) (more t)) where
+    opened_grows : (b : Bool) (t u : TypeData)
+        → Grows (if b then then_ask (fewer (plain u)) (λ s. Done (option_map opened_set s)) else Done (Some (term_set false t)))
+        (if b then then_ask (more (plain u)) (λ s. Done (option_map opened_set s)) else Done (Some (term_set false t)))
+    opened_grows true t u s e =
+        let one = thence headers (fewer (plain u)) (λ s. Done (option_map opened_set s)) (Some s) e in
+        let found = option_found one.answer s one.second in
+        hence headers (more (plain u)) (λ s. Done (option_map opened_set s)) (Some found.0) (Some s)
+        (grows (plain u) found.0 (one.first ∙ ap Decided found.1.0))
+        (λ i. Decided (Some (sym found.1.1 i)))
+    opened_grows false t u s e = e
+
+    named_by_grows : (t : TypeData) (o : Option TypeData) → Grows (named_set_by fewer t o) (named_set_by more t o)
+    named_by_grows t (Some u) = opened_grows (is_interface u) t u
+    named_by_grows t None = λ s e. e
+
+    named_grows : (t : TypeData) → Grows (named_set fewer t) (named_set more t)
+    named_grows t s e =
+        let one = thence headers (under t) (λ reach. named_set_by fewer t (found_in reach)) (Some s) e in
+        hence headers (under t) (λ reach. named_set_by more t (found_in reach)) one.answer (Some s) one.first (named_by_grows t (found_in one.answer) s one.second)
+
+    term_grows : (head : Head) (a b : SetAsked) (t : TypeData) → Grows a b → Grows (plain_term_by fewer a head t) (plain_term_by more b head t)
+    term_grows interface_type a b t elements = elements
+    term_grows (basic k) a b t elements = λ s e. e
+    term_grows (named d) a b t elements = named_grows t
+    term_grows (param d i) a b t elements = named_grows t
+    term_grows head a b t elements = λ s e. e
+
+    mutual
+      elements_grow : (ts : Parts) → Grows (elements_set fewer ts) (elements_set more ts)
+      elements_grow no_parts = λ s e. e
+      elements_grow (more_parts t ts) = joined_grows both_sets (element_set fewer t) (elements_set fewer ts) (element_set more t) (elements_set more ts) (element_grows t) (elements_grow ts)
+
+      element_grows : (t : TypeData) → Grows (element_set fewer t) (element_set more t)
+      element_grows (made (method m) parts) = λ s e. e
+      element_grows (made union terms) = union_grows terms
+      element_grows (made head parts) = λ s e. e
+
+      union_grows : (ts : Parts) → Grows (union_set fewer ts) (union_set more ts)
+      union_grows no_parts = λ s e. e
+      union_grows (more_parts t no_parts) = union_term_grows t
+      union_grows (more_parts t (more_parts u us)) =
+          joined_grows either_set (union_term_set fewer t) (union_set fewer (more_parts u us)) (union_term_set more t) (union_set more (more_parts u us)) (union_term_grows t) (union_grows (more_parts u us))
+
+      union_term_grows : (t : TypeData) → Grows (union_term_set fewer t) (union_term_set more t)
+      union_term_grows (made (union_term true) (more_parts t no_parts)) = λ s e. e
+      union_term_grows (made (union_term false) (more_parts t no_parts)) = type_grows t
+      union_term_grows (made head parts) = λ s e. e
+
+      pub type_grows : (t : TypeData) → Grows (type_set fewer t) (type_set more t)
+      type_grows (made head parts) = term_grows head (elements_set fewer parts) (elements_set more parts) (made head parts) (elements_grow parts)
+
+  set_grows : (n : ℕ) (t : TypeData) → Grows (set_of n t) (set_of (suc n) t)
+  set_grows zero = type_grows (λ t. Done None) (set_of zero) (λ t s e. absurd (none_is s e))
+  set_grows (suc n) = type_grows (set_of n) (set_of (suc n)) (set_grows n)
+
+  -- where more names may be opened
+  pub set_more : (k n : ℕ) (t : TypeData) → Grows (set_of n t) (set_of (n + k) t)
+  set_more zero n t s e = let same : n ≡ n + 0 = omega arith in subst (λ m. Finds (set_of m t) s) same e
+  set_more (suc k) n t s e = let same : suc (n + k) ≡ n + suc k = omega arith in subst (λ m. Finds (set_of m t) s) same (set_grows (n + k) t s (set_more k n t s e))
+
+  -- PLAIN METHODS
+
+  abbrev pub HasPlain : List MethodData → Type 0
+  HasPlain ms = AllByRecursion (λ m. IsPlain m.type) ms
+
+  abbrev pub GivesPlain : SetAsked → Type 0
+  GivesPlain q = (s : SetData) → Finds q s → HasPlain s.methods
+
+  given_plain : (u : SetData) → HasPlain u.methods → GivesPlain (Done (Some u))
+  given_plain u all s e = subst (λ (s : SetData). HasPlain s.methods) (decided_is u s e) all
+
+  joined_plain : (join : SetData → SetData → SetData) → ((a b : SetData) → HasPlain a.methods → HasPlain b.methods → HasPlain (join a b).methods)
+      → (a b : SetAsked) → GivesPlain a → GivesPlain b → GivesPlain (joined join a b)
+  joined_plain join keeps a b first second s e =
+      let one = thence headers a (λ x. then_ask b (λ y. Done (both_known join x y))) (Some s) e in
+      let two = thence headers b (λ y. Done (both_known join one.answer y)) (Some s) one.second in
+      let both = both_found join one.answer two.answer s two.second in
+      subst (λ (s : SetData). HasPlain s.methods) (sym both.is)
+      (keeps both.one both.other (first both.one (one.first ∙ ap Decided both.is_one)) (second both.other (two.first ∙ ap Decided both.is_other)))
+
+  both_keeps : (a b : SetData) → HasPlain a.methods → HasPlain b.methods → HasPlain (both_sets a b).methods
+  both_keeps a b = every_both (λ (m : MethodData). IsPlain m.type) a.methods b.methods
+
+  either_keeps : (a b : SetData) → HasPlain a.methods → HasPlain b.methods → HasPlain (either_set a b).methods
+  either_keeps a b first second = tt
+
+  opened_keeps : (ms : List MethodData) → HasPlain ms → HasPlain (map opened_method ms)
+  opened_keeps [] all = tt
+  opened_keeps (m ∷ ms) all = (all.0, opened_keeps ms all.1)
+
+  method_plain : (m : MethodHead) (parts : Parts) → ArePlain parts → HasPlain (method_set m parts).methods
+  method_plain m parts e = (ap (made (function m.variadic)) e, tt)
+
+  basic_plain : (b : Basic) → HasPlain (basic_set b).methods
+  basic_plain B.Error = (refl, tt)
+  basic_plain B.Comparable = tt
+  basic_plain b = tt
+
+  module _ (opening : TypeData → SetAsked) (plainly : (t : TypeData) → IsPlain t → GivesPlain (opening t)) where
+    opened_plain : (b : Bool) (t u : TypeData) → GivesPlain (if b then then_ask (opening (plain u)) (λ s. Done (option_map opened_set s)) else Done (Some (term_set false t)))
+    opened_plain true t u s e =
+        let one = thence headers (opening (plain u)) (λ s. Done (option_map opened_set s)) (Some s) e in
+        let found = option_found one.answer s one.second in
+        let all : HasPlain found.0.methods = plainly (plain u) (plain_twice u) found.0 (one.first ∙ ap Decided found.1.0) in
+        subst (λ (s : SetData). HasPlain s.methods) (sym found.1.1) (opened_keeps found.0.methods all)
+    opened_plain false t u s e = given_plain (term_set false t) tt s e
+
+    named_by_plain : (t : TypeData) (o : Option TypeData) → GivesPlain (named_set_by opening t o)
+    named_by_plain t (Some u) = opened_plain (is_interface u) t u
+    named_by_plain t None = λ s e. absurd (none_is s e)
+
+    named_plain : (t : TypeData) → GivesPlain (named_set opening t)
+    named_plain t s e =
+        let one = thence headers (under t) (λ reach. named_set_by opening t (found_in reach)) (Some s) e in
+        named_by_plain t (found_in one.answer) s one.second
+
+    term_plain : (head : Head) (a : SetAsked) (t : TypeData) → GivesPlain a → GivesPlain (plain_term_by opening a head t)
+    term_plain interface_type a t elements = elements
+    term_plain (basic k) a t elements = given_plain (basic_set k) (basic_plain k)
+    term_plain (named d) a t elements = named_plain t
+    term_plain (param d i) a t elements = named_plain t
+    term_plain head a t elements = given_plain (term_set false t) tt
+
+    mutual
+      elements_plain : (ts : Parts) → ArePlain ts → GivesPlain (elements_set opening ts)
+      elements_plain no_parts e = given_plain all_types tt
+      elements_plain (more_parts t ts) e = joined_plain both_sets both_keeps (element_set opening t) (elements_set opening ts) (element_plain t (first_plain t ts e)) (elements_plain ts (rest_plain t ts e))
+
+      element_plain : (t : TypeData) → IsPlain t → GivesPlain (element_set opening t)
+      element_plain (made (method m) parts) e = given_plain (method_set m parts) (method_plain m parts (parts_plain (method m) parts e))
+      element_plain (made union terms) e = union_plain terms (parts_plain union terms e)
+      element_plain (made head parts) e = given_plain all_types tt
+
+      union_plain : (ts : Parts) → ArePlain ts → GivesPlain (union_set opening ts)
+      union_plain no_parts e = given_plain all_types tt
+      union_plain (more_parts t no_parts) e = union_term_plain t (first_plain t no_parts e)
+      union_plain (more_parts t (more_parts u us)) e =
+          joined_plain either_set either_keeps (union_term_set opening t) (union_set opening (more_parts u us))
+          (union_term_plain t (first_plain t (more_parts u us) e)) (union_plain (more_parts u us) (rest_plain t (more_parts u us) e))
+
+      union_term_plain : (t : TypeData) → IsPlain t → GivesPlain (union_term_set opening t)
+      union_term_plain (made (union_term true) (more_parts t no_parts)) e = given_plain (term_set true t) tt
+      union_term_plain (made (union_term false) (more_parts t no_parts)) e = type_plain t (first_plain t no_parts (parts_plain (union_term false) (more_parts t no_parts) e))
+      union_term_plain (made head parts) e = given_plain all_types tt
+
+      pub type_plain : (t : TypeData) → IsPlain t → GivesPlain (type_set opening t)
+      type_plain (made head parts) e = term_plain head (elements_set opening parts) (made head parts) (elements_plain parts (parts_plain head parts e))
+
+  pub set_plain : (n : ℕ) (t : TypeData) → IsPlain t → GivesPlain (set_of n t)
+  set_plain zero = type_plain (λ t. Done None) (λ t e s f. absurd (none_is s f))
+  set_plain (suc n) = type_plain (set_of n) (set_plain n)

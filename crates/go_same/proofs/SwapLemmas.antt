@@ -1,0 +1,162 @@
+-- Type identity the other way round: what two types are asked comes to Yes where the other way round it does.
+use Rattle.std.proofs.Common.{◌≡◌, ℕ, zero, suc, ◌+◌, ◌-◌, ◌&&◌, Bool, true, false, if◌then◌else◌, Option, Some, None, List, [], ◌∷◌, map, filter, refl, sym, subst, ◌∙◌, arith}
+use Rattle.std.specs.Prelude.{nat_le}
+use Rattle.std.specs.List.{AllByRecursion}
+use Rattle.std.proofs.lemmas.Cmp.{nat_list_eq_equiv}
+use Rattle.go_term.specs.Types.{TypeData}
+use Rattle.go_model.specs.Outcomes.Walk.{Headers}
+use Rattle.go_model.specs.Types.Heads.{alike, same_truth}
+use Rattle.go_model.specs.Types.TypeIdentity.{Test, and_ask, ask_each, behind, by_name, fit, has_name, has_names_of, interfaces_in, is_all, method_pairs, same, same_interfaces, same_known, same_methods, same_sets, sets_fit, terms_lie}
+use Rattle.go_model.specs.Types.TypeSets.{MethodData, SetData, set_of}
+use Rattle.go_model.specs.Values.Quests.{Done, then_ask}
+use Rattle.go_same.proofs.AlikeLemmas.{alike_swap, fit_swap, interfaces_swap, swapped, truth_swap}
+use Rattle.go_same.proofs.EveryLemmas.{every_kept, every_of_flat, every_of_map, every_of_names, every_so, every_swap, every_to_flat, every_to_keep, every_to_map, every_to_names}
+use Rattle.go_same.proofs.YesLemmas.{IsYes, both_yes, each_yes, hence, not_no, thence, yes_both, yes_each}
+
+-- NAMES AND SETS
+
+pub name_swap : (m n : MethodData) → has_name m n ≡ has_name n m
+name_swap m n = λ i. nat_list_eq_equiv.symm m.name n.name i && nat_list_eq_equiv.symm m.home n.home i
+
+and_swap : (p q : Bool) → (p && q) ≡ (q && p)
+and_swap true true = refl
+and_swap true false = refl
+and_swap false true = refl
+and_swap false false = refl
+
+comparable_swap : (p x y c d : Bool) → (p && same_truth x y && (if x then same_truth c d else true)) ≡ (p && same_truth y x && (if y then same_truth d c else true))
+comparable_swap p true true c d = λ i. p && true && truth_swap c d i
+comparable_swap p true false c d = and_false p (same_truth c d)
+  where
+    and_false : (p q : Bool) → (p && false && q) ≡ (p && false && true)
+    and_false true q = refl
+    and_false false q = refl
+comparable_swap p false true c d = and_false p (same_truth d c)
+  where
+    and_false : (p q : Bool) → (p && false && true) ≡ (p && false && q)
+    and_false true q = refl
+    and_false false q = refl
+comparable_swap p false false c d = refl
+
+pub sets_swap : (s t : SetData) → sets_fit s t ≡ sets_fit t s
+sets_swap s t =
+    let names = and_swap (has_names_of s.methods t.methods) (has_names_of t.methods s.methods) in
+    (λ i. names i && same_truth (is_all s) (is_all t) && (if is_all s then same_truth s.comparable t.comparable else true))
+    ∙ comparable_swap (has_names_of t.methods s.methods && has_names_of s.methods t.methods) (is_all s) (is_all t) s.comparable t.comparable
+
+module _ (headers : Headers) where
+  -- YES AND NO
+
+  -- a test that is Yes where a condition holds, which then holds
+  pub if_yes : (b : Bool) (q : Test) → IsYes headers (if b then q else Done false) → (b ≡ true) × IsYes headers q
+  if_yes true q told = (refl, told)
+  if_yes false q told = absurd (not_no headers told)
+
+  pub yes_if : (b : Bool) (q : Test) → b ≡ true → IsYes headers q → IsYes headers (if b then q else Done false)
+  yes_if true q e told = told
+  yes_if false q e told = absurd (let wrong : false ≡ true = e in cc wrong)
+
+  pub yes_or : (b : Bool) (q : Test) → (b ≡ false → IsYes headers q) → IsYes headers (if b then Done true else q)
+  yes_or true q told = refl
+  yes_or false q told = told refl
+
+  pub or_yes : (b : Bool) (q : Test) → b ≡ false → IsYes headers (if b then Done true else q) → IsYes headers q
+  or_yes true q e told = absurd (let wrong : true ≡ false = e in cc wrong)
+  or_yes false q e told = told
+
+  swap_each : {X : Type 0} (f g : X → Test) (turn : X → X) → ((x : X) → IsYes headers (f x) → IsYes headers (g (turn x))) → (xs : List X) → AllByRecursion (λ x. IsYes headers (f x)) xs → AllByRecursion (λ x. IsYes headers (g x)) (map turn xs)
+  swap_each f g turn so [] all = tt
+  swap_each f g turn so (x ∷ xs) all = (so x all.0, swap_each f g turn so xs all.1)
+
+  -- PAIRS OF METHODS
+
+  module _ (f : MethodData × MethodData → Test) where
+    abbrev named_yes : MethodData → MethodData → Type 0
+    named_yes m n = has_name m n ≡ true → IsYes headers (f (m, n))
+
+    abbrev pair_yes : MethodData × MethodData → Type 0
+    pair_yes p = IsYes headers (f p)
+
+    abbrev pairs_with : List MethodData → MethodData → List (MethodData × MethodData)
+    pairs_with ns m = map (λ n. (m, n)) (filter (has_name m) ns)
+
+    -- of each two methods of one name it is Yes
+    pub of_pairs : (ms ns : List MethodData) → IsYes headers (ask_each f (method_pairs ms ns)) → AllByRecursion (λ m. AllByRecursion (named_yes m) ns) ms
+    of_pairs ms ns told =
+        let pairs = every_of_flat pair_yes (pairs_with ns) (by_name ms) (each_yes headers f (method_pairs ms ns) told) in
+        every_so (λ m. AllByRecursion pair_yes (pairs_with ns m)) (λ m. AllByRecursion (named_yes m) ns)
+        (λ m all. every_kept (λ n. pair_yes (m, n)) (has_name m) ns (every_of_map pair_yes (λ n. (m, n)) (filter (has_name m) ns) all))
+        ms
+        (every_of_names (λ m. AllByRecursion pair_yes (pairs_with ns m)) ms pairs)
+
+    pub to_pairs : (ms ns : List MethodData) → AllByRecursion (λ m. AllByRecursion (named_yes m) ns) ms → IsYes headers (ask_each f (method_pairs ms ns))
+    to_pairs ms ns all =
+        let pairs = every_so (λ m. AllByRecursion (named_yes m) ns) (λ m. AllByRecursion pair_yes (pairs_with ns m))
+        (λ m here. every_to_map pair_yes (λ n. (m, n)) (filter (has_name m) ns) (every_to_keep (λ n. pair_yes (m, n)) (has_name m) ns here))
+        ms all in
+        yes_each headers f (method_pairs ms ns) (every_to_flat pair_yes (pairs_with ns) (by_name ms) (every_to_names (λ m. AllByRecursion pair_yes (pairs_with ns m)) ms pairs))
+
+  -- where f is Yes of each two methods as it is the other way round, it is Yes of all pairs so
+  pairs_swap : (f : MethodData × MethodData → Test) → ((m n : MethodData) → IsYes headers (f (m, n)) → IsYes headers (f (n, m))) → (ms ns : List MethodData) → IsYes headers (ask_each f (method_pairs ms ns)) → IsYes headers (ask_each f (method_pairs ns ms))
+  pairs_swap f turn ms ns told =
+      let all = every_swap (named_yes f) ms ns (of_pairs f ms ns told) in
+      to_pairs f ns ms
+      (every_so (λ n. AllByRecursion (λ m. named_yes f m n) ms) (λ n. AllByRecursion (named_yes f n) ms)
+      (λ n here. every_so (λ m. named_yes f m n) (named_yes f n) (λ m so named. turn m n (so (name_swap m n ∙ named))) ms here)
+      ns all)
+
+  -- INTERFACES
+
+  module _ (go : ℕ → TypeData → TypeData → Test) (turn : (left : ℕ) (a b : TypeData) → IsYes headers (go left a b) → IsYes headers (go left b a)) (left : ℕ) where
+    behind_swap : (opened : ℕ) (a b : TypeData) → IsYes headers (behind go left opened a b) → IsYes headers (behind go left opened b a)
+    behind_swap opened a b told =
+        let parts = if_yes (nat_le opened left) (go (left - opened) a b) told in
+        yes_if (nat_le opened left) (go (left - opened) b a) parts.0 (turn (left - opened) a b parts.1)
+
+    method_swap : (m n : MethodData) → IsYes headers (same_methods go left (m, n)) → IsYes headers (same_methods go left (n, m))
+    method_swap m n told =
+        let sum : m.opened + n.opened ≡ n.opened + m.opened = omega arith in
+        subst (λ k. IsYes headers (behind go left k n.type m.type)) sum (behind_swap (m.opened + n.opened) m.type n.type told)
+
+    same_sets_swap : (s t : SetData) → IsYes headers (same_sets go left s t) → IsYes headers (same_sets go left t s)
+    same_sets_swap s t told =
+        let there = terms_lie go left s t in
+        let back = terms_lie go left t s in
+        let methods = ask_each (same_methods go left) (method_pairs s.methods t.methods) in
+        let turned = ask_each (same_methods go left) (method_pairs t.methods s.methods) in
+        let fits = if_yes (sets_fit s t) (and_ask methods (and_ask there back)) told in
+        let both = yes_both headers methods (and_ask there back) fits.1 in
+        let terms = yes_both headers there back both.1 in
+        yes_if (sets_fit t s) (and_ask turned (and_ask back there)) (sets_swap t s ∙ fits.0)
+        (both_yes headers turned (and_ask back there) (pairs_swap (same_methods go left) method_swap s.methods t.methods both.0) (both_yes headers back there terms.1 terms.0))
+
+    known_swap : (s t : Option SetData) → IsYes headers (same_known go left s t) → IsYes headers (same_known go left t s)
+    known_swap (Some s) (Some t) told = same_sets_swap s t told
+    known_swap (Some s) None told = told
+    known_swap None (Some t) told = told
+    known_swap None None told = told
+
+    abbrev asked_sets : TypeData → TypeData → Test
+    asked_sets a b = then_ask (set_of left a) (λ s. then_ask (set_of left b) (λ t. same_known go left s t))
+
+    asked_swap : (a b : TypeData) → IsYes headers (asked_sets a b) → IsYes headers (asked_sets b a)
+    asked_swap a b told =
+        let one = thence headers (set_of left a) (λ s. then_ask (set_of left b) (λ t. same_known go left s t)) true told in
+        let two = thence headers (set_of left b) (λ t. same_known go left one.answer t) true one.second in
+        hence headers (set_of left b) (λ t. then_ask (set_of left a) (λ s. same_known go left t s)) two.answer true two.first
+        (hence headers (set_of left a) (λ s. same_known go left two.answer s) one.answer true one.first (known_swap one.answer two.answer two.second))
+
+    pub interface_swap : (p : TypeData × TypeData) → IsYes headers (same_interfaces go left p) → IsYes headers (same_interfaces go left (swapped p))
+    interface_swap p told =
+        yes_or (alike p.1 p.0) (asked_sets p.1 p.0) (λ other. asked_swap p.0 p.1 (or_yes (alike p.0 p.1) (asked_sets p.0 p.1) (alike_swap p.0 p.1 ∙ other) told))
+
+  -- TYPES
+
+  pub same_swap : (levels left : ℕ) (a b : TypeData) → IsYes headers (same levels left a b) → IsYes headers (same levels left b a)
+  same_swap zero left a b told = told
+  same_swap (suc levels) left a b told =
+      let test = same_interfaces (same levels) left in
+      let fits = if_yes (fit a b) (ask_each test (interfaces_in a b)) told in
+      let each = swap_each test test swapped (interface_swap (same levels) (same_swap levels) left) (interfaces_in a b) (each_yes headers test (interfaces_in a b) fits.1) in
+      let turned = subst (AllByRecursion (λ (p : TypeData × TypeData). IsYes headers (test p))) (sym (interfaces_swap a b)) each in
+      yes_if (fit b a) (ask_each test (interfaces_in b a)) (fit_swap b a ∙ fits.0) (yes_each headers test (interfaces_in b a) turned)

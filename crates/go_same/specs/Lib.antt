@@ -1,0 +1,6 @@
+pub mod Collect
+pub mod Joins
+pub mod Laws
+pub mod Layers
+pub mod MethodOrder
+pub mod Sets
