@@ -4,15 +4,19 @@ ghost use Rattle.std.specs.List.{AllByRecursion};
 ghost use Rattle.go_term.specs.Shapes.{IsCause, shape_tree};
 ghost use Rattle.go_term.specs.Size.{size_fault};
 ghost use Rattle.go_term.specs.Substitution.{subst};
+ghost use Rattle.go_term.specs.declared.fault.TermFault.TheVariants as fault;
 ghost use Rattle.go_model.specs.Outcomes.Records.{header_view};
-ghost use Rattle.go_model.specs.Types.Forms.{IsOwnForm, form_as, underlying_over};
+ghost use Rattle.go_model.specs.Types.Forms.{IsOwnForm, answer_as, form_as, underlying_over};
 ghost use Rattle.go_model.specs.Types.Own.{AreOwn, Keeps, KeepsTypes};
+ghost use Rattle.go_model.specs.Types.TypeIdentity.{identical};
 ghost use Rattle.go_model.specs.Values.Headers.{headers_of};
+ghost use Rattle.go_model.specs.Values.Quests.{run};
 
 use crate::ask::Ask;
 use crate::expr_walk::ExprWalk;
 use crate::form::Form;
 use crate::header::Header;
+use crate::outcome::Answer;
 use go_base::NoMemory;
 use go_module::{ObjId, Object};
 use go_term::{Shape, TermFault, Ty};
@@ -51,6 +55,7 @@ pub trait Forms: Ask {
         ensures own { IfOk result (Self.is_type self.new) }
         ensures fits { IfOk result (λ t. size_fault (shape_tree (Self.tree self.old) shape) ≡ None) }
         ensures cause { IfErr result (λ fault. IsCause fault (shape_tree (Self.tree self.old) shape)) }
+        ensures spent { Self.is_spent self.old ≡ true → IfErr result (λ f. f ≡ fault.NoMemory) }
         ensures unspent { IfOk result (λ t. Self.is_spent self.old ≡ false) }
         ensures keeps { Keeps (Self.headers self.old) (Self.headers self.new) (Self.names self.old) (Self.names self.new)
             (Self.outcomes self.old) (Self.outcomes self.new) (Self.is_spent self.old) (Self.is_spent self.new)
@@ -77,6 +82,7 @@ pub trait Forms: Ask {
             (subst from.now (map (Self.tree self.old) to.now) (Self.tree self.old t.now)) ≡ None) }
         ensures cause { IfErr result (λ fault. IsCause fault
             (subst from.now (map (Self.tree self.old) to.now) (Self.tree self.old t.now))) }
+        ensures spent { Self.is_spent self.old ≡ true → IfErr result (λ f. f ≡ fault.NoMemory) }
         ensures unspent { IfOk result (λ made. Self.is_spent self.old ≡ false) }
         ensures keeps { Keeps (Self.headers self.old) (Self.headers self.new) (Self.names self.old) (Self.names self.new)
             (Self.outcomes self.old) (Self.outcomes self.new) (Self.is_spent self.old) (Self.is_spent self.new)
@@ -97,8 +103,22 @@ pub trait Forms: Ask {
             (Self.tree self.old) (Self.tree self.new) };
 }
 
-/// Which types are identical (Go specification, "Type identity"). No type is judged yet.
-pub trait Same: Forms {}
+/// Which types are identical (Go specification, "Type identity").
+pub trait Same: Forms {
+    /// Whether two types are identical, Unknown with the first header that the answer lacks. No where more than 32 names
+    /// that interfaces embed would have to be opened on one path. An error is want of memory; the call leaves what calls
+    /// of `Forms` leave.
+    fn identical(&mut self, alloc: Global, a: &Ty, b: &Ty) -> Result<Answer, NoMemory>
+        requires first { Self.is_type self.old a.now }
+        requires second { Self.is_type self.old b.now }
+        ensures answer { IfOk result (λ answer. answer_as answer
+            ≡ run (Self.headers self.old) (identical (Self.tree self.old a.now) (Self.tree self.old b.now))) }
+        ensures unspent { IfOk result (λ answer. Self.is_spent self.old ≡ false) }
+        ensures keeps { Keeps (Self.headers self.old) (Self.headers self.new) (Self.names self.old) (Self.names self.new)
+            (Self.outcomes self.old) (Self.outcomes self.new) (Self.is_spent self.old) (Self.is_spent self.new)
+            (Self.world self.old) (Self.world self.new) (Self.is_type self.old) (Self.is_type self.new)
+            (Self.tree self.old) (Self.tree self.new) };
+}
 
 /// Fields and methods of types (Go specification, "Selectors", "Method sets"). None is judged yet.
 pub trait Finds: Same {}

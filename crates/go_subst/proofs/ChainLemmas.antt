@@ -1,5 +1,5 @@
 -- What a turn of a chain of types leaves.
-use Rattle.std.proofs.Common.{◌≡◌, ℕ, suc, ◌+◌, ◌-◌, ◌^◌, ◌<◌, ◌≤◌, ◌==◌, Bool, true, false, not, if◌then◌else◌, Option, Some, None, List, ◌∷◌, refl, sym, ap, subst, ◌∙◌, arith, lit≤}
+use Rattle.std.proofs.Common.{◌≡◌, ℕ, suc, ◌+◌, ◌-◌, ◌^◌, ◌<◌, ◌≤◌, Bool, true, false, not, if◌then◌else◌, Option, Some, None, List, ◌∷◌, refl, sym, ap, subst, ◌∙◌, arith, lit≤}
 use Rattle.std.specs.Prelude.{option_and_then}
 use Rattle.std.specs.List.{list_any}
 use Rattle.go_base.specs.declared.ids.ObjId.{ObjId}
@@ -13,29 +13,29 @@ use Rattle.go_model.specs.declared.form.Reached.{Reached}
 use Rattle.go_model.specs.Outcomes.Records.{HeaderData}
 use Rattle.go_model.specs.Outcomes.Walk.{Headers}
 use Rattle.go_model.specs.Types.Forms.{IsReachCause, reached_as}
-use Rattle.go_model.specs.Types.UnderlyingType.{Exceeds, Reach, Reaches, Reaching, Returns, most_declarations, on_with, step_by, under, under_from}
+use Rattle.go_model.specs.Types.UnderlyingType.{Exceeds, Origin, Reach, Reaches, Reaching, Returns, most_steps, on_with, same_origin, step_by, under, under_from}
 use Rattle.go_model.specs.Values.Quests.{Asked, Decided, Done, Lacks, run}
 use Rattle.go_model.proofs.QuestLemmas.{run-None, run-Some}
-use Rattle.go_subst.specs.Chains.{IsReferredCause, IsTurnCause, asked_from, declaration_of, referred, turn_as}
+use Rattle.go_subst.specs.Chains.{IsReferredCause, IsTurnCause, asked_from, literal, origin_of, referred, turn_as}
 use Rattle.go_subst.specs.declared.underlying.Turn.{Turn}
 use Rattle.go_subst.specs.declared.underlying.Turn.TheVariants.{End, On}
 
 -- at a type that refers to none
-pub chain-own : (headers : Headers) (n : ℕ) (path : List ℕ) (t : TypeData) → declaration_of t ≡ None → run headers (under_from (suc n) path t) ≡ Decided (Reaches t)
+pub chain-own : (headers : Headers) (n : ℕ) (path : List Origin) (t : TypeData) → origin_of t ≡ None → run headers (under_from (suc n) path t) ≡ Decided (Reaches (literal t))
 chain-own headers n path (made head parts) none = ap (λ o. run headers (step_by (under_from n) path head parts o)) none
 
--- at a declaration for the first time, and again
-pub chain-asks : (n : ℕ) (path : List ℕ) (t : TypeData) (d : ObjId) → declaration_of t ≡ Some d → list_any (λ e. e == d.0) path ≡ false → under_from (suc n) path t ≡ asked_from n (d.0 ∷ path) t d
-chain-asks n path (made head parts) d is new =
-    ap (step_by (under_from n) path head parts) is ∙ ap (λ b. if b then Done Returns else asked_from n (d.0 ∷ path) (made head parts) d) new
+-- at a named type for the first time, and again
+pub chain-asks : (n : ℕ) (path : List Origin) (t : TypeData) (o : Origin) → origin_of t ≡ Some o → list_any (same_origin o) path ≡ false → under_from (suc n) path t ≡ asked_from n (o ∷ path) t o.0
+chain-asks n path (made head parts) o is new =
+    ap (step_by (under_from n) path head parts) is ∙ ap (λ b. if b then Done Returns else asked_from n (o ∷ path) (made head parts) o.0) new
 
-pub chain-returns : (headers : Headers) (n : ℕ) (path : List ℕ) (t : TypeData) (d : ObjId) → declaration_of t ≡ Some d → list_any (λ e. e == d.0) path ≡ true → run headers (under_from (suc n) path t) ≡ Decided Returns
-chain-returns headers n path (made head parts) d is met =
-    ap (λ o. run headers (step_by (under_from n) path head parts o)) is
-    ∙ ap (λ b. run headers (if b then Done Returns else asked_from n (d.0 ∷ path) (made head parts) d)) met
+pub chain-returns : (headers : Headers) (n : ℕ) (path : List Origin) (t : TypeData) (o : Origin) → origin_of t ≡ Some o → list_any (same_origin o) path ≡ true → run headers (under_from (suc n) path t) ≡ Decided Returns
+chain-returns headers n path (made head parts) o is met =
+    ap (λ p. run headers (step_by (under_from n) path head parts p)) is
+    ∙ ap (λ b. run headers (if b then Done Returns else asked_from n (o ∷ path) (made head parts) o.0)) met
 
 -- by the header of the declaration
-module _ (headers : Headers) (path : List ℕ) (t : TypeData) where
+module _ (headers : Headers) (path : List Origin) (t : TypeData) where
   pub asked-lacks : (n : ℕ) (d : ObjId) → None ≡ headers d.0 → run headers (asked_from n path t d) ≡ Lacks d.0
   asked-lacks n d none = run-None headers d.0 (λ header. on_with (under_from n path) t (referred t header)) (sym none)
 
@@ -79,29 +79,29 @@ below i a m lt le = omega arith
 turn_left : (m i : ℕ) → i < m → suc (m - suc i) + i ≡ m
 turn_left m i lt = omega arith
 
-within : (i : ℕ) → i < 18446744073709551615 → i < most_declarations
-unfolding most_declarations
-within i lt = below i 18446744073709551615 (2 ^ 64) lt (lit≤ tt)
+within : (i : ℕ) → i < 18446744073709551615 → i < most_steps
+unfolding most_steps
+within i lt = below i 18446744073709551615 (2 ^ 64 + 1) lt (lit≤ tt)
 
-module _ (headers now : Headers) (same : now ≡ headers) (t : TypeData) (i : ℕ) (path path' : List ℕ) (here : TypeData)
-    (chain : (n : ℕ) → n + i ≡ most_declarations → run headers (under t) ≡ run headers (under_from n path here)) where
-  one_turn : (found : Turn) → ((n : ℕ) → run now (under_from (suc n) path here) ≡ turn_as now n path' found) → (n : ℕ) → suc n + i ≡ most_declarations → run headers (under t) ≡ turn_as headers n path' found
+module _ (headers now : Headers) (same : now ≡ headers) (t : TypeData) (i : ℕ) (path path' : List Origin) (here : TypeData)
+    (chain : (n : ℕ) → n + i ≡ most_steps → run headers (under t) ≡ run headers (under_from n path here)) where
+  one_turn : (found : Turn) → ((n : ℕ) → run now (under_from (suc n) path here) ≡ turn_as now n path' found) → (n : ℕ) → suc n + i ≡ most_steps → run headers (under t) ≡ turn_as headers n path' found
   one_turn found turn n left = chain (suc n) left ∙ subst (λ (h : Headers). run h (under_from (suc n) path here) ≡ turn_as h n path' found) same (turn n)
 
   pub goes_on : (found : Turn) (next : Term) → found ≡ On next → ((n : ℕ) → run now (under_from (suc n) path here) ≡ turn_as now n path' found)
-      → (n : ℕ) → n + (i + 1) ≡ most_declarations → run headers (under t) ≡ run headers (under_from n path' (type_of next))
+      → (n : ℕ) → n + (i + 1) ≡ most_steps → run headers (under t) ≡ run headers (under_from n path' (type_of next))
   goes_on found next is turn n left = one_turn found turn n (omega arith) ∙ ap (turn_as headers n path') is
 
   pub ends : i < 18446744073709551615 → (found : Turn) (reached : Reached) → found ≡ End reached → ((n : ℕ) → run now (under_from (suc n) path here) ≡ turn_as now n path' found)
       → reached_as type_of reached ≡ run headers (under t)
   ends lt found reached is turn =
-      let n = most_declarations - suc i in
-      sym (one_turn found turn n (turn_left most_declarations i (within i lt)) ∙ ap (turn_as headers n path') is)
+      let n = most_steps - suc i in
+      sym (one_turn found turn n (turn_left most_steps i (within i lt)) ∙ ap (turn_as headers n path') is)
 
   fault_known : i < 18446744073709551615 → (fault : TermFault) → ((n : ℕ) → run now (under_from (suc n) path here) ≡ Decided (Exceeds fault)) → run headers (under t) ≡ Decided (Exceeds fault)
   fault_known lt fault cause =
-      let n = most_declarations - suc i in
-      chain (suc n) (turn_left most_declarations i (within i lt)) ∙ subst (λ (h : Headers). run h (under_from (suc n) path here) ≡ Decided (Exceeds fault)) same (cause n)
+      let n = most_steps - suc i in
+      chain (suc n) (turn_left most_steps i (within i lt)) ∙ subst (λ (h : Headers). run h (under_from (suc n) path here) ≡ Decided (Exceeds fault)) same (cause n)
 
   pub fails : i < 18446744073709551615 → (fault : TermFault) → IsTurnCause fault now (λ n. under_from (suc n) path here) → IsReachCause fault headers t
   fails lt NoMemory cause = tt

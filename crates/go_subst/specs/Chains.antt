@@ -1,7 +1,6 @@
 -- Underlying types (Go specification), one turn of a chain of types at a time.
--- Says what a turn leaves of a chain that has come to a type through the declarations of a path, where some turns are
--- left.
-use Rattle.std.specs.Prelude.{◌≡◌, ℕ, suc, List, Option, map, option_and_then, reverse, Some}
+-- Says what a turn leaves of a chain that has come to a type through the named types of a path, where some turns are left.
+use Rattle.std.specs.Prelude.{◌≡◌, ℕ, List, Option, map, option_and_then, reverse, Some}
 use Rattle.indexmap.specs.IndexMap.{keys}
 use Rattle.go_base.specs.declared.ids.ObjId.{ObjId}
 use Rattle.go_term.specs.Size.{size_fault}
@@ -12,19 +11,27 @@ use Rattle.go_term.specs.declared.fault.TermFault.TheVariants.{NoMemory}
 use Rattle.go_model.specs.Outcomes.Records.{HeaderData}
 use Rattle.go_model.specs.Outcomes.Walk.{Headers}
 use Rattle.go_model.specs.Types.Forms.{reached_as}
-use Rattle.go_model.specs.Types.UnderlyingType.{Exceeds, Reach, Reaching, declared_by, on_with, refers_to, under_from}
+use Rattle.go_model.specs.Types.UnderlyingType.{Exceeds, Origin, Reach, Reaching, declared_by, literal_of, on_with, refers_to, under_from}
 use Rattle.go_model.specs.Values.Quests.{Asked, Decided, Need, run}
+use Rattle.go_subst.specs.declared.path.Origin as declared
 use Rattle.go_subst.specs.declared.path.Path.{Path}
 use Rattle.go_subst.specs.declared.underlying.Turn.{Turn}
 use Rattle.go_subst.specs.declared.underlying.Turn.TheVariants.{End, On}
 
--- the numbers of the declarations of a path, the last first
-abbrev pub path_of : Path → List ℕ
-path_of path = reverse (map (λ (d : ObjId). d.0) (keys path.met))
+abbrev pub origin_as : declared.Origin → Origin
+origin_as o = (o.declaration, o.parameter)
 
--- the declaration whose header says to which type a type refers
-abbrev pub declaration_of : TypeData → Option ObjId
-declaration_of (made head parts) = declared_by head
+-- where the named types of a path are declared, the last first
+abbrev pub path_of : Path → List Origin
+path_of path = reverse (map origin_as (keys path.met))
+
+-- where a type is declared, if it is a named type
+abbrev pub origin_of : TypeData → Option Origin
+origin_of (made head parts) = declared_by head
+
+-- the type at which a chain ends that has come to a type that is no named type
+abbrev pub literal : TypeData → TypeData
+literal (made head parts) = literal_of head parts
 
 -- the type to which a type refers, by the header of that declaration
 abbrev pub referred : TypeData → HeaderData → Option TypeData
@@ -35,12 +42,12 @@ abbrev pub IsReferredCause : TermFault → Option TypeData → Type 0
 IsReferredCause NoMemory next = Unit {0}
 IsReferredCause fault next = option_and_then size_fault next ≡ Some fault
 
--- on from a type by the header of the declaration, to which it comes for the first time
-abbrev pub asked_from : ℕ → List ℕ → TypeData → ObjId → Reaching
+-- on from a type, to which the chain comes for the first time, by the header of its declaration
+abbrev pub asked_from : ℕ → List Origin → TypeData → ObjId → Reaching
 asked_from n path t d = Need d.0 (λ header. on_with (under_from n path) t (referred t header))
 
 -- what the chain comes to after a turn, which leaves this path and so many turns
-abbrev pub turn_as : Headers → ℕ → List ℕ → Turn → Asked Reach
+abbrev pub turn_as : Headers → ℕ → List Origin → Turn → Asked Reach
 turn_as headers n path (End reached) = reached_as type_of reached
 turn_as headers n path (On next) = run headers (under_from n path (type_of next))
 

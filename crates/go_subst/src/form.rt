@@ -11,8 +11,8 @@ use go_term::{TermFault, Ty};
 use std::alloc::Global;
 
 /// The underlying type of a type (Go specification, "Underlying types"): Absent where the chain of right sides comes
-/// back to a declaration or leads to a type that is too deep or too large; Unknown with the first header that is
-/// lacking. An error is want of memory. What `ask` has stays as it was, also on an error.
+/// back to a declaration or a type parameter, or leads to a type that is too deep or too large; Unknown with the first
+/// header that is lacking. An error is want of memory. What `ask` has stays as it was, also on an error.
 pub fn underlying_type<A: Ask>(alloc: Global, ask: &mut A, t: &Ty) -> Result<Form, NoMemory>
     ensures answer { IfOk result (λ form. form_as type_of form
         ≡ underlying_over (A.headers ask.old) (type_of t.now)) }

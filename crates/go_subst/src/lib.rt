@@ -3,13 +3,14 @@
 
 mod form;
 mod laws;
+mod literal;
 mod path;
 mod referred;
 mod substitution;
 mod underlying;
 
 pub use form::underlying_type;
-pub use laws::substitution_of_nothing;
+pub use laws::{substitution_of_nothing, underlying_types_stay};
 pub use substitution::subst;
 pub use underlying::under;
 

@@ -8,19 +8,26 @@ ghost use Rattle.go_model.specs.Outcomes.Records.{header_view, param_view};
 ghost use Rattle.go_model.specs.Types.UnderlyingType as spec;
 ghost use Rattle.go_subst.specs.Chains as chain;
 
+use crate::path::Origin;
 use crate::substitution::subst;
 use go_base::{NoMemory, ObjId};
 use go_model::{Header, TypeParam};
 use go_term::{Term, TermFault, Ty};
 use std::alloc::Global;
 
-/// The declaration whose header says to which type a type refers.
-pub(crate) fn declaration_of(t: &Ty) -> Option<ObjId>
-    ensures { result ≡ chain.declaration_of (type_of t.now) }
+/// Where a type is declared, if it is a named type: the header of that declaration says to which type it refers.
+pub(crate) fn origin_of(t: &Ty) -> Option<Origin>
+    ensures { option_map chain.origin_as result ≡ chain.origin_of (type_of t.now) }
 {
     match t {
-        Term::Named(d, _) => Some(*d),
-        Term::Param(d, _) => Some(*d),
+        Term::Named(d, _) => Some(Origin {
+            declaration: *d,
+            parameter: None,
+        }),
+        Term::Param(d, place) => Some(Origin {
+            declaration: *d,
+            parameter: Some(*place),
+        }),
         _ => None,
     }
 }

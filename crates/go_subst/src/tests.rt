@@ -77,12 +77,12 @@ fn named(alloc: Global, d: usize) -> Term {
     Term::Named(ObjId(d), Vec::new(alloc))
 }
 
-// One type parameter, with a constraint that all types satisfy.
-fn any_param(alloc: Global) -> Result<Vec<TypeParam>, NoMemory> {
+// One type parameter, with this constraint.
+fn one_param(alloc: Global, bound: Term) -> Result<Vec<TypeParam>, NoMemory> {
     let mut params = Vec::new(alloc);
     params.push(TypeParam {
         object: ObjId(60),
-        bound: Term::Interface(Vec::new(alloc)),
+        bound,
     })?;
     Ok(params)
 }
@@ -132,7 +132,8 @@ fn argument_stands_in_the_right_side(rt: HostRuntime) -> Result<(), Fail> {
     let mut map = Headers::new(alloc);
     let element = Box::new(alloc, Term::Param(DECLARED, 0))?;
     let right = Term::Slice(element);
-    map.add(DECLARED, defined(alloc, any_param(alloc)?, right))?;
+    let params = one_param(alloc, Term::Interface(Vec::new(alloc)))?;
+    map.add(DECLARED, defined(alloc, params, right))?;
     let of_int = Term::Named(DECLARED, vec![in alloc; Term::Basic(Basic::Int)]?);
     let reached = under(alloc, &mut map, &of_int);
     assert_eq!(rt;
@@ -144,5 +145,60 @@ fn argument_stands_in_the_right_side(rt: HostRuntime) -> Result<(), Fail> {
         format!(in alloc; "{reached:?}")?.as_str(),
         "Ok(Is(Interface([])))"
     );
+    Ok(())
+}
+
+// type G[P C] interface{}; type C G[int]
+#[test]
+fn constraint_may_name_an_instance_of_its_own_declaration(rt: HostRuntime) -> Result<(), Fail> {
+    let alloc = rt.alloc();
+    let mut map = Headers::new(alloc);
+    let params = one_param(alloc, named(alloc, 51))?;
+    map.add(
+        DECLARED,
+        defined(alloc, params, Term::Interface(Vec::new(alloc))),
+    )?;
+    let of_int = Term::Named(DECLARED, vec![in alloc; Term::Basic(Basic::Int)]?);
+    map.add(ObjId(51), defined(alloc, Vec::new(alloc), of_int))?;
+    let reached = under(alloc, &mut map, &Term::Param(DECLARED, 0));
+    assert_eq!(rt;
+        format!(in alloc; "{reached:?}")?.as_str(),
+        "Ok(Is(Interface([])))"
+    );
+    Ok(())
+}
+
+// type G[P P] interface{}
+#[test]
+fn parameter_that_is_its_own_constraint_is_a_cycle(rt: HostRuntime) -> Result<(), Fail> {
+    let alloc = rt.alloc();
+    let mut map = Headers::new(alloc);
+    let params = one_param(alloc, Term::Param(DECLARED, 0))?;
+    map.add(
+        DECLARED,
+        defined(alloc, params, Term::Interface(Vec::new(alloc))),
+    )?;
+    let reached = under(alloc, &mut map, &Term::Param(DECLARED, 0));
+    assert_eq!(rt; format!(in alloc; "{reached:?}")?.as_str(), "Ok(Cycle)");
+    Ok(())
+}
+
+// type E error
+#[test]
+fn error_is_an_interface(rt: HostRuntime) -> Result<(), Fail> {
+    let alloc = rt.alloc();
+    let mut map = Headers::new(alloc);
+    map.add(
+        ObjId(50),
+        defined(alloc, Vec::new(alloc), Term::Basic(Basic::Error)),
+    )?;
+    for t in [Term::Basic(Basic::Error), named(alloc, 50)] {
+        let reached = under(alloc, &mut map, &t);
+        assert_eq!(rt;
+            format!(in alloc; "{reached:?}")?.as_str(),
+            "Ok(Is(Interface([Method(ObjId(44), Name { text: \"Error\" }, Name { text: \"\" }, FuncTerm { params: [], variadic: false, results: [Basic(String)] })])))",
+            "for {t:?}"
+        );
+    }
     Ok(())
 }

@@ -10,8 +10,9 @@ ghost use Rattle.go_model.specs.Values.Quests.{run};
 ghost use Rattle.go_subst.specs.Chains as chain;
 ghost use Rattle.go_subst.specs.Chains.{path_of};
 
+use crate::literal::literal_of;
 use crate::path::Path;
-use crate::referred::{declaration_of, referred};
+use crate::referred::{origin_of, referred};
 use go_base::ObjId;
 use go_model::{Ask, Header, Reached};
 use go_term::{TermFault, Ty};
@@ -25,9 +26,9 @@ enum Turn {
 }
 
 /// Where the chain of right sides from a type leads (Go specification, "Underlying types"): to its underlying type;
-/// Cycle where it comes back to a declaration; Unknown with the first header that is lacking. Besides want of memory an
-/// error is Deep where a type on the chain is deeper than 256, else Large where one has more than 65,536 nodes. What
-/// `ask` has stays as it was, also on an error.
+/// Cycle where it comes back to a declaration or a type parameter; Unknown with the first header that is lacking.
+/// Besides want of memory an error is Deep where a type on the chain is deeper than 256, else Large where one has more
+/// than 65,536 nodes. What `ask` has stays as it was, also on an error.
 pub fn under<A: Ask>(alloc: Global, ask: &mut A, t: &Ty) -> Result<Reached, TermFault>
     ensures answer { IfOk result (λ reached. reached_as type_of reached
         ≡ run (A.headers ask.old) (spec.under (type_of t.now))) }
@@ -50,7 +51,7 @@ pub fn under<A: Ask>(alloc: Global, ask: &mut A, t: &Ty) -> Result<Reached, Term
     Err(TermFault::NoMemory)
 }
 
-// A turn of a chain that has come to this type through the declarations of the path.
+// A turn of a chain that has come to this type through the named types of the path.
 fn next_turn<A: Ask>(
     alloc: Global,
     ask: &mut A,
@@ -69,19 +70,19 @@ fn next_turn<A: Ask>(
     ensures world { A.world ask.new ≡ A.world ask.old }
     ensures types { KeepsTypes (A.is_type ask.old) (A.is_type ask.new) (A.tree ask.old) (A.tree ask.new) }
 {
-    match declaration_of(&here) {
-        None => Ok(Turn::End(Reached::Is(here))),
-        Some(d) if path.add(d)? => asked(alloc, ask, d, here),
+    match origin_of(&here) {
+        None => Ok(Turn::End(Reached::Is(literal_of(alloc, here)?))),
+        Some(origin) if path.add(origin)? => asked(alloc, ask, origin.declaration, here),
         Some(_) => Ok(Turn::End(Reached::Cycle)),
     }
 }
 
-// The turn of a chain that comes to a declaration for the first time.
+// The turn of a chain that comes to a named type for the first time, by the header of its declaration.
 fn asked<A: Ask>(alloc: Global, ask: &mut A, d: ObjId, here: Ty) -> Result<Turn, TermFault>
-    ensures turn { IfOk result (λ turn. (n : ℕ) (path : List ℕ)
+    ensures turn { IfOk result (λ turn. (n : ℕ) (path : List spec.Origin)
         → run (A.headers ask.old) (chain.asked_from n path (type_of here) d)
         ≡ chain.turn_as (A.headers ask.old) n path turn) }
-    ensures cause { IfErr result (λ fault. (path : List ℕ) → chain.IsTurnCause fault (A.headers ask.old)
+    ensures cause { IfErr result (λ fault. (path : List spec.Origin) → chain.IsTurnCause fault (A.headers ask.old)
         (λ n. chain.asked_from n path (type_of here) d)) }
     ensures same { A.headers ask.new ≡ A.headers ask.old }
     ensures names { A.names ask.new ≡ A.names ask.old }
@@ -98,7 +99,7 @@ fn asked<A: Ask>(alloc: Global, ask: &mut A, d: ObjId, here: Ty) -> Result<Turn,
 
 // The turn of a chain by the header of the declaration that its type names.
 fn by_header(alloc: Global, header: &Header, here: Ty) -> Result<Turn, TermFault>
-    ensures turn { IfOk result (λ turn. (headers : Headers) (n : ℕ) (path : List ℕ)
+    ensures turn { IfOk result (λ turn. (headers : Headers) (n : ℕ) (path : List spec.Origin)
         → run headers (spec.on_with (spec.under_from n path) (type_of here)
         (chain.referred (type_of here) (header_view header.now)))
         ≡ chain.turn_as headers n path turn) }

@@ -1,6 +1,6 @@
 -- The types of a judge: which are its own, and what each stands for.
--- Says what a call of a judge leaves as it was, and which shapes and forms have parts of its own. A judge may come to have
--- further types in a call; those that it had stay, and stand for what they stood for.
+-- Says what a call of a judge leaves as it was, and which shapes have parts of its own. A judge may come to have further
+-- types in a call; those that it had stay, and stand for what they stood for.
 use Rattle.std.specs.Prelude.{◌≡◌, ℕ, Bool, Option, None, Some}
 use Rattle.std.specs.List.{AllByRecursion}
 use Rattle.go_term.specs.Types.{TypeData}

@@ -1,11 +1,13 @@
 -- Type identity (Go specification).
 -- Decides which types are identical: a type that a declaration defines or that is predeclared "is always different from any
 -- other type"; else two types are identical "if their underlying type literals are structurally equivalent", interfaces where
--- "they define the same type set". Which heads are the same: `Heads`; what an interface has: `TypeSets`. Of the parts of a
--- question those are asked first that need no header, then interfaces in their order, in these methods by name. Names that
--- interfaces embed are opened, at most 32 on one path, those of both sides together (own); types that are equal but for
--- where fields and methods are declared need none.
-use Rattle.std.specs.Prelude.{ℕ, zero, suc, ◌+◌, ◌-◌, ◌*◌, ◌&&◌, nat_le, Bool, true, false, Option, None, Some, if◌then◌else◌, List, [], ◌∷◌, ◌++◌, map, filter}
+-- "they define the same type set". Which heads are the same: `Heads`; what an interface has: `TypeSets`. Own: the form of two
+-- types is asked before any header, then their interfaces in order, of these the forms of all methods, the methods by name,
+-- and the terms. Names that interfaces embed are opened, at most 32 on one path, those of both sides together, and the
+-- underlying type of a term that is held against one with `~` is one more; types that are equal but for where fields and
+-- methods are declared need none. Where names run short the answer is No, but as the premise of another question Yes of types
+-- that fit, so that no Yes rests on it.
+use Rattle.std.specs.Prelude.{ℕ, zero, suc, ◌+◌, ◌-◌, ◌*◌, ◌&&◌, not, nat_le, Bool, true, false, Option, None, Some, if◌then◌else◌, List, [], ◌∷◌, ◌++◌, map, filter}
 use Rattle.std.specs.List.{flat_map, list_all, list_any}
 use Rattle.go_term.specs.Types.{Head, interface_type, TypeData, Parts, made, no_parts, more_parts}
 use Rattle.go_module.specs.Modules.Paths.{same_text}
@@ -111,54 +113,68 @@ sets_fit s t =
 
 -- INTERFACES
 
--- go says whether two types are identical where at most so many names are opened on one path, of which left are left
-module _ (go : ℕ → TypeData → TypeData → Test) (left : ℕ) where
+-- what is answered where names run short: No, or in a premise whether the types fit
+abbrev pub by_form : Bool → TypeData → TypeData → Test
+by_form short a b = Done (short && fit a b)
+
+-- go says whether two types are identical where at most so many names are opened on one path, of which left are left; short
+-- says whether the question is a premise
+module _ (go : Bool → ℕ → TypeData → TypeData → Test) (left : ℕ) where
   -- behind so many names that were opened on the way
-  abbrev pub behind : ℕ → TypeData → TypeData → Test
-  behind opened a b = if nat_le opened left then go (left - opened) a b else Done false
+  abbrev pub behind : Bool → ℕ → TypeData → TypeData → Test
+  behind short opened a b = if nat_le opened left then go short (left - opened) a b else by_form short a b
 
-  abbrev pub same_methods : MethodData × MethodData → Test
-  same_methods p = behind (p.0.opened + p.1.opened) p.0.type p.1.type
+  abbrev pub methods_fit : MethodData × MethodData → Test
+  methods_fit p = Done (fit p.0.type p.1.type)
 
-  abbrev pub same_found : ℕ → TypeData → Option TypeData → Test
-  same_found opened b None = Done false
-  same_found opened b (Some u) = behind opened (plain u) b
+  abbrev pub same_methods : Bool → MethodData × MethodData → Test
+  same_methods short p = behind short (p.0.opened + p.1.opened) p.0.type p.1.type
+
+  abbrev pub same_found : Bool → ℕ → TypeData → Option TypeData → Test
+  same_found short opened b None = Done short
+  same_found short opened b (Some u) = behind short opened (plain u) b
 
   -- the types of a term are among those of another: that of T is the one type T, that of ~T "the set of all types whose
-  -- underlying type is T"
-  abbrev pub lies_within_by : Bool → Bool → ℕ → TypeData → TypeData → Test
-  lies_within_by false true opened a b = then_ask (under a) (λ reach. same_found opened b (found_in reach))
-  lies_within_by true false opened a b = Done false
-  lies_within_by tilde other opened a b = behind opened a b
+  -- underlying type is T"; the underlying type of T is one name more that is opened
+  abbrev pub lies_within_by : Bool → Bool → Bool → ℕ → TypeData → TypeData → Test
+  lies_within_by short false true opened a b = then_ask (under a) (λ reach. same_found short (opened + 1) b (found_in reach))
+  lies_within_by short true false opened a b = Done false
+  lies_within_by short tilde other opened a b = behind short opened a b
 
-  abbrev pub lies_within : TermData → TermData → Test
-  lies_within a b = lies_within_by a.tilde b.tilde (a.opened + b.opened) a.type b.type
+  abbrev pub lies_within : Bool → TermData → TermData → Test
+  lies_within short a b = lies_within_by short a.tilde b.tilde (a.opened + b.opened) a.type b.type
 
-  abbrev pub lies_in : List (List TermData) → TermData → Test
-  lies_in unions a = ask_each (λ u. ask_any (lies_within a) u) unions
+  abbrev pub lies_in : Bool → List (List TermData) → TermData → Test
+  lies_in short unions a = ask_each (λ u. ask_any (lies_within short a) u) unions
 
   -- each term of the one set that lies in all its unions lies in all those of the other
-  abbrev pub terms_lie : SetData → SetData → Test
-  terms_lie s t = ask_each (λ a. implied (lies_in s.unions a) (lies_in t.unions a)) (flat_map (λ u. u) s.unions)
+  abbrev pub terms_lie : Bool → SetData → SetData → Test
+  terms_lie short s t = ask_each (λ a. implied (lies_in (not short) s.unions a) (lies_in short t.unions a)) (flat_map (λ u. u) s.unions)
 
-  abbrev pub same_sets : SetData → SetData → Test
-  same_sets s t =
-      if sets_fit s t then and_ask (ask_each same_methods (method_pairs s.methods t.methods)) (and_ask (terms_lie s t) (terms_lie t s))
+  abbrev pub same_methods_all : Bool → List (MethodData × MethodData) → Test
+  same_methods_all short pairs = and_ask (ask_each methods_fit pairs) (ask_each (same_methods short) pairs)
+
+  abbrev pub same_sets : Bool → SetData → SetData → Test
+  same_sets short s t =
+      if sets_fit s t then and_ask (same_methods_all short (method_pairs s.methods t.methods)) (and_ask (terms_lie short s t) (terms_lie short t s))
       else Done false
 
-  abbrev pub same_known : Option SetData → Option SetData → Test
-  same_known (Some s) (Some t) = same_sets s t
-  same_known s t = Done false
+  abbrev pub same_as_set : Bool → SetData → Option SetData → Test
+  same_as_set short s None = Done short
+  same_as_set short s (Some t) = same_sets short s t
 
-  abbrev pub same_interfaces : TypeData × TypeData → Test
-  same_interfaces p =
-      if alike p.0 p.1 then Done true
-      else then_ask (set_of left p.0) (λ s. then_ask (set_of left p.1) (λ t. same_known s t))
+  -- by what is found of the first set: the second is asked where there is one
+  abbrev pub same_as : Bool → TypeData → Option SetData → Test
+  same_as short b None = Done short
+  same_as short b (Some s) = then_ask (set_of left b) (same_as_set short s)
 
--- levels counts interfaces within methods of interfaces
-abbrev pub same : ℕ → ℕ → TypeData → TypeData → Test
-same zero left a b = Done false
-same (suc levels) left a b = if fit a b then ask_each (same_interfaces (same levels) left) (interfaces_in a b) else Done false
+  abbrev pub same_interfaces : Bool → TypeData × TypeData → Test
+  same_interfaces short p = if alike p.0 p.1 then Done true else then_ask (set_of left p.0) (same_as short p.1)
+
+-- levels counts interfaces within methods and terms of interfaces
+abbrev pub same : ℕ → Bool → ℕ → TypeData → TypeData → Test
+same zero short left a b = by_form short a b
+same (suc levels) short left a b = if fit a b then ask_each (same_interfaces (same levels) left short) (interfaces_in a b) else Done false
 
 -- no two types that are not too deep have more levels: 32 names are opened on a path, and between two of them stand at most 256
 unfoldable pub most_levels : ℕ
@@ -168,4 +184,4 @@ unfoldable pub most_opened : ℕ
 most_opened = 32
 
 abbrev pub identical : TypeData → TypeData → Test
-identical a b = same most_levels most_opened (plain a) (plain b)
+identical a b = same most_levels false most_opened (plain a) (plain b)

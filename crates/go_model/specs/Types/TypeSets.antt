@@ -1,7 +1,7 @@
 -- Interface types; Embedded interfaces; General interfaces (Go specification).
 -- Decides what an interface has, with all that it embeds: its methods, what its unions leave of all types, and whether it
--- has `comparable`. "The type set of an interface type is the intersection of the type sets of its interface elements", that
--- of a union the union of those of its terms. A name that is embedded is opened: what its underlying type has is taken in
+-- has `comparable`. Its type set is "the intersection of the type sets of its interface elements", that of a union "the union
+-- of the type sets of the terms". A name that is embedded is opened: what its underlying type has is taken in
 -- its place. What is left out yet: which types of a union `comparable` leaves.
 use Rattle.std.specs.Prelude.{ℕ, zero, suc, ◌+◌, Bool, true, false, ◌||◌, Option, None, Some, if◌then◌else◌, List, [], ◌∷◌, ◌++◌, map, codes}
 use Rattle.std.specs.List.{flat_map}
@@ -74,12 +74,13 @@ either_unions us vs = flat_map (λ u. map (λ v. u ++ v) vs) us
 abbrev pub either_set : SetData → SetData → SetData
 either_set a b = record { methods = []; unions = either_unions a.unions b.unions; comparable = false }
 
-abbrev pub both_known : (SetData → SetData → SetData) → Option SetData → Option SetData → Option SetData
-both_known join (Some a) (Some b) = Some (join a b)
-both_known join a b = None
+-- the second is asked where there is a first
+abbrev pub joined_to : (SetData → SetData → SetData) → SetAsked → Option SetData → SetAsked
+joined_to join b None = Done None
+joined_to join b (Some x) = then_ask b (λ o. Done (option_map (join x) o))
 
 abbrev pub joined : (SetData → SetData → SetData) → SetAsked → SetAsked → SetAsked
-joined join a b = then_ask a (λ x. then_ask b (λ y. Done (both_known join x y)))
+joined join a b = then_ask a (joined_to join b)
 
 -- the set of one term
 abbrev pub term_set : Bool → TypeData → SetData
@@ -139,6 +140,14 @@ plain_term_by opening elements (named d) t = named_set opening t
 plain_term_by opening elements (param d i) t = named_set opening t
 plain_term_by opening elements head t = Done (Some (term_set false t))
 
+-- a term with `~`; a type parameter counts as its constraint
+abbrev pub tilde_set_by : (TypeData → SetAsked) → Head → TypeData → SetAsked
+tilde_set_by opening (param d i) t = named_set opening t
+tilde_set_by opening head t = Done (Some (term_set true t))
+
+abbrev pub tilde_set : (TypeData → SetAsked) → TypeData → SetAsked
+tilde_set opening (made head parts) = tilde_set_by opening head (made head parts)
+
 -- opening says what the set of an interface is to which a name leads
 abbrev mutual
   -- the elements of an interface, all together
@@ -158,7 +167,7 @@ abbrev mutual
   union_set opening (more_parts u us) = joined either_set (union_term_set opening u) (union_set opening us)
 
   pub union_term_set : (TypeData → SetAsked) → TypeData → SetAsked
-  union_term_set opening (made (union_term true) (more_parts t no_parts)) = Done (Some (term_set true t))
+  union_term_set opening (made (union_term true) (more_parts t no_parts)) = tilde_set opening t
   union_term_set opening (made (union_term false) (more_parts t no_parts)) = type_set opening t
   union_term_set opening (made head parts) = Done (Some all_types)
 
