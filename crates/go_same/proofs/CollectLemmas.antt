@@ -4,8 +4,9 @@ use Rattle.std.proofs.lemmas.Grind.{flat_map-append}
 use Rattle.std.proofs.lemmas.List.{append-nil, map-append}
 use Rattle.std.proofs.lemmas.List.Concat.{flat_map-cons}
 use Rattle.std.specs.List.{AllByRecursion}
+use Rattle.std.specs.Option.{option_map}
 use Rattle.go_term.specs.Shapes.{shape_tree}
-use Rattle.go_term.specs.Types.{TypeData, Parts, no_parts, more_parts}
+use Rattle.go_term.specs.Types.{TypeData, Parts, field, made, method, no_parts, more_parts, param}
 use Rattle.go_term.specs.declared.basic.Basic.{Basic}
 use Rattle.go_term.specs.declared.basic.Basic.TheVariants as B
 use Rattle.go_term.specs.declared.shape.Shape.{Shape}
@@ -13,11 +14,11 @@ use Rattle.go_term.specs.declared.shape.Shape.TheVariants as S
 use Rattle.go_term.specs.declared.term.Term.{Term}
 use Rattle.go_model.specs.Outcomes.Walk.{Headers}
 use Rattle.go_model.specs.Types.Own.{AreOwn, AreOwnFunc}
-use Rattle.go_model.specs.Types.TypeSets.{SetAsked, SetData, TermData, all_types, both_known, both_sets, either_set, either_unions, element_set, elements_set, is_interface, joined, plain, set_of, type_set, union_set, union_term_set}
+use Rattle.go_model.specs.Types.TypeSets.{SetAsked, SetData, TermData, all_types, both_sets, either_set, either_unions, element_set, elements_set, is_interface, joined, joined_to, plain, set_of, term_set, tilde_set, type_set, union_set, union_term_set}
 use Rattle.go_model.specs.Values.Quests.{Asked, Decided, Lacks, Quest, Done, Need, run, then_ask}
-use Rattle.go_same.specs.Collect.{HasElements, IsKindOf, IsOwnKind, asked_after, asked_joined, asked_then, basic_kind, is_interface_kind, kind_of, kind_set, opening_within}
+use Rattle.go_same.specs.Collect.{HasElements, IsKindOf, IsOwnKind, asked_after, asked_joined, asked_joined_to, asked_then, basic_kind, is_interface_kind, is_param, kind_of, kind_set, opening_within}
 use Rattle.go_same.specs.Joins.{IsBoth, IsBothSets}
-use Rattle.go_same.specs.Sets.{IsOwnFound, IsOwnSet, found_as, method_view, part_view, set_view}
+use Rattle.go_same.specs.Sets.{IsOwnFound, IsOwnSet, found_as, is_set, method_view, part_view, set_view}
 use Rattle.go_same.specs.declared.set.FoundSet.{FoundSet}
 use Rattle.go_same.specs.declared.set.FoundSet.TheVariants as F
 use Rattle.go_same.specs.declared.set.TypeSet.{TypeSet}
@@ -39,21 +40,20 @@ then-agrees (Decided a) f g each = each a
 then-agrees (Lacks d) f g each = refl
 
 pub run-joined : (known : Headers) (join : SetData → SetData → SetData) (a b : SetAsked) → run known (joined join a b) ≡ asked_joined join (run known a) (run known b)
-run-joined known join a b =
-    run-then known a (λ x. then_ask b (λ y. Done (both_known join x y)))
-    ∙ then-agrees (run known a) (λ x. run known (then_ask b (λ y. Done (both_known join x y)))) (λ x. asked_then (run known b) (λ y. Decided (both_known join x y))) (λ x. run-then known b (λ y. Done (both_known join x y)))
-
-known-assoc : (join : SetData → SetData → SetData) → ((a b c : SetData) → join a (join b c) ≡ join (join a b) c) → (a b c : Option SetData) → both_known join a (both_known join b c) ≡ both_known join (both_known join a b) c
-known-assoc join assoc None b c = refl
-known-assoc join assoc (Some a) None c = refl
-known-assoc join assoc (Some a) (Some b) None = refl
-known-assoc join assoc (Some a) (Some b) (Some c) = ap Some (assoc a b c)
+run-joined known join a b = run-then known a (joined_to join b) ∙ then-agrees (run known a) (λ x. run known (joined_to join b x)) (asked_joined_to join (run known b)) second
+  where
+    second : (x : Option SetData) → run known (joined_to join b x) ≡ asked_joined_to join (run known b) x
+    second None = refl
+    second (Some x) = run-then known b (λ o. Done (option_map (join x) o))
 
 pub joined-assoc : (join : SetData → SetData → SetData) → ((a b c : SetData) → join a (join b c) ≡ join (join a b) c) → (x y z : Asked (Option SetData)) → asked_joined join x (asked_joined join y z) ≡ asked_joined join (asked_joined join x y) z
 joined-assoc join assoc (Lacks d) y z = refl
-joined-assoc join assoc (Decided a) (Lacks d) z = refl
-joined-assoc join assoc (Decided a) (Decided b) (Lacks d) = refl
-joined-assoc join assoc (Decided a) (Decided b) (Decided c) = ap Decided (known-assoc join assoc a b c)
+joined-assoc join assoc (Decided None) y z = refl
+joined-assoc join assoc (Decided (Some a)) (Lacks d) z = refl
+joined-assoc join assoc (Decided (Some a)) (Decided None) z = refl
+joined-assoc join assoc (Decided (Some a)) (Decided (Some b)) (Lacks d) = refl
+joined-assoc join assoc (Decided (Some a)) (Decided (Some b)) (Decided None) = refl
+joined-assoc join assoc (Decided (Some a)) (Decided (Some b)) (Decided (Some c)) = ap (λ s. Decided (Some s)) (assoc a b c)
 
 or-assoc : (a b c : Bool) → (a || (b || c)) ≡ ((a || b) || c)
 or-assoc true b c = refl
@@ -148,9 +148,7 @@ sets_owned own a b s is all also = (
 
 pub both_viewed : (tree : Term → TypeData) (a b found : FoundSet) → IsBoth a b found → found_as tree found ≡ asked_joined both_sets (found_as tree a) (found_as tree b)
 both_viewed tree (F.Unknown d) b found is = ap (found_as tree) is
-both_viewed tree F.Absent (F.Unknown d) found is = ap (found_as tree) is
-both_viewed tree F.Absent F.Absent found is = ap (found_as tree) is
-both_viewed tree F.Absent (F.Is b) found is = ap (found_as tree) is
+both_viewed tree F.Absent b found is = ap (found_as tree) is
 both_viewed tree (F.Is a) (F.Unknown d) found is = ap (found_as tree) is
 both_viewed tree (F.Is a) F.Absent found is = ap (found_as tree) is
 both_viewed tree (F.Is a) (F.Is b) (F.Is s) is = ap (λ x. Decided (Some x)) (sets_viewed tree a b s is)
@@ -162,11 +160,23 @@ both_owned own a b (F.Unknown d) is all also = tt
 both_owned own a b F.Absent is all also = tt
 both_owned own (F.Is a) (F.Is b) (F.Is s) is all also = sets_owned own a b s is all also
 both_owned own (F.Unknown d) b (F.Is s) is all also = absurd (cc)
-both_owned own F.Absent (F.Unknown d) (F.Is s) is all also = absurd (cc)
-both_owned own F.Absent F.Absent (F.Is s) is all also = absurd (cc)
-both_owned own F.Absent (F.Is b) (F.Is s) is all also = absurd (cc)
+both_owned own F.Absent b (F.Is s) is all also = absurd (cc)
 both_owned own (F.Is a) (F.Unknown d) (F.Is s) is all also = absurd (cc)
 both_owned own (F.Is a) F.Absent (F.Is s) is all also = absurd (cc)
+
+-- nothing that is joined to it later counts, where it is no set
+unset_stays : (tree : Term → TypeData) (join : SetData → SetData → SetData) (found : FoundSet) → is_set found ≡ false → (later : Asked (Option SetData)) → asked_joined join (found_as tree found) later ≡ found_as tree found
+unset_stays tree join (F.Is s) off later = absurd (let never : true ≡ false = off in cc)
+unset_stays tree join F.Absent off later = refl
+unset_stays tree join (F.Unknown d) off later = refl
+
+pub elements_unset : (tree : Term → TypeData) (found : FoundSet) → is_set found ≡ false → (later whole : Asked (Option SetData)) → asked_joined both_sets (found_as tree found) later ≡ whole → found_as tree found ≡ whole
+elements_unset tree found off later whole left = sym (unset_stays tree both_sets found off later) ∙ left
+
+pub union_unset : (tree : Term → TypeData) (known : Headers) (opening : TypeData → SetAsked) (found : FoundSet) → is_set found ≡ false → (parts : Parts) (whole : Asked (Option SetData))
+    → union_rest known opening (Some (found_as tree found)) parts ≡ whole → found_as tree found ≡ whole
+union_unset tree known opening found off no_parts whole left = left
+union_unset tree known opening found off (more_parts u us) whole left = sym (unset_stays tree either_set found off (run known (union_set opening (more_parts u us)))) ∙ left
 
 -- what stands at a type
 pub set_of-opening : (n : ℕ) (t : TypeData) → set_of n t ≡ type_set (opening_within n) t
@@ -209,3 +219,10 @@ pub kind_owned : (own : Term → Type 0) (shape : Shape) → AreOwn own shape �
 kind_owned own (S.Basic b) all = basic_own own b
 kind_owned own (S.Interface es) all = all
 kind_owned own shape all = tt
+
+-- a term with `~`
+pub tilde_alone : (opening : TypeData → SetAsked) (t : TypeData) → is_param t ≡ false → Done (Some (term_set true (plain t))) ≡ tilde_set opening (plain t)
+tilde_alone opening (made (param d i) ps) off = absurd (let never : true ≡ false = off in cc)
+tilde_alone opening (made (field f) ps) off = refl
+tilde_alone opening (made (method m) ps) off = refl
+tilde_alone opening (made h ps) off = refl

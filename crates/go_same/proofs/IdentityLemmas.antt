@@ -6,8 +6,8 @@ use Rattle.go_model.specs.Types.Heads.{alike}
 use Rattle.go_model.specs.Types.TypeIdentity.{Test, ask_each, fit, identical, interfaces_in, most_levels, most_opened, same, same_interfaces}
 use Rattle.go_model.specs.Types.TypeSets.{plain}
 use Rattle.go_model.specs.Values.Quests.{Decided, Done, run}
-use Rattle.go_same.proofs.AlikeLemmas.{alike_itself, fit_itself}
 use Rattle.go_same.specs.Laws.{ChainsThrough}
+use Rattle.go_same.proofs.AlikeLemmas.{alike_itself, fit_itself}
 use Rattle.go_same.proofs.ChainLemmas.{same_chain}
 use Rattle.go_same.proofs.EveryLemmas.{every_so}
 use Rattle.go_same.proofs.NormLemmas.{IsTwice, plain_twice, twice_places}
@@ -30,17 +30,18 @@ module _ (headers : Headers) where
   alike_yes false q e = absurd (let wrong : false ≡ true = e in cc wrong)
 
   -- of a type beside itself nothing has to be asked
-  twice_yes : (levels left : ℕ) (p : TypeData × TypeData) → IsTwice p → IsYes headers (same_interfaces (same levels) left p)
+  twice_yes : (levels left : ℕ) (p : TypeData × TypeData) → IsTwice p → IsYes headers (same_interfaces (same levels) left false p)
   twice_yes levels left p e = alike_yes (alike p.0 p.1) _ (subst (λ (w : TypeData). alike p.0 w ≡ true) e (alike_itself p.0))
 
-  same_itself : (levels left : ℕ) (t : TypeData) → IsYes headers (same (suc levels) left t t)
+  same_itself : (levels left : ℕ) (t : TypeData) → IsYes headers (same (suc levels) false left t t)
   same_itself levels left t =
-      let test = same_interfaces (same levels) left in
+      let test = same_interfaces (same levels) left false in
       let each = every_so IsTwice (λ p. IsYes headers (test p)) (twice_yes levels left) (interfaces_in t t) (twice_places t) in
       yes_if headers (fit t t) (ask_each test (interfaces_in t t)) (fit_itself t) (yes_each headers test (interfaces_in t t) each)
 
   pub identical_itself : (t : TypeData) → run headers (identical t t) ≡ Decided true
-  identical_itself t = subst (λ n. IsYes headers (same n most_opened (plain t) (plain t))) (sym some_level.levels) (same_itself some_level.below most_opened (plain t))
+  identical_itself t =
+      subst (λ n. IsYes headers (same n false most_opened (plain t) (plain t))) (sym some_level.levels) (same_itself some_level.below most_opened (plain t))
 
   pub identical_swap : (a b : TypeData) → run headers (identical a b) ≡ Decided true → run headers (identical b a) ≡ Decided true
   identical_swap a b told = same_swap headers most_levels most_opened (plain a) (plain b) told

@@ -1,4 +1,5 @@
 pub mod AlikeLemmas
+pub mod AskLemmas
 pub mod ChainLemmas
 pub mod CollectLemmas
 pub mod DepthLemmas
@@ -14,11 +15,15 @@ pub mod NormLemmas
 pub mod OutlineLemmas
 pub mod PairLemmas
 pub mod RaiseLemmas
+pub mod ReachLemmas
+pub mod SameLemmas
+pub mod SameMethodLemmas
 pub mod SetLemmas
 pub mod ShapeLemmas
 pub mod SortLemmas
 pub mod StepLemmas
 pub mod SwapLemmas
+pub mod TermLemmas
 pub mod UnderLemmas
 pub mod WalkLemmas
 pub mod WithinLemmas

@@ -8,28 +8,12 @@ use Rattle.go_term.specs.declared.basic.Basic.TheVariants as B
 use Rattle.go_term.specs.Types.{Head, basic, function, interface_type, named, param, method, union, union_term, MethodHead, TypeData, Parts, made, no_parts, more_parts}
 use Rattle.go_model.specs.Outcomes.Walk.{Headers}
 use Rattle.go_model.specs.Types.Forms.{found_in}
-use Rattle.go_model.specs.Types.TypeSets.{MethodData, SetAsked, SetData, all_types, basic_set, both_known, both_sets, either_set, element_set, elements_set, is_interface, joined, method_set, named_set, named_set_by, opened_method, opened_set, plain, plain_term_by, set_of, term_set, type_set, union_set, union_term_set}
+use Rattle.go_model.specs.Types.TypeSets.{MethodData, SetAsked, SetData, all_types, basic_set, both_sets, either_set, element_set, elements_set, is_interface, joined, joined_to, method_set, named_set, named_set_by, opened_method, opened_set, plain, plain_term_by, set_of, term_set, tilde_set, type_set, union_set, union_term_set}
 use Rattle.go_model.specs.Types.UnderlyingType.{under}
 use Rattle.go_model.specs.Values.Quests.{Decided, Done, run, then_ask}
 use Rattle.go_same.proofs.EveryLemmas.{every_both}
 use Rattle.go_same.proofs.NormLemmas.{ArePlain, IsPlain, first_plain, parts_plain, plain_twice, rest_plain}
 use Rattle.go_same.proofs.YesLemmas.{hence, thence}
-
--- both are found where their join is
-record BothFound (join : SetData → SetData → SetData) (x y : Option SetData) (s : SetData) : Type 0 where
-  one : SetData
-  other : SetData
-  is_one : x ≡ Some one
-  is_other : y ≡ Some other
-  is : s ≡ join one other
-
-both_found : (join : SetData → SetData → SetData) (x y : Option SetData) (s : SetData) → Decided (both_known join x y) ≡ Decided (Some s) → BothFound join x y s
-both_found join (Some a) (Some b) s e = record { one = a; other = b; is_one = refl; is_other = refl; is = sym (found e) }
-  where
-    found : Decided (Some (join a b)) ≡ Decided (Some s) → join a b ≡ s
-    found e = cc e
-both_found join (Some a) None s e = absurd (let wrong : Decided None ≡ Decided (Some s) = e in cc wrong)
-both_found join None y s e = absurd (let wrong : Decided None ≡ Decided (Some s) = e in cc wrong)
 
 pub decided_is : (a b : SetData) → Decided (Some a) ≡ Decided (Some b) → a ≡ b
 decided_is a b e = cc e
@@ -45,13 +29,34 @@ module _ (headers : Headers) where
   abbrev pub Grows : SetAsked → SetAsked → Type 0
   Grows q r = (s : SetData) → Finds q s → Finds r s
 
+  -- both are found where their join is
+  pub record BothFound (join : SetData → SetData → SetData) (a b : SetAsked) (s : SetData) : Type 0 where
+    pub one : SetData
+    pub other : SetData
+    pub is_one : Finds a one
+    pub is_other : Finds b other
+    pub is : s ≡ join one other
+
+  pub both_found : (join : SetData → SetData → SetData) (a b : SetAsked) (s : SetData) → Finds (joined join a b) s → BothFound join a b s
+  both_found join a b s e =
+      let first = thence headers a (joined_to join b) (Some s) e in
+      first_found first.answer first.first first.second
+    where
+      second_found : (x : SetData) → Finds a x → (o : Option SetData) → run headers b ≡ Decided o → Decided (option_map (join x) o) ≡ Decided (Some s) → BothFound join a b s
+      second_found x one (Some y) other found = record { one = x; other = y; is_one = one; is_other = other; is = sym (decided_is (join x y) s found) }
+      second_found x one None other found = absurd (none_is s found)
+
+      first_found : (o : Option SetData) → run headers a ≡ Decided o → run headers (joined_to join b o) ≡ Decided (Some s) → BothFound join a b s
+      first_found (Some x) one found =
+          let next = thence headers b (λ o. Done (option_map (join x) o)) (Some s) found in
+          second_found x one next.answer next.first next.second
+      first_found None one found = absurd (none_is s found)
+
   joined_grows : (join : SetData → SetData → SetData) (a b c d : SetAsked) → Grows a c → Grows b d → Grows (joined join a b) (joined join c d)
   joined_grows join a b c d first second s e =
-      let one = thence headers a (λ x. then_ask b (λ y. Done (both_known join x y))) (Some s) e in
-      let two = thence headers b (λ y. Done (both_known join one.answer y)) (Some s) one.second in
-      let both = both_found join one.answer two.answer s two.second in
-      hence headers c (λ x. then_ask d (λ y. Done (both_known join x y))) (Some both.one) (Some s) (first both.one (one.first ∙ ap Decided both.is_one))
-      (hence headers d (λ y. Done (both_known join (Some both.one) y)) (Some both.other) (Some s) (second both.other (two.first ∙ ap Decided both.is_other))
+      let both = both_found join a b s e in
+      hence headers c (joined_to join d) (Some both.one) (Some s) (first both.one both.is_one)
+      (hence headers d (λ o. Done (option_map (join both.one) o)) (Some both.other) (Some s) (second both.other both.is_other)
       (λ i. Decided (Some (sym both.is i))))
 
   option_found : (o : Option SetData) (s : SetData) → Decided (option_map opened_set o) ≡ Decided (Some s) → (u : SetData) × ((o ≡ Some u) × (s ≡ opened_set u))
@@ -86,6 +91,10 @@ module _ (headers : Headers) where
     term_grows (param d i) a b t elements = named_grows t
     term_grows head a b t elements = λ s e. e
 
+    tilde_grows : (t : TypeData) → Grows (tilde_set fewer t) (tilde_set more t)
+    tilde_grows (made (param d i) parts) = named_grows (made (param d i) parts)
+    tilde_grows (made head parts) = λ s e. e
+
     mutual
       elements_grow : (ts : Parts) → Grows (elements_set fewer ts) (elements_set more ts)
       elements_grow no_parts = λ s e. e
@@ -103,7 +112,7 @@ module _ (headers : Headers) where
           joined_grows either_set (union_term_set fewer t) (union_set fewer (more_parts u us)) (union_term_set more t) (union_set more (more_parts u us)) (union_term_grows t) (union_grows (more_parts u us))
 
       union_term_grows : (t : TypeData) → Grows (union_term_set fewer t) (union_term_set more t)
-      union_term_grows (made (union_term true) (more_parts t no_parts)) = λ s e. e
+      union_term_grows (made (union_term true) (more_parts t no_parts)) = tilde_grows t
       union_term_grows (made (union_term false) (more_parts t no_parts)) = type_grows t
       union_term_grows (made head parts) = λ s e. e
 
@@ -133,11 +142,8 @@ module _ (headers : Headers) where
   joined_plain : (join : SetData → SetData → SetData) → ((a b : SetData) → HasPlain a.methods → HasPlain b.methods → HasPlain (join a b).methods)
       → (a b : SetAsked) → GivesPlain a → GivesPlain b → GivesPlain (joined join a b)
   joined_plain join keeps a b first second s e =
-      let one = thence headers a (λ x. then_ask b (λ y. Done (both_known join x y))) (Some s) e in
-      let two = thence headers b (λ y. Done (both_known join one.answer y)) (Some s) one.second in
-      let both = both_found join one.answer two.answer s two.second in
-      subst (λ (s : SetData). HasPlain s.methods) (sym both.is)
-      (keeps both.one both.other (first both.one (one.first ∙ ap Decided both.is_one)) (second both.other (two.first ∙ ap Decided both.is_other)))
+      let both = both_found join a b s e in
+      subst (λ (s : SetData). HasPlain s.methods) (sym both.is) (keeps both.one both.other (first both.one both.is_one) (second both.other both.is_other))
 
   both_keeps : (a b : SetData) → HasPlain a.methods → HasPlain b.methods → HasPlain (both_sets a b).methods
   both_keeps a b = every_both (λ (m : MethodData). IsPlain m.type) a.methods b.methods
@@ -182,6 +188,10 @@ module _ (headers : Headers) where
     term_plain (param d i) a t elements = named_plain t
     term_plain head a t elements = given_plain (term_set false t) tt
 
+    tilde_plain : (t : TypeData) → GivesPlain (tilde_set opening t)
+    tilde_plain (made (param d i) parts) = named_plain (made (param d i) parts)
+    tilde_plain (made head parts) = given_plain (term_set true (made head parts)) tt
+
     mutual
       elements_plain : (ts : Parts) → ArePlain ts → GivesPlain (elements_set opening ts)
       elements_plain no_parts e = given_plain all_types tt
@@ -200,7 +210,7 @@ module _ (headers : Headers) where
           (union_term_plain t (first_plain t (more_parts u us) e)) (union_plain (more_parts u us) (rest_plain t (more_parts u us) e))
 
       union_term_plain : (t : TypeData) → IsPlain t → GivesPlain (union_term_set opening t)
-      union_term_plain (made (union_term true) (more_parts t no_parts)) e = given_plain (term_set true t) tt
+      union_term_plain (made (union_term true) (more_parts t no_parts)) e = tilde_plain t
       union_term_plain (made (union_term false) (more_parts t no_parts)) e = type_plain t (first_plain t no_parts (parts_plain (union_term false) (more_parts t no_parts) e))
       union_term_plain (made head parts) e = given_plain all_types tt
 

@@ -14,7 +14,7 @@ use Rattle.go_term.specs.declared.term.Term.{Term}
 use Rattle.go_model.specs.Outcomes.Walk.{Headers}
 use Rattle.go_model.specs.Types.Forms.{underlying_over}
 use Rattle.go_model.specs.Types.Own.{AreOwnFunc, IsOwnElem, KeepsTypes}
-use Rattle.go_model.specs.Types.TypeSets.{SetAsked, SetData, MethodData, TermData, both_sets, either_set, element_set, elements_set, error_set, is_interface, named_set, named_set_by, opened_method, opened_set, opened_term, plain, plain_all, set_of, term_set, union_term_set}
+use Rattle.go_model.specs.Types.TypeSets.{SetAsked, SetData, MethodData, TermData, both_sets, either_set, element_set, elements_set, error_set, is_interface, named_set, named_set_by, opened_method, opened_set, opened_term, plain, plain_all, set_of, term_set, tilde_set, union_term_set}
 use Rattle.go_model.specs.Values.Quests.{Asked, Decided, Done, run}
 use Rattle.go_same.specs.Collect.{IsRaisedFound, asked_after, asked_joined, asked_then, kind_of, kind_set, opening_within}
 use Rattle.go_same.specs.Joins.{IsBoth, IsRaised, raised_method, raised_part}
@@ -55,9 +55,9 @@ term_owned own s tilde t methods unions is = (
   all_items (AllByRecursion (λ p. own p.ty)) s.unions.items (subst (AllByRecursion (AllByRecursion (λ p. own p.ty))) (sym unions) ((is, tt), tt)),
 )
 
-pub tilde_answer : (known : Headers) (opening : TypeData → SetAsked) (tree : Term → TypeData) (u : UnionShape) (s : TypeSet) → u.tilde ≡ true → set_view tree s ≡ term_set true (plain (tree u.ty))
-    → Decided (Some (set_view tree s)) ≡ run known (union_term_set opening (plain (union_tree tree u)))
-tilde_answer known opening tree u s sure e = rw sure (ap (λ x. Decided (Some x)) e)
+-- a term with `~`
+pub tilde_answer : (known : Headers) (opening : TypeData → SetAsked) (tree : Term → TypeData) (u : UnionShape) → u.tilde ≡ true → run known (tilde_set opening (plain (tree u.ty))) ≡ run known (union_term_set opening (plain (union_tree tree u)))
+tilde_answer known opening tree u sure = rw sure refl
 
 pub plain_answer : (known : Headers) (n : ℕ) (tree : Term → TypeData) (u : UnionShape) → u.tilde ≡ false → run known (set_of n (plain (tree u.ty))) ≡ run known (union_term_set (opening_within n) (plain (union_tree tree u)))
 plain_answer known n tree u off = rw off (ap (run known) (set_of-opening n (plain (tree u.ty))))

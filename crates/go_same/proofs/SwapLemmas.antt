@@ -6,9 +6,9 @@ use Rattle.std.proofs.lemmas.Cmp.{nat_list_eq_equiv}
 use Rattle.go_term.specs.Types.{TypeData}
 use Rattle.go_model.specs.Outcomes.Walk.{Headers}
 use Rattle.go_model.specs.Types.Heads.{alike, same_truth}
-use Rattle.go_model.specs.Types.TypeIdentity.{Test, and_ask, ask_each, behind, by_name, fit, has_name, has_names_of, interfaces_in, is_all, method_pairs, same, same_interfaces, same_known, same_methods, same_sets, sets_fit, terms_lie}
+use Rattle.go_model.specs.Types.TypeIdentity.{Test, and_ask, ask_each, behind, by_name, fit, has_name, has_names_of, interfaces_in, is_all, method_pairs, methods_fit, same, same_as, same_as_set, same_interfaces, same_methods, same_methods_all, same_sets, sets_fit, terms_lie}
 use Rattle.go_model.specs.Types.TypeSets.{MethodData, SetData, set_of}
-use Rattle.go_model.specs.Values.Quests.{Done, then_ask}
+use Rattle.go_model.specs.Values.Quests.{Decided, Done, run, then_ask}
 use Rattle.go_same.proofs.AlikeLemmas.{alike_swap, fit_swap, interfaces_swap, swapped, truth_swap}
 use Rattle.go_same.proofs.EveryLemmas.{every_kept, every_of_flat, every_of_map, every_of_names, every_so, every_swap, every_to_flat, every_to_keep, every_to_map, every_to_names}
 use Rattle.go_same.proofs.YesLemmas.{IsYes, both_yes, each_yes, hence, not_no, thence, yes_both, yes_each}
@@ -105,57 +105,90 @@ module _ (headers : Headers) where
       (λ n here. every_so (λ m. named_yes f m n) (named_yes f n) (λ m so named. turn m n (so (name_swap m n ∙ named))) ms here)
       ns all)
 
+  -- WHAT SETS TELL
+
+  module _ (go : Bool → ℕ → TypeData → TypeData → Test) (left : ℕ) where
+    abbrev pub asked_sets : TypeData → TypeData → Test
+    asked_sets a b = then_ask (set_of left a) (same_as go left false b)
+
+    -- both sets are found, and are the same
+    pub record SetsFound (a b : TypeData) : Type 0 where
+      pub one : SetData
+      pub other : SetData
+      pub is_one : run headers (set_of left a) ≡ Decided (Some one)
+      pub is_other : run headers (set_of left b) ≡ Decided (Some other)
+      pub told : IsYes headers (same_sets go left false one other)
+
+    of_second : (a b : TypeData) (s : SetData) (y : Option SetData) → run headers (set_of left a) ≡ Decided (Some s) → run headers (set_of left b) ≡ Decided y → IsYes headers (same_as_set go left false s y) → SetsFound a b
+    of_second a b s (Some t) e f told = record { one = s; other = t; is_one = e; is_other = f; told = told }
+    of_second a b s None e f told = absurd (not_no headers told)
+
+    of_first : (a b : TypeData) (x : Option SetData) → run headers (set_of left a) ≡ Decided x → IsYes headers (same_as go left false b x) → SetsFound a b
+    of_first a b (Some s) e told =
+        let two = thence headers (set_of left b) (same_as_set go left false s) true told in
+        of_second a b s two.answer e two.first two.second
+    of_first a b None e told = absurd (not_no headers told)
+
+    pub of_asked : (a b : TypeData) → IsYes headers (asked_sets a b) → SetsFound a b
+    of_asked a b told =
+        let one = thence headers (set_of left a) (same_as go left false b) true told in
+        of_first a b one.answer one.first one.second
+
+    pub to_asked : (a b : TypeData) → SetsFound a b → IsYes headers (asked_sets a b)
+    to_asked a b found =
+        hence headers (set_of left a) (same_as go left false b) (Some found.one) true found.is_one
+        (hence headers (set_of left b) (same_as_set go left false found.one) (Some found.other) true found.is_other found.told)
+
   -- INTERFACES
 
-  module _ (go : ℕ → TypeData → TypeData → Test) (turn : (left : ℕ) (a b : TypeData) → IsYes headers (go left a b) → IsYes headers (go left b a)) (left : ℕ) where
-    behind_swap : (opened : ℕ) (a b : TypeData) → IsYes headers (behind go left opened a b) → IsYes headers (behind go left opened b a)
+  module _ (go : Bool → ℕ → TypeData → TypeData → Test) (turn : (left : ℕ) (a b : TypeData) → IsYes headers (go false left a b) → IsYes headers (go false left b a)) (left : ℕ) where
+    behind_swap : (opened : ℕ) (a b : TypeData) → IsYes headers (behind go left false opened a b) → IsYes headers (behind go left false opened b a)
     behind_swap opened a b told =
-        let parts = if_yes (nat_le opened left) (go (left - opened) a b) told in
-        yes_if (nat_le opened left) (go (left - opened) b a) parts.0 (turn (left - opened) a b parts.1)
+        let parts = if_yes (nat_le opened left) (go false (left - opened) a b) told in
+        yes_if (nat_le opened left) (go false (left - opened) b a) parts.0 (turn (left - opened) a b parts.1)
 
-    method_swap : (m n : MethodData) → IsYes headers (same_methods go left (m, n)) → IsYes headers (same_methods go left (n, m))
+    method_swap : (m n : MethodData) → IsYes headers (same_methods go left false (m, n)) → IsYes headers (same_methods go left false (n, m))
     method_swap m n told =
         let sum : m.opened + n.opened ≡ n.opened + m.opened = omega arith in
-        subst (λ k. IsYes headers (behind go left k n.type m.type)) sum (behind_swap (m.opened + n.opened) m.type n.type told)
+        subst (λ k. IsYes headers (behind go left false k n.type m.type)) sum (behind_swap (m.opened + n.opened) m.type n.type told)
 
-    same_sets_swap : (s t : SetData) → IsYes headers (same_sets go left s t) → IsYes headers (same_sets go left t s)
+    fits_swap : (m n : MethodData) → IsYes headers (methods_fit go left (m, n)) → IsYes headers (methods_fit go left (n, m))
+    fits_swap m n told = (λ i. Decided (fit_swap n.type m.type i)) ∙ told
+
+    methods_swap : (ms ns : List MethodData) → IsYes headers (same_methods_all go left false (method_pairs ms ns)) → IsYes headers (same_methods_all go left false (method_pairs ns ms))
+    methods_swap ms ns told =
+        let fits = ask_each (methods_fit go left) in
+        let same = ask_each (same_methods go left false) in
+        let both = yes_both headers (fits (method_pairs ms ns)) (same (method_pairs ms ns)) told in
+        both_yes headers (fits (method_pairs ns ms)) (same (method_pairs ns ms)) (pairs_swap (methods_fit go left) fits_swap ms ns both.0) (pairs_swap (same_methods go left false) method_swap ms ns both.1)
+
+    same_sets_swap : (s t : SetData) → IsYes headers (same_sets go left false s t) → IsYes headers (same_sets go left false t s)
     same_sets_swap s t told =
-        let there = terms_lie go left s t in
-        let back = terms_lie go left t s in
-        let methods = ask_each (same_methods go left) (method_pairs s.methods t.methods) in
-        let turned = ask_each (same_methods go left) (method_pairs t.methods s.methods) in
+        let there = terms_lie go left false s t in
+        let back = terms_lie go left false t s in
+        let methods = same_methods_all go left false (method_pairs s.methods t.methods) in
+        let turned = same_methods_all go left false (method_pairs t.methods s.methods) in
         let fits = if_yes (sets_fit s t) (and_ask methods (and_ask there back)) told in
         let both = yes_both headers methods (and_ask there back) fits.1 in
         let terms = yes_both headers there back both.1 in
         yes_if (sets_fit t s) (and_ask turned (and_ask back there)) (sets_swap t s ∙ fits.0)
-        (both_yes headers turned (and_ask back there) (pairs_swap (same_methods go left) method_swap s.methods t.methods both.0) (both_yes headers back there terms.1 terms.0))
+        (both_yes headers turned (and_ask back there) (methods_swap s.methods t.methods both.0) (both_yes headers back there terms.1 terms.0))
 
-    known_swap : (s t : Option SetData) → IsYes headers (same_known go left s t) → IsYes headers (same_known go left t s)
-    known_swap (Some s) (Some t) told = same_sets_swap s t told
-    known_swap (Some s) None told = told
-    known_swap None (Some t) told = told
-    known_swap None None told = told
-
-    abbrev asked_sets : TypeData → TypeData → Test
-    asked_sets a b = then_ask (set_of left a) (λ s. then_ask (set_of left b) (λ t. same_known go left s t))
-
-    asked_swap : (a b : TypeData) → IsYes headers (asked_sets a b) → IsYes headers (asked_sets b a)
+    asked_swap : (a b : TypeData) → IsYes headers (asked_sets go left a b) → IsYes headers (asked_sets go left b a)
     asked_swap a b told =
-        let one = thence headers (set_of left a) (λ s. then_ask (set_of left b) (λ t. same_known go left s t)) true told in
-        let two = thence headers (set_of left b) (λ t. same_known go left one.answer t) true one.second in
-        hence headers (set_of left b) (λ t. then_ask (set_of left a) (λ s. same_known go left t s)) two.answer true two.first
-        (hence headers (set_of left a) (λ s. same_known go left two.answer s) one.answer true one.first (known_swap one.answer two.answer two.second))
+        let found = of_asked go left a b told in
+        to_asked go left b a (record { one = found.other; other = found.one; is_one = found.is_other; is_other = found.is_one; told = same_sets_swap found.one found.other found.told })
 
-    pub interface_swap : (p : TypeData × TypeData) → IsYes headers (same_interfaces go left p) → IsYes headers (same_interfaces go left (swapped p))
+    pub interface_swap : (p : TypeData × TypeData) → IsYes headers (same_interfaces go left false p) → IsYes headers (same_interfaces go left false (swapped p))
     interface_swap p told =
-        yes_or (alike p.1 p.0) (asked_sets p.1 p.0) (λ other. asked_swap p.0 p.1 (or_yes (alike p.0 p.1) (asked_sets p.0 p.1) (alike_swap p.0 p.1 ∙ other) told))
+        yes_or (alike p.1 p.0) (asked_sets go left p.1 p.0) (λ other. asked_swap p.0 p.1 (or_yes (alike p.0 p.1) (asked_sets go left p.0 p.1) (alike_swap p.0 p.1 ∙ other) told))
 
   -- TYPES
 
-  pub same_swap : (levels left : ℕ) (a b : TypeData) → IsYes headers (same levels left a b) → IsYes headers (same levels left b a)
+  pub same_swap : (levels left : ℕ) (a b : TypeData) → IsYes headers (same levels false left a b) → IsYes headers (same levels false left b a)
   same_swap zero left a b told = told
   same_swap (suc levels) left a b told =
-      let test = same_interfaces (same levels) left in
+      let test = same_interfaces (same levels) left false in
       let fits = if_yes (fit a b) (ask_each test (interfaces_in a b)) told in
       let each = swap_each test test swapped (interface_swap (same levels) (same_swap levels) left) (interfaces_in a b) (each_yes headers test (interfaces_in a b) fits.1) in
       let turned = subst (AllByRecursion (λ (p : TypeData × TypeData). IsYes headers (test p))) (sym (interfaces_swap a b)) each in

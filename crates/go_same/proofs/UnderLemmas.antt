@@ -7,7 +7,8 @@ use Rattle.std.specs.Prelude.{unwrap_or, option_and_then}
 use Rattle.go_base.specs.declared.ids.ObjId.{ObjId}
 use Rattle.go_term.specs.Size.{depth, greatest_depth, most_depth, most_nodes, nodes, nodes_of_all, size_fault, weight}
 use Rattle.go_term.specs.Substitution.{argument_for, is_param, put_at, subst as put, subst_all as put_all}
-use Rattle.go_term.specs.Types.{Head, named, param, field, method, TypeData, Parts, made, no_parts, more_parts, list_of}
+use Rattle.go_term.specs.Types.{Head, basic, named, param, field, method, TypeData, Parts, made, no_parts, more_parts, list_of}
+use Rattle.go_term.specs.declared.basic.Basic.TheVariants as B
 use Rattle.go_term.specs.declared.fault.TermFault.{TermFault}
 use Rattle.go_term.specs.declared.fault.TermFault.TheVariants.{Deep, Large}
 use Rattle.go_term.specs.declared.term.Term.{Term}
@@ -15,7 +16,7 @@ use Rattle.go_model.specs.Outcomes.Records.{HeaderData, definition}
 use Rattle.go_model.specs.Outcomes.Walk.{Headers}
 use Rattle.go_model.specs.Types.Forms.{form_as, form_asked, found_in, underlying_over}
 use Rattle.go_model.specs.Types.TypeSets.{SetAsked, is_interface, is_interface_head, named_set, named_set_by, plain, plain_all, without_object}
-use Rattle.go_model.specs.Types.UnderlyingType.{Reach, Reaches, Returns, Exceeds, Reaching, declared_by, most_declarations, on_with, params_from, refers_to, right_side, step_by, under, under_from}
+use Rattle.go_model.specs.Types.UnderlyingType.{Reach, Reaches, Returns, Exceeds, Origin, Reaching, declared_by, literal_of, most_steps, on_with, params_from, refers_to, right_side, same_origin, step_by, under, under_from}
 use Rattle.go_model.specs.Values.Quests.{Asked, Decided, Lacks, Done, Need, run}
 use Rattle.go_model.specs.declared.form.Form.{Form}
 use Rattle.go_model.specs.declared.form.Form.TheVariants as F
@@ -126,6 +127,19 @@ declared-plain (field f) = refl
 declared-plain (method m) = refl
 declared-plain h = refl
 
+literal-plain : (h : Head) (ps : Parts) → plain (literal_of (without_object h) (plain_all ps)) ≡ plain (literal_of h ps)
+literal-plain (basic B.Error) ps = refl
+literal-plain (basic b) ps = plain-twice (made (basic b) ps)
+literal-plain (field f) ps = plain-twice (made (field f) ps)
+literal-plain (method m) ps = plain-twice (made (method m) ps)
+literal-plain h ps = plain-twice (made h ps)
+
+literal-same : (h : Head) (ps : Parts) (h' : Head) (ps' : Parts) → plain (made h ps) ≡ plain (made h' ps') → plain (literal_of h ps) ≡ plain (literal_of h' ps')
+literal-same h ps h' ps' e =
+    let heads : without_object h ≡ without_object h' = cc in
+    let parts : plain_all ps ≡ plain_all ps' = cc in
+    sym (literal-plain h ps) ∙ ap (λ x. plain (literal_of x (plain_all ps))) heads ∙ ap (λ x. plain (literal_of (without_object h') x)) parts ∙ literal-plain h' ps'
+
 -- where chains lead, but for objects
 abbrev pub plain_reach : Reach → Reach
 plain_reach (Reaches t) = Reaches (plain t)
@@ -164,18 +178,18 @@ module _ (known : Headers) where
   path-same true d f g e = refl
   path-same false d f g e = e
 
-  step-same : (go : List ℕ → TypeData → Reaching) → ((path : List ℕ) (x y : TypeData) → plain x ≡ plain y → plain_asked (run known (go path x)) ≡ plain_asked (run known (go path y)))
-      → (path : List ℕ) (h : Head) (ps : Parts) (h' : Head) (ps' : Parts) → plain (made h ps) ≡ plain (made h' ps') → (o : Option ObjId) → plain_asked (run known (step_by go path h ps o)) ≡ plain_asked (run known (step_by go path h' ps' o))
-  step-same go each path h ps h' ps' e None = ap (λ x. Decided (Reaches x)) e
-  step-same go each path h ps h' ps' e (Some d) =
+  step-same : (go : List Origin → TypeData → Reaching) → ((path : List Origin) (x y : TypeData) → plain x ≡ plain y → plain_asked (run known (go path x)) ≡ plain_asked (run known (go path y)))
+      → (path : List Origin) (h : Head) (ps : Parts) (h' : Head) (ps' : Parts) → plain (made h ps) ≡ plain (made h' ps') → (o : Option Origin) → plain_asked (run known (step_by go path h ps o)) ≡ plain_asked (run known (step_by go path h' ps' o))
+  step-same go each path h ps h' ps' e None = ap (λ x. Decided (Reaches x)) (literal-same h ps h' ps' e)
+  step-same go each path h ps h' ps' e (Some o) =
       let heads : without_object h ≡ without_object h' = cc in
       let parts : plain_all ps ≡ plain_all ps' = cc in
-      path-same (list_any (λ e. e == d.0) path) d.0 (λ header. on_with (go (d.0 ∷ path)) (made h ps) (refers_to h ps header)) (λ header. on_with (go (d.0 ∷ path)) (made h' ps') (refers_to h' ps' header))
-      (asked-same (λ header. on_with (go (d.0 ∷ path)) (made h ps) (refers_to h ps header)) (λ header. on_with (go (d.0 ∷ path)) (made h' ps') (refers_to h' ps' header)) d.0
-      (λ header. on-same (go (d.0 ∷ path)) (each (d.0 ∷ path)) (made h ps) (made h' ps') e (refers_to h ps header) (refers_to h' ps' header)
+      path-same (list_any (same_origin o) path) o.0.0 (λ header. on_with (go (o ∷ path)) (made h ps) (refers_to h ps header)) (λ header. on_with (go (o ∷ path)) (made h' ps') (refers_to h' ps' header))
+      (asked-same (λ header. on_with (go (o ∷ path)) (made h ps) (refers_to h ps header)) (λ header. on_with (go (o ∷ path)) (made h' ps') (refers_to h' ps' header)) o.0.0
+      (λ header. on-same (go (o ∷ path)) (each (o ∷ path)) (made h ps) (made h' ps') e (refers_to h ps header) (refers_to h' ps' header)
       (sym (refers-plain h ps header) ∙ ap (λ x. option_map plain (refers_to x (plain_all ps) header)) heads ∙ ap (λ x. option_map plain (refers_to (without_object h') x header)) parts ∙ refers-plain h' ps' header)))
 
-  pub from-same : (n : ℕ) (path : List ℕ) (x y : TypeData) → plain x ≡ plain y → plain_asked (run known (under_from n path x)) ≡ plain_asked (run known (under_from n path y))
+  pub from-same : (n : ℕ) (path : List Origin) (x y : TypeData) → plain x ≡ plain y → plain_asked (run known (under_from n path x)) ≡ plain_asked (run known (under_from n path y))
   from-same zero path x y e = refl
   from-same (suc n) path (made h ps) (made h' ps') e =
       let heads : without_object h ≡ without_object h' = cc in
@@ -184,7 +198,7 @@ module _ (known : Headers) where
       ∙ ap (λ o. plain_asked (run known (step_by (under_from n) path h' ps' o))) asks
 
   pub under-plain : (t : TypeData) → plain_asked (run known (under (plain t))) ≡ plain_asked (run known (under t))
-  under-plain t = from-same most_declarations [] (plain t) t (plain-twice t)
+  under-plain t = from-same most_steps [] (plain t) t (plain-twice t)
 
 interface-head : (h : Head) → is_interface_head (without_object h) ≡ is_interface_head h
 interface-head (field f) = refl
@@ -229,6 +243,11 @@ Fits t = is_interface t ≡ true → size_fault t ≡ None
 abbrev Ends : Asked Reach → Type 0
 Ends asked = (u : TypeData) → asked ≡ Decided (Reaches u) → Fits u
 
+literal-fits : (h : Head) (ps : Parts) → Fits (made h ps) → Fits (literal_of h ps)
+literal-fits (basic B.Error) ps fits = λ _. refl
+literal-fits (basic b) ps fits = fits
+literal-fits h ps fits = fits
+
 module _ (known : Headers) where
   ends-at : (t : TypeData) → Fits t → Ends (Decided (Reaches t))
   ends-at t fits u e = let same : t ≡ u = cc in subst Fits same fits
@@ -250,19 +269,19 @@ module _ (known : Headers) where
       sized-ends None e = each next (λ _. e)
       sized-ends (Some fault) e = ends-exceeds fault
 
-  ends-step : (go : List ℕ → TypeData → Reaching) → ((path : List ℕ) (t : TypeData) → Fits t → Ends (run known (go path t))) → (path : List ℕ) (h : Head) (ps : Parts) → Fits (made h ps) → (o : Option ObjId) → Ends (run known (step_by go path h ps o))
-  ends-step go each path h ps fits None = ends-at (made h ps) fits
-  ends-step go each path h ps fits (Some d) = on-path (list_any (λ e. e == d.0) path)
+  ends-step : (go : List Origin → TypeData → Reaching) → ((path : List Origin) (t : TypeData) → Fits t → Ends (run known (go path t))) → (path : List Origin) (h : Head) (ps : Parts) → Fits (made h ps) → (o : Option Origin) → Ends (run known (step_by go path h ps o))
+  ends-step go each path h ps fits None = ends-at (literal_of h ps) (literal-fits h ps fits)
+  ends-step go each path h ps fits (Some o) = on-path (list_any (same_origin o) path)
     where
-      asked : (o : Option HeaderData) → Ends (elim o as (λ _. Asked Reach) [ None ↦ Lacks d.0 | Some header ↦ run known (on_with (go (d.0 ∷ path)) (made h ps) (refers_to h ps header)) ])
-      asked None = ends-lacks d.0
-      asked (Some header) = ends-on (go (d.0 ∷ path)) (each (d.0 ∷ path)) (made h ps) fits (refers_to h ps header)
+      asked : (told : Option HeaderData) → Ends (elim told as (λ _. Asked Reach) [ None ↦ Lacks o.0.0 | Some header ↦ run known (on_with (go (o ∷ path)) (made h ps) (refers_to h ps header)) ])
+      asked None = ends-lacks o.0.0
+      asked (Some header) = ends-on (go (o ∷ path)) (each (o ∷ path)) (made h ps) fits (refers_to h ps header)
 
-      on-path : (b : Bool) → Ends (run known (if b then Done Returns else Need d.0 (λ header. on_with (go (d.0 ∷ path)) (made h ps) (refers_to h ps header))))
+      on-path : (b : Bool) → Ends (run known (if b then Done Returns else Need o.0.0 (λ header. on_with (go (o ∷ path)) (made h ps) (refers_to h ps header))))
       on-path true = ends-returns
-      on-path false = asked (known d.0)
+      on-path false = asked (known o.0.0)
 
-  pub ends-from : (n : ℕ) (path : List ℕ) (t : TypeData) → Fits t → Ends (run known (under_from n path t))
+  pub ends-from : (n : ℕ) (path : List Origin) (t : TypeData) → Fits t → Ends (run known (under_from n path t))
   ends-from zero path t fits = ends-returns
   ends-from (suc n) path (made h ps) fits = ends-step (under_from n) (ends-from n) path h ps fits (declared_by h)
 
@@ -281,4 +300,4 @@ form-shallow tree known t name (F.Is u) e = λ sure. depth-fits (tree u) (go (ru
     go (Lacks d) is f = absurd (let never : Decided (Some (tree u)) ≡ Lacks d = f in cc)
     go (Decided Returns) is f = absurd (let never : Decided (Some (tree u)) ≡ Decided None = f in cc)
     go (Decided (Exceeds fault)) is f = absurd (let never : Decided (Some (tree u)) ≡ Decided None = f in cc)
-    go (Decided (Reaches v)) is f = let same : v ≡ tree u = cc in subst Fits same (ends-from known most_declarations [] t fits v is)
+    go (Decided (Reaches v)) is f = let same : v ≡ tree u = cc in subst Fits same (ends-from known most_steps [] t fits v is)

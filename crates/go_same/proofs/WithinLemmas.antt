@@ -9,7 +9,7 @@ use Rattle.go_term.specs.declared.basic.Basic.TheVariants as B
 use Rattle.go_term.specs.declared.term.Term.{Term}
 use Rattle.go_model.specs.Outcomes.Walk.{Headers}
 use Rattle.go_model.specs.Types.Forms.{found_in}
-use Rattle.go_model.specs.Types.TypeSets.{MethodData, SetAsked, SetData, TermData, basic_set, both_sets, either_set, either_unions, element_set, elements_set, is_interface, named_set, named_set_by, opened_method, opened_set, opened_term, plain, plain_term_by, set_of, term_set, type_set, union_set, union_term_set}
+use Rattle.go_model.specs.Types.TypeSets.{MethodData, SetAsked, SetData, TermData, basic_set, both_sets, either_set, either_unions, element_set, elements_set, is_interface, named_set, named_set_by, opened_method, opened_set, opened_term, plain, plain_term_by, set_of, term_set, tilde_set, type_set, union_set, union_term_set}
 use Rattle.go_model.specs.Types.UnderlyingType.{Reach, under}
 use Rattle.go_model.specs.Values.Quests.{Asked, Decided, Lacks, Done, run, then_ask}
 use Rattle.go_same.specs.Collect.{IsRaisableFound, asked_joined, asked_then}
@@ -35,8 +35,8 @@ Within n asked = Unit {0}
 
 both-within : (n : ℕ) (x y : Asked (Option SetData)) → Within n x → Within n y → Within n (asked_joined both_sets x y)
 both-within n (Lacks d) y p q = tt
-both-within n (Decided x) (Lacks d) p q = tt
-both-within n (Decided None) (Decided y) p q = tt
+both-within n (Decided None) y p q = tt
+both-within n (Decided (Some a)) (Lacks d) p q = tt
 both-within n (Decided (Some a)) (Decided None) p q = tt
 both-within n (Decided (Some a)) (Decided (Some b)) p q = (all-joined _ a.methods b.methods p.0 q.0, all-joined _ a.unions b.unions p.1 q.1)
 
@@ -52,8 +52,8 @@ unions-within n (u ∷ us) vs p q =
 
 either-within : (n : ℕ) (x y : Asked (Option SetData)) → Within n x → Within n y → Within n (asked_joined either_set x y)
 either-within n (Lacks d) y p q = tt
-either-within n (Decided x) (Lacks d) p q = tt
-either-within n (Decided None) (Decided y) p q = tt
+either-within n (Decided None) y p q = tt
+either-within n (Decided (Some a)) (Lacks d) p q = tt
 either-within n (Decided (Some a)) (Decided None) p q = tt
 either-within n (Decided (Some a)) (Decided (Some b)) p q = (tt, unions-within n a.unions b.unions p.1 q.1)
 
@@ -89,6 +89,10 @@ module _ (known : Headers) (opening : TypeData → SetAsked) (n : ℕ)
   head-within elements p (param d i) t = named-within t
   head-within elements p h t = (tt, ((none n, tt), tt))
 
+  tilde-within : (t : TypeData) → Within n (run known (tilde_set opening t))
+  tilde-within (made (param d i) ps) = named-within (made (param d i) ps)
+  tilde-within (made h ps) = (tt, ((none n, tt), tt))
+
   mutual
     elements-within : (ps : Parts) → Within n (run known (elements_set opening ps))
     elements-within no_parts = (tt, tt)
@@ -105,7 +109,7 @@ module _ (known : Headers) (opening : TypeData → SetAsked) (n : ℕ)
     union-within (more_parts u (more_parts v vs)) = subst (Within n) (sym (run-joined known either_set (union_term_set opening u) (union_set opening (more_parts v vs)))) (either-within n (run known (union_term_set opening u)) (run known (union_set opening (more_parts v vs))) (term-within u) (union-within (more_parts v vs)))
 
     term-within : (t : TypeData) → Within n (run known (union_term_set opening t))
-    term-within (made (union_term true) (more_parts t no_parts)) = (tt, ((none n, tt), tt))
+    term-within (made (union_term true) (more_parts t no_parts)) = tilde-within t
     term-within (made (union_term false) (more_parts t no_parts)) = type-within t
     term-within (made h ps) = (tt, tt)
 

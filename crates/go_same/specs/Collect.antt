@@ -1,16 +1,17 @@
 -- How the set of an interface is collected: from one element or term to the next, by what stands at each type.
 use Rattle.std.specs.Prelude.{◌≡◌, ◌≤◌, ℕ, zero, suc, Bool, true, false, Option, None, Some, map}
 use Rattle.std.specs.List.{AllByRecursion}
+use Rattle.std.specs.Option.{option_map}
 use Rattle.go_term.specs.Shapes.{elem_tree}
 use Rattle.go_term.specs.Size.{depth, most_depth}
-use Rattle.go_term.specs.Types.{TypeData, interface_type, of_list, parts_of}
+use Rattle.go_term.specs.Types.{Head, TypeData, interface_type, made, of_list, param, parts_of}
 use Rattle.go_term.specs.declared.basic.Basic.{Basic}
 use Rattle.go_term.specs.declared.basic.Basic.TheVariants as B
 use Rattle.go_term.specs.declared.shape.Shape.{Shape}
 use Rattle.go_term.specs.declared.shape.Shape.TheVariants as S
 use Rattle.go_term.specs.declared.term.Term.{Term}
 use Rattle.go_model.specs.Types.Own.{IsOwnElem}
-use Rattle.go_model.specs.Types.TypeSets.{SetAsked, SetData, all_types, both_known, elements_set, error_set, is_interface, named_set, plain_all, set_of, term_set}
+use Rattle.go_model.specs.Types.TypeSets.{SetAsked, SetData, all_types, elements_set, error_set, is_interface, named_set, plain_all, set_of, term_set}
 use Rattle.go_model.specs.Values.Quests.{Asked, Decided, Lacks, Done}
 use Rattle.go_model.specs.declared.form.Form.{Form}
 use Rattle.go_model.specs.declared.form.Form.TheVariants as F
@@ -25,9 +26,13 @@ abbrev pub asked_then : {A B : Type 0} → Asked A → (A → Asked B) → Asked
 asked_then (Decided a) next = next a
 asked_then (Lacks d) next = Lacks d
 
--- what was asked of two sets, joined
+-- what was asked of two sets, joined: the second counts where there is a first
+abbrev pub asked_joined_to : (SetData → SetData → SetData) → Asked (Option SetData) → Option SetData → Asked (Option SetData)
+asked_joined_to join b None = Decided None
+asked_joined_to join b (Some x) = asked_then b (λ o. Decided (option_map (join x) o))
+
 abbrev pub asked_joined : (SetData → SetData → SetData) → Asked (Option SetData) → Asked (Option SetData) → Asked (Option SetData)
-asked_joined join a b = asked_then a (λ x. asked_then b (λ y. Decided (both_known join x y)))
+asked_joined join a b = asked_then a (asked_joined_to join b)
 
 -- the same, where there may be no first one
 abbrev pub asked_after : (SetData → SetData → SetData) → Option (Asked (Option SetData)) → Asked (Option SetData) → Asked (Option SetData)
@@ -68,6 +73,18 @@ kind_set opening tree t K.Other = Done (Some (term_set false t))
 abbrev pub HasElements : (Term → TypeData) → TypeData → TypeKind → Type 0
 HasElements tree t (K.Literal elems) = t ≡ of_list interface_type (map (elem_tree tree) elems.items)
 HasElements tree t kind = Unit {0}
+
+abbrev pub is_param_head : Head → Bool
+is_param_head (param d i) = true
+is_param_head head = false
+
+-- a type parameter
+abbrev pub is_param : TypeData → Bool
+is_param (made head parts) = is_param_head head
+
+abbrev pub is_param_shape : Shape → Bool
+is_param_shape (S.Param d i) = true
+is_param_shape shape = false
 
 -- that stands at the type
 pub record IsKindOf (tree : Term → TypeData) (t : TypeData) (kind : TypeKind) : Type 0 where

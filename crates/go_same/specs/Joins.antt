@@ -13,13 +13,13 @@ pub record IsBothSets (a b s : TypeSet) : Type 0 where
   pub unions : s.unions.items ≡ a.unions.items ++ b.unions.items
   pub comparable : s.comparable ≡ (a.comparable || b.comparable)
 
--- the first header that is lacking; else nothing where one of the two is nothing
+-- the first where it is no set, else the second where that is none
 abbrev pub IsBoth : FoundSet → FoundSet → FoundSet → Type 0
 IsBoth (F.Unknown d) b found = found ≡ F.Unknown d
-IsBoth a (F.Unknown d) found = found ≡ F.Unknown d
+IsBoth F.Absent b found = found ≡ F.Absent
 IsBoth (F.Is a) (F.Is b) (F.Is s) = IsBothSets a b s
 IsBoth (F.Is a) (F.Is b) found = ⊥
-IsBoth a b found = found ≡ F.Absent
+IsBoth (F.Is a) b found = found ≡ b
 
 -- one name more was opened on the way
 abbrev pub raised_method : Method → Method

@@ -1,7 +1,7 @@
 -- Laws of type identity.
 -- Says which types have no unions: no interface in them, however many names are opened, has a union that leaves a type out, nor
 -- has one in the types of its methods; and that identity chains through such a type.
-use Rattle.std.specs.Prelude.{◌≡◌, ℕ, zero, suc, ◌+◌, true, Some}
+use Rattle.std.specs.Prelude.{◌≡◌, ℕ, zero, suc, ◌+◌, true, false, Some}
 use Rattle.std.specs.List.{AllByRecursion}
 use Rattle.go_term.specs.Types.{TypeData}
 use Rattle.go_model.specs.Outcomes.Walk.{Headers}
@@ -22,4 +22,4 @@ module _ (headers : Headers) where
   abbrev pub ChainsThrough : TypeData → TypeData → TypeData → Type 0
   ChainsThrough a b c =
       HasNoUnions most_levels (plain b) → run headers (identical a b) ≡ Decided true → run headers (identical b c) ≡ Decided true
-      → run headers (same most_levels (most_opened + most_opened) (plain a) (plain c)) ≡ Decided true
+      → run headers (same most_levels false (most_opened + most_opened) (plain a) (plain c)) ≡ Decided true

@@ -1,3 +1,4 @@
+pub mod Bounded
 pub mod Collect
 pub mod Joins
 pub mod Laws

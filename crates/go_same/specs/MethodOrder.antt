@@ -67,3 +67,7 @@ module _ (tree : Term → TypeData) where
   -- what the methods at two places stand for
   abbrev pub pair_at : List Method → List Method → Method → ℕ × ℕ → MethodData × MethodData
   pair_at ms ns other p = (method_view tree (slice_index_or ms p.0 other), method_view tree (slice_index_or ns p.1 other))
+
+-- the same of lists of what methods stand for; a place that is in range needs no other
+abbrev pub views_at : List MethodData → List MethodData → MethodData → ℕ × ℕ → MethodData × MethodData
+views_at ms ns other p = (slice_index_or ms p.0 other, slice_index_or ns p.1 other)

@@ -1,5 +1,5 @@
 -- What the type sets of the program stand for, where types stand for these trees.
-use Rattle.std.specs.Prelude.{Option, None, Some, map}
+use Rattle.std.specs.Prelude.{Bool, true, false, Option, None, Some, map}
 use Rattle.std.specs.List.{AllByRecursion}
 use Rattle.go_term.specs.Shapes.{func_parts}
 use Rattle.go_term.specs.Types.{TypeData, function, made}
@@ -32,6 +32,10 @@ module _ (tree : Term → TypeData) where
   found_as (F.Is s) = Decided (Some (set_view s))
   found_as F.Absent = Decided None
   found_as (F.Unknown d) = Lacks d.0
+
+abbrev pub is_set : FoundSet → Bool
+is_set (F.Is s) = true
+is_set found = false
 
 module _ (own : Term → Type 0) where
   -- the types of a set are these

@@ -3,23 +3,23 @@
 ghost use Rattle.std.specs.Prelude.{◌≡◌, ◌∷◌, [], true, false, Option, None, Some, IfOk, IfSome, map};
 ghost use Rattle.std.specs.List.{AllByRecursion};
 ghost use Rattle.std.specs.Option.{option_map};
-ghost use Rattle.go_term.specs.Shapes.{elem_tree, union_tree};
+ghost use Rattle.go_term.specs.Shapes.{elem_tree, shape_tree, union_tree};
 ghost use Rattle.go_term.specs.Types.{parts_of};
 ghost use Rattle.go_model.specs.Types.Forms.{IsOwnForm, form_as};
-ghost use Rattle.go_model.specs.Types.Own.{IsOwnElem, Keeps};
+ghost use Rattle.go_model.specs.Types.Own.{AreOwn, IsOwnElem, Keeps};
 ghost use Rattle.go_model.specs.Types.TypeSets as sets;
 ghost use Rattle.go_model.specs.Values.Quests.{run};
 ghost use Rattle.go_same.specs.Collect as spec;
 ghost use Rattle.go_same.specs.Sets.{IsOwnFound, found_as};
 
-use crate::either::join_either;
+use crate::either::{join_either, type_of_shape};
 use crate::join::{join_both, raised};
-use crate::kind::{TypeKind, is_interface, kind_of};
-use crate::set::FoundSet;
+use crate::kind::{TypeKind, is_interface, is_param, kind_of};
+use crate::set::{FoundSet, is_set};
 use crate::terms::{error_types, every_comparable, every_type, one_method, one_term};
 use go_base::NoMemory;
 use go_model::{Form, Forms};
-use go_term::{ElemShape, Ty, UnionShape};
+use go_term::{ElemShape, Shape, Ty, UnionShape};
 use std::alloc::Global;
 
 /// What an interface has, where at most so many names are opened on the way to each method and term: Absent where that
@@ -74,6 +74,26 @@ fn set_of_kind<J: Forms>(
     }
 }
 
+/// What the interface with this layer has.
+pub(crate) fn set_of_layer<J: Forms>(
+    alloc: Global,
+    judge: &mut J,
+    left: u32,
+    shape: Shape,
+) -> Result<FoundSet, NoMemory>
+    requires { AreOwn (J.is_type judge.old) shape }
+    ensures answer { IfOk result (λ found. found_as (J.tree judge.new) found
+        ≡ run (J.headers judge.old) (sets.set_of left (sets.plain (shape_tree (J.tree judge.old) shape)))) }
+    ensures own { IfOk result (IsOwnFound (J.is_type judge.new)) }
+    ensures keeps { Keeps (J.headers judge.old) (J.headers judge.new) (J.names judge.old) (J.names judge.new)
+        (J.outcomes judge.old) (J.outcomes judge.new) (J.is_spent judge.old) (J.is_spent judge.new)
+        (J.world judge.old) (J.world judge.new) (J.is_type judge.old) (J.is_type judge.new)
+        (J.tree judge.old) (J.tree judge.new) }
+{
+    let t = type_of_shape(alloc, judge, shape)?;
+    set_of(alloc, judge, left, t)
+}
+
 // The elements of an interface, all together.
 #[cycle(collect)]
 fn elements_set<J: Forms>(
@@ -96,6 +116,9 @@ fn elements_set<J: Forms>(
     for e in elems {
         let one = element_set(alloc, judge, left, e)?;
         all = join_both(all, one)?;
+        if !is_set(&all) {
+            return Ok(all);
+        }
     }
     Ok(all)
 }
@@ -146,6 +169,9 @@ fn union_set<J: Forms>(
     let mut all = None;
     for u in terms {
         let more = with_term(alloc, judge, left, all, u)?;
+        if !is_set(&more) {
+            return Ok(more);
+        }
         all = Some(more);
     }
     match all {
@@ -220,9 +246,50 @@ fn term_set<J: Forms>(
         (J.tree judge.old) (J.tree judge.new) }
 {
     if term.tilde {
-        Ok(FoundSet::Is(one_term(alloc, true, term.ty)?))
+        tilde_set(alloc, judge, left, term.ty)
     } else {
         set_of(alloc, judge, left, term.ty)
+    }
+}
+
+// The type of a term with `~`; a type parameter counts as its constraint.
+#[cycle(collect)]
+fn tilde_set<J: Forms>(alloc: Global, judge: &mut J, left: u32, t: Ty) -> Result<FoundSet, NoMemory>
+    requires { J.is_type judge.old t }
+    ensures answer { IfOk result (λ found. found_as (J.tree judge.new) found
+        ≡ run (J.headers judge.old) (sets.tilde_set (spec.opening_within left) (sets.plain (J.tree judge.old t)))) }
+    ensures own { IfOk result (IsOwnFound (J.is_type judge.new)) }
+    ensures keeps { Keeps (J.headers judge.old) (J.headers judge.new) (J.names judge.old) (J.names judge.new)
+        (J.outcomes judge.old) (J.outcomes judge.new) (J.is_spent judge.old) (J.is_spent judge.new)
+        (J.world judge.old) (J.world judge.new) (J.is_type judge.old) (J.is_type judge.new)
+        (J.tree judge.old) (J.tree judge.new) }
+{
+    let shape = judge.see(alloc, &t)?;
+    tilde_set_by(alloc, judge, left, t, is_param(&shape))
+}
+
+#[cycle(collect)]
+fn tilde_set_by<J: Forms>(
+    alloc: Global,
+    judge: &mut J,
+    left: u32,
+    t: Ty,
+    param: bool,
+) -> Result<FoundSet, NoMemory>
+    requires own { J.is_type judge.old t }
+    requires kind { spec.is_param (J.tree judge.old t) ≡ param }
+    ensures answer { IfOk result (λ found. found_as (J.tree judge.new) found
+        ≡ run (J.headers judge.old) (sets.tilde_set (spec.opening_within left) (sets.plain (J.tree judge.old t)))) }
+    ensures own { IfOk result (IsOwnFound (J.is_type judge.new)) }
+    ensures keeps { Keeps (J.headers judge.old) (J.headers judge.new) (J.names judge.old) (J.names judge.new)
+        (J.outcomes judge.old) (J.outcomes judge.new) (J.is_spent judge.old) (J.is_spent judge.new)
+        (J.world judge.old) (J.world judge.new) (J.is_type judge.old) (J.is_type judge.new)
+        (J.tree judge.old) (J.tree judge.new) }
+{
+    if param {
+        named_set(alloc, judge, left, t)
+    } else {
+        Ok(FoundSet::Is(one_term(alloc, true, t)?))
     }
 }
 

@@ -13,8 +13,12 @@ use go_model::Forms;
 use go_term::{Shape, Ty};
 use std::alloc::Global;
 
-// The type of this form. An error is want of memory, or that the type is too deep or too large to be made.
-fn type_of_shape<J: Forms>(alloc: Global, judge: &mut J, shape: Shape) -> Result<Ty, NoMemory>
+/// The type of this form. An error is want of memory, or that the type is too deep or too large to be made.
+pub(crate) fn type_of_shape<J: Forms>(
+    alloc: Global,
+    judge: &mut J,
+    shape: Shape,
+) -> Result<Ty, NoMemory>
     requires { AreOwn (J.is_type judge.old) shape }
     ensures same { IfOk result (λ t. J.tree judge.new t ≡ shape_tree (J.tree judge.old) shape) }
     ensures own { IfOk result (J.is_type judge.new) }
@@ -213,8 +217,8 @@ fn either_sets<J: Forms>(
     })
 }
 
-/// The one or the other of what is found, as far as unions may have it: the first header that is lacking; else Absent
-/// where one of them is.
+/// The one or the other of what is found, as far as unions may have it: the first where it is no set, else the second
+/// where that is none.
 pub(crate) fn join_either<J: Forms>(
     alloc: Global,
     judge: &mut J,
@@ -233,11 +237,7 @@ pub(crate) fn join_either<J: Forms>(
 {
     match a {
         FoundSet::Unknown(d) => Ok(FoundSet::Unknown(d)),
-        FoundSet::Absent => match b {
-            FoundSet::Unknown(d) => Ok(FoundSet::Unknown(d)),
-            FoundSet::Is(_) => Ok(FoundSet::Absent),
-            FoundSet::Absent => Ok(FoundSet::Absent),
-        },
+        FoundSet::Absent => Ok(FoundSet::Absent),
         FoundSet::Is(x) => match b {
             FoundSet::Unknown(d) => Ok(FoundSet::Unknown(d)),
             FoundSet::Is(y) => Ok(FoundSet::Is(either_sets(alloc, judge, x, y)?)),

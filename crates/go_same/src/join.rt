@@ -23,18 +23,14 @@ pub(crate) fn both_sets(a: TypeSet, b: TypeSet) -> Result<TypeSet, NoMemory>
     })
 }
 
-/// The same of what is found: the first header that is lacking; else Absent where one of them is. An error is want of
+/// The same of what is found: the first where it is no set, else the second where that is none. An error is want of
 /// memory.
 pub(crate) fn join_both(a: FoundSet, b: FoundSet) -> Result<FoundSet, NoMemory>
     ensures { IfOk result (IsBoth a b) }
 {
     match a {
         FoundSet::Unknown(d) => Ok(FoundSet::Unknown(d)),
-        FoundSet::Absent => match b {
-            FoundSet::Unknown(d) => Ok(FoundSet::Unknown(d)),
-            FoundSet::Is(_) => Ok(FoundSet::Absent),
-            FoundSet::Absent => Ok(FoundSet::Absent),
-        },
+        FoundSet::Absent => Ok(FoundSet::Absent),
         FoundSet::Is(x) => match b {
             FoundSet::Unknown(d) => Ok(FoundSet::Unknown(d)),
             FoundSet::Is(y) => Ok(FoundSet::Is(both_sets(x, y)?)),

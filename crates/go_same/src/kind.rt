@@ -57,3 +57,10 @@ pub(crate) fn is_interface(shape: Shape) -> bool
         TypeKind::Other => false,
     }
 }
+
+/// Whether the type of this form is a type parameter.
+pub(crate) fn is_param(shape: &Shape) -> bool
+    ensures { result ≡ spec.is_param_shape shape.now }
+{
+    matches!(shape, Shape::Param(_, _))
+}

@@ -23,6 +23,13 @@ mod methods;
 mod set;
 mod terms;
 
+// Type identity.
+mod bounds;
+mod identity;
+mod short;
+mod within;
+
+pub use identity::same;
 pub use laws::{
     identity_chains_without_unions, identity_is_decided_once, identity_is_reflexive,
     identity_is_symmetric, identity_stays,

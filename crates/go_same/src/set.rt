@@ -1,4 +1,7 @@
 // What an interface has, with all that it embeds (Go specification, "Interface types").
+ghost use Rattle.std.specs.Prelude.{◌≡◌};
+ghost use Rattle.go_same.specs.Sets as spec;
+
 use go_base::Name;
 use go_module::ObjId;
 use go_term::{FuncShape, Ty};
@@ -36,4 +39,14 @@ pub(crate) enum FoundSet {
     Is(TypeSet),
     Absent,
     Unknown(ObjId),
+}
+
+/// Whether it is a set.
+pub(crate) fn is_set(found: &FoundSet) -> bool
+    ensures { result ≡ spec.is_set found.now }
+{
+    match found {
+        FoundSet::Is(_) => true,
+        _ => false,
+    }
 }

@@ -4,7 +4,7 @@ use Rattle.std.specs.Vec.Iter.{into_iter_items, into_iter_len}
 use Rattle.go_model.specs.Types.TypeSets as sets
 use Rattle.go_model.specs.Values.Quests.{Decided, run}
 use Rattle.go_same.specs.Collect.{kind_set, opening_within}
-use Rattle.go_same.proofs.CollectLemmas.{both_owned}
+use Rattle.go_same.proofs.CollectLemmas.{both_owned, elements_unset, tilde_alone, union_unset}
 use Rattle.go_same.proofs.KeepLemmas.{found_types, keeps_then}
 use Rattle.go_same.proofs.StepLemmas.{after_moved, closed_answer, elem_here, elem_shallow, elems_end, elems_left, elems_shallow, elems_step, kind_moved, named_moved, opened_answer, plain_answer, raised_owned, raised_viewed, some_types, term_owned, term_viewed, terms_left, terms_shallow, terms_step, tilde_answer}
 use Rattle.go_same.proofs.UnderLemmas.{form-shallow}
@@ -28,6 +28,13 @@ elements_set-loop-e-preserved g t c =
       own_all = both_owned (g.J.Ask.is_type c.element_set.new.judge) c.loop-e.all c.in_ok-one.one c.in_ok-all.all c.in_ok-all.ensures (found_types here.kept c.loop-e.all inv.own_all) c.in_ok-one.ensures.own;
       left = elems_step inv.keeps.kept _ _ c.in-Some.e c.in-Some.ensures.steps.0 inv.own_left here.kept (g.J.Ask.headers c.args.judge.now) (g.J.Ask.headers c.loop-e.judge) inv.keeps.same (opening_within c.args.left) c.loop-e.all c.in_ok-one.one c.in_ok-all.all c.in_ok-all.ensures inv.own_all c.in_ok-one.ensures.answer _ inv.left;
     }
+
+pub elements_set-returns-then-not-is_set-clause-answer : goal.elements_set-returns-then-not-is_set-clause-answer
+elements_set-returns-then-not-is_set-clause-answer g t c =
+    let inv = c.loop-e.invariant in
+    let here = c.in_ok-one.ensures.keeps in
+    elements_unset (g.J.Ask.tree c.element_set.new.judge) c.in_ok-all.all (sym c.is_set.ensures ∙ c.if-not-is_set.true) _ _
+    (elems_step inv.keeps.kept _ _ c.in-Some.e c.in-Some.ensures.steps.0 inv.own_left here.kept (g.J.Ask.headers c.args.judge.now) (g.J.Ask.headers c.loop-e.judge) inv.keeps.same (opening_within c.args.left) c.loop-e.all c.in_ok-one.one c.in_ok-all.all c.in_ok-all.ensures inv.own_all c.in_ok-one.ensures.answer _ inv.left)
 
 pub elements_set-returns-clause-answer : goal.elements_set-returns-clause-answer
 elements_set-returns-clause-answer g t c =
@@ -96,18 +103,24 @@ set_by_kind-returns-clause-answer g t c =
 pub set_by_kind-returns-clause-own : goal.set_by_kind-returns-clause-own
 set_by_kind-returns-clause-own g t c = raised_owned (g.J.Ask.is_type c.set_of.new.judge) c.in_ok-found.found c.raised_found.result c.raised_found.ensures c.in_ok-found.ensures.own
 
-pub term_set-returns-in_ok-one_term-clause-answer : goal.term_set-returns-in_ok-one_term-clause-answer
-term_set-returns-in_ok-one_term-clause-answer g t c =
-    tilde_answer (g.J.Ask.headers c.args.judge.now) (opening_within c.args.left) (g.J.Ask.tree c.args.judge.now) c.args.term c.in_ok-one_term.field-0 c.if-term.true
-    (term_viewed (g.J.Ask.tree c.args.judge.now) c.in_ok-one_term.field-0 true c.args.term.ty c.in_ok-one_term.ensures.methods c.in_ok-one_term.ensures.unions c.in_ok-one_term.ensures.comparable)
-
-pub term_set-returns-in_ok-one_term-clause-own : goal.term_set-returns-in_ok-one_term-clause-own
-term_set-returns-in_ok-one_term-clause-own g t c =
-    term_owned (g.J.Ask.is_type c.args.judge.now) c.in_ok-one_term.field-0 true c.args.term.ty c.in_ok-one_term.ensures.methods c.in_ok-one_term.ensures.unions c.requires
+pub term_set-returns-then-term-clause-answer : goal.term_set-returns-then-term-clause-answer
+term_set-returns-then-term-clause-answer g t c =
+    IfOk-weaker c.tilde_set.result _ _ (λ found h. h ∙ tilde_answer (g.J.Ask.headers c.args.judge.now) (opening_within c.args.left) (g.J.Ask.tree c.args.judge.now) c.args.term c.if-term.true) c.tilde_set.ensures.answer
 
 pub term_set-returns-else-term-clause-answer : goal.term_set-returns-else-term-clause-answer
 term_set-returns-else-term-clause-answer g t c =
     IfOk-weaker c.set_of.result _ _ (λ found h. h ∙ plain_answer (g.J.Ask.headers c.args.judge.now) c.args.left (g.J.Ask.tree c.args.judge.now) c.args.term c.if-term.false) c.set_of.ensures.answer
+
+pub tilde_set_by-returns-in_ok-one_term-clause-answer : goal.tilde_set_by-returns-in_ok-one_term-clause-answer
+tilde_set_by-returns-in_ok-one_term-clause-answer g t c =
+    let made = c.in_ok-one_term in
+    ap (λ s. Decided (Some s)) (term_viewed (g.J.Ask.tree c.args.judge.now) made.field-0 true c.args.t made.ensures.methods made.ensures.unions made.ensures.comparable)
+    ∙ ap (run (g.J.Ask.headers c.args.judge.now)) (tilde_alone (opening_within c.args.left) (g.J.Ask.tree c.args.judge.now c.args.t) (c.requires.kind ∙ c.if-param.false))
+
+pub tilde_set_by-returns-in_ok-one_term-clause-own : goal.tilde_set_by-returns-in_ok-one_term-clause-own
+tilde_set_by-returns-in_ok-one_term-clause-own g t c =
+    let made = c.in_ok-one_term in
+    term_owned (g.J.Ask.is_type c.args.judge.now) made.field-0 true c.args.t made.ensures.methods made.ensures.unions c.requires.own
 
 pub union_set-loop-u-preserved : goal.union_set-loop-u-preserved
 union_set-loop-u-preserved g t c =
@@ -120,6 +133,12 @@ union_set-loop-u-preserved g t c =
       own_all = c.in_ok-more.ensures.own;
       left = terms_step inv.keeps.kept _ _ c.in-Some.u c.in-Some.ensures.steps.0 inv.own_left (g.J.Ask.headers c.args.judge.now) (g.J.Ask.headers c.loop-u.judge) inv.keeps.same (opening_within c.args.left) _ _ c.in_ok-more.ensures.answer _ inv.left;
     }
+
+pub union_set-returns-then-not-is_set-clause-answer : goal.union_set-returns-then-not-is_set-clause-answer
+union_set-returns-then-not-is_set-clause-answer g t c =
+    let inv = c.loop-u.invariant in
+    union_unset (g.J.Ask.tree c.with_term.new.judge) (g.J.Ask.headers c.args.judge.now) (opening_within c.args.left) c.in_ok-more.more (sym c.is_set.ensures ∙ c.if-not-is_set.true) _ _
+    (terms_step inv.keeps.kept _ _ c.in-Some.u c.in-Some.ensures.steps.0 inv.own_left (g.J.Ask.headers c.args.judge.now) (g.J.Ask.headers c.loop-u.judge) inv.keeps.same (opening_within c.args.left) _ _ c.in_ok-more.ensures.answer _ inv.left)
 
 pub with_term-joined_after-requires-clause-own_before : goal.with_term-joined_after-requires-clause-own_before
 with_term-joined_after-requires-clause-own_before g t c = some_types c.in_ok-one.ensures.keeps.kept c.args.before c.requires.own_before

@@ -36,6 +36,12 @@ decreases-with_term g l = 10 * (257 * l.left + depth (union_tree (g.J.Ask.tree l
 abbrev pub decreases-term_set : goal.decreases-term_set
 decreases-term_set g l = 10 * (257 * l.left + depth (union_tree (g.J.Ask.tree l.judge.now) l.term)) + 5
 
+abbrev pub decreases-tilde_set : goal.decreases-tilde_set
+decreases-tilde_set g l = 10 * (257 * l.left) + 4
+
+abbrev pub decreases-tilde_set_by : goal.decreases-tilde_set_by
+decreases-tilde_set_by g l = 10 * (257 * l.left) + 3
+
 abbrev pub decreases-named_set : goal.decreases-named_set
 decreases-named_set g l = 10 * (257 * l.left) + 2
 
