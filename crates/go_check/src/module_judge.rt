@@ -6,8 +6,9 @@ ghost use Rattle.go_term.specs.View.{type_of};
 ghost use Rattle.go_check.specs.Packages.Book.{Standing, book_names, standing_of};
 
 use go_base::NoMemory;
-use go_model::{Ask, Finds, Form, Forms, Header, Headers, Judge, Same, Sets};
+use go_model::{Answer, Ask, Finds, Form, Forms, Header, Headers, Judge, Same, Sets};
 use go_module::{Module, ObjId, Object, Scopes};
+use go_same::same;
 use go_subst::{subst, underlying_type};
 use go_term::{Shape, TermFault, Ty};
 use go_tree::NodeId;
@@ -82,7 +83,11 @@ impl Forms for ModuleJudge<'_> {
     }
 }
 
-impl Same for ModuleJudge<'_> {}
+impl Same for ModuleJudge<'_> {
+    fn identical(&mut self, alloc: Global, a: &Ty, b: &Ty) -> Result<Answer, NoMemory> {
+        same(alloc, self, a, b)
+    }
+}
 
 impl Finds for ModuleJudge<'_> {}
 

@@ -12,7 +12,7 @@ use crate::module_judge::ModuleJudge;
 use go_base::NoMemory;
 use go_expr::Walker;
 use go_model::{
-    Ask, ExprWalk, Finds, Form, Forms, Header, Headers, Judge, Outcome, Rules, Same, Sets,
+    Answer, Ask, ExprWalk, Finds, Form, Forms, Header, Headers, Judge, Outcome, Rules, Same, Sets,
 };
 use go_module::{Module, ObjId, Object, Scopes};
 use go_term::{Shape, TermFault, Ty};
@@ -131,7 +131,14 @@ impl Forms for Rulebook<'_> {
     }
 }
 
-impl Same for Rulebook<'_> {}
+impl Same for Rulebook<'_> {
+    fn identical(&mut self, alloc: Global, a: &Ty, b: &Ty) -> Result<Answer, NoMemory> {
+        if self.is_spent {
+            return Err(NoMemory);
+        }
+        self.judge.identical(alloc, a, b)
+    }
+}
 
 impl Finds for Rulebook<'_> {}
 
