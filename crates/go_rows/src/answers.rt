@@ -16,6 +16,7 @@ use crate::quoted::{quoted, unquoted};
 use crate::reports::{report, status_and_text};
 use crate::row::RowFault;
 use crate::tokens::{scan_fault, token_lines, value_line};
+use crate::types::types_answer;
 use go_base::Word;
 use std::alloc::Global;
 
@@ -146,27 +147,33 @@ fn answer_of(
     let (text, found) = match (given, wanted.asked) {
         (_, Asked::Fronts) => fronts(alloc, wanted.line, given, case)?,
         (Given::Text, _) => scanned(alloc, case, wanted)?,
-        (Given::Piece(reading), Asked::Height) => {
-            let text = with_offsets(alloc, wanted.line, &wanted.text, &case.marks, 0)?;
-            let found = height_answer(alloc, wanted.line, reading, &case.text, &text)?;
-            (text, found)
-        }
-        (Given::Piece(reading), asked) => {
-            let text = with_offsets(alloc, wanted.line, &wanted.text, &case.marks, 0)?;
-            let found = piece_answer(alloc, reading, &case.text, asked)?;
-            (text, known(wanted, found)?)
-        }
-        (_, asked) => {
-            let text = with_offsets(alloc, wanted.line, &wanted.text, &case.marks, 0)?;
-            let found = file_answer(alloc, given, &case.text, asked)?;
-            (text, known(wanted, found)?)
-        }
+        _ => read(alloc, given, case, wanted)?,
     };
     Ok(Answer {
         line: wanted.line,
         wanted: text,
         found,
     })
+}
+
+// What is wanted of a parser or of the rulebook, and what it answers.
+fn read(
+    alloc: Global,
+    given: Given,
+    case: &Case,
+    wanted: &Wanted,
+) -> Result<(Vec<u8>, Vec<u8>), RowFault> {
+    let line = wanted.line;
+    let text = with_offsets(alloc, line, &wanted.text, &case.marks, 0)?;
+    let found = match (given, wanted.asked) {
+        (Given::Piece(reading), Asked::Height) => {
+            Some(height_answer(alloc, line, reading, &case.text, &text)?)
+        }
+        (Given::Piece(reading), asked) => piece_answer(alloc, reading, &case.text, asked)?,
+        (Given::Types, asked) => types_answer(alloc, line, &case.text, asked, &text)?,
+        (_, asked) => file_answer(alloc, given, &case.text, asked)?,
+    };
+    Ok((text, known(wanted, found)?))
 }
 
 // The answer, where there is one.

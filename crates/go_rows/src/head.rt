@@ -24,6 +24,8 @@ pub enum Given {
     Statements,
     /// a piece of a file
     Piece(Reading),
+    /// types, and declarations beside them
+    Types,
 }
 
 /// What is wanted of a row.
@@ -51,6 +53,10 @@ pub enum Asked {
     Fronts,
     /// the height that a piece needs, and where the first token is so high
     Height,
+    /// whether two types are identical
+    Identical,
+    /// the underlying type of a type
+    Underlying,
 }
 
 /// What a section is.
@@ -144,6 +150,7 @@ fn given_of(kind: &str) -> Option<Given> {
         "signature" => Some(Given::Piece(Reading::Signature)),
         "parameters" => Some(Given::Piece(Reading::Params)),
         "type parameters" => Some(Given::Piece(Reading::TypeParams)),
+        "types" => Some(Given::Types),
         _ => None,
     }
 }
@@ -160,6 +167,8 @@ fn asked_of(kind: &str) -> Option<Asked> {
         "behind" => Some(Asked::Behind),
         "fronts" => Some(Asked::Fronts),
         "height" => Some(Asked::Height),
+        "identical" => Some(Asked::Identical),
+        "underlying" => Some(Asked::Underlying),
         _ => None,
     }
 }

@@ -25,6 +25,8 @@ mod pieces;
 mod reports;
 mod shapes;
 mod tokens;
+mod type_words;
+mod types;
 
 // What is run and printed.
 mod print;

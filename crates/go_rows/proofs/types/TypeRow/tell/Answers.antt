@@ -1,0 +1,10 @@
+use Rattle.std.proofs.Common.{sym, ap, ◌∙◌}
+use Rattle.std.specs.Option.{option_map}
+use Rattle.go_model.specs.Outcomes.Records.{header_view}
+use Rattle.go_model.specs.Outcomes.Walk.{Headers}
+use Rattle.go_rows.proofs.types.TypeRow.tell.Goals as goal
+
+pub learn-requires : goal.learn-requires
+learn-requires c =
+    ap (λ (h : Headers). h c.in_ok-d.d.0) c.in_ok-ask.ensures.same
+    ∙ sym (sym (ap (option_map header_view) c.in-None-2.is) ∙ c.in_ok-ask.ensures.answer)
