@@ -2,6 +2,7 @@
 pub mod UnderlyingType
 pub mod Heads
 pub mod TypeSets
+pub mod SetsFit
 pub mod TypeIdentity
 pub mod Own
 pub mod Forms

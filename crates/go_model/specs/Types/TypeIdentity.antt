@@ -1,21 +1,21 @@
 -- Type identity (Go specification).
 -- Decides which types are identical: a type that a declaration defines or that is predeclared "is always different from any
 -- other type"; else two types are identical "if their underlying type literals are structurally equivalent", interfaces where
--- "they define the same type set". Which heads are the same: `Heads`; what an interface has: `TypeSets`. Own: the form of two
--- types is asked before any header, then their interfaces in order, of these the forms of all methods, the methods by name,
--- and the terms. Names that interfaces embed are opened, at most 32 on one path, those of both sides together, and the
--- underlying type of a term that is held against one with `~` is one more; types that are equal but for where fields and
--- methods are declared need none. Where names run short the answer is No, but as the premise of another question Yes of types
--- that fit, so that no Yes rests on it.
-use Rattle.std.specs.Prelude.{ℕ, zero, suc, ◌+◌, ◌-◌, ◌*◌, ◌&&◌, not, nat_le, Bool, true, false, Option, None, Some, if◌then◌else◌, List, [], ◌∷◌, ◌++◌, map, filter}
-use Rattle.std.specs.List.{flat_map, list_all, list_any}
+-- "they define the same type set". Which heads are the same: `Heads`; what an interface has: `TypeSets`; which sets fit:
+-- `SetsFit`. Own: the form of two types is asked before any header, then their interfaces in order, of these the forms of all
+-- methods, the methods by name, and the terms. Names that interfaces embed are opened, at most 32 on one path, those of both
+-- sides together, and the underlying type of a term is one more; types that are equal but for where fields and methods are
+-- declared need none. Where names run short the answer is No, but as the premise of another question Yes of types that fit,
+-- so that no Yes rests on it.
+use Rattle.std.specs.Prelude.{ℕ, zero, suc, ◌+◌, ◌-◌, ◌*◌, ◌&&◌, not, nat_le, Bool, true, false, Option, None, Some, if◌then◌else◌, List, [], ◌∷◌, ◌++◌, is_some}
+use Rattle.std.specs.List.{flat_map}
 use Rattle.go_term.specs.Types.{Head, interface_type, TypeData, Parts, made, no_parts, more_parts}
-use Rattle.go_module.specs.Modules.Paths.{same_text}
 use Rattle.go_model.specs.Outcomes.Records.{HeaderData}
 use Rattle.go_model.specs.Types.Forms.{found_in}
-use Rattle.go_model.specs.Types.Heads.{alike, same_head, same_truth}
+use Rattle.go_model.specs.Types.Heads.{alike, same_head}
+use Rattle.go_model.specs.Types.SetsFit.{method_pairs, sets_fit}
 use Rattle.go_model.specs.Types.TypeSets.{MethodData, SetData, TermData, home_of, plain, set_of}
-use Rattle.go_model.specs.Types.UnderlyingType.{Reach, under}
+use Rattle.go_model.specs.Types.UnderlyingType.{Reach, declared_by, under}
 use Rattle.go_model.specs.Values.Quests.{Quest, Done, then_ask}
 
 abbrev pub Test : Type 0
@@ -47,6 +47,10 @@ abbrev pub are_interfaces : Head → Head → Bool
 are_interfaces interface_type interface_type = true
 are_interfaces h g = false
 
+-- a type that a declaration defines, or a type parameter
+abbrev pub is_declared : TypeData → Bool
+is_declared (made head parts) = is_some (declared_by head)
+
 -- the same heads and numbers of parts throughout, whatever interfaces have
 abbrev mutual
   pub fit : TypeData → TypeData → Bool
@@ -67,50 +71,6 @@ abbrev mutual
   interfaces_in_all (more_parts t ts) (more_parts u us) = interfaces_in t u ++ interfaces_in_all ts us
   interfaces_in_all ts us = []
 
--- METHODS BY NAME
-
-abbrev pub has_name : MethodData → MethodData → Bool
-has_name a b = same_text a.name b.name && same_text a.home b.home
-
--- the name stands before the other, or is the same and stands so by the package
-abbrev pub text_before : List ℕ → List ℕ → Bool
-text_before [] [] = false
-text_before [] (c ∷ cs) = true
-text_before (b ∷ bs) [] = false
-text_before (b ∷ bs) (c ∷ cs) = if nat_le (b + 1) c then true else if nat_le (c + 1) b then false else text_before bs cs
-
-abbrev pub is_before : MethodData → MethodData → Bool
-is_before a b = if text_before a.name b.name then true else (same_text a.name b.name && text_before a.home b.home)
-
-abbrev pub put_by_name : MethodData → List MethodData → List MethodData
-put_by_name m [] = m ∷ []
-put_by_name m (n ∷ ns) = if is_before n m then n ∷ put_by_name m ns else m ∷ n ∷ ns
-
-abbrev pub by_name : List MethodData → List MethodData
-by_name [] = []
-by_name (m ∷ ms) = put_by_name m (by_name ms)
-
--- each method of the ones with each of the others that has its name
-abbrev pub method_pairs : List MethodData → List MethodData → List (MethodData × MethodData)
-method_pairs ms ns = flat_map (λ m. map (λ n. (m, n)) (filter (has_name m) ns)) (by_name ms)
-
-abbrev pub has_names_of : List MethodData → List MethodData → Bool
-has_names_of ms ns = list_all (λ n. list_any (has_name n) ms) ns
-
--- no union leaves a type out
-abbrev pub is_all_by : List (List TermData) → Bool
-is_all_by [] = true
-is_all_by (u ∷ us) = false
-
-abbrev pub is_all : SetData → Bool
-is_all s = is_all_by s.unions
-
--- methods of the same names, unions in both or in neither, and where there are none `comparable` in both or in neither
-abbrev pub sets_fit : SetData → SetData → Bool
-sets_fit s t =
-    has_names_of s.methods t.methods && has_names_of t.methods s.methods && same_truth (is_all s) (is_all t)
-    && (if is_all s then same_truth s.comparable t.comparable else true)
-
 -- INTERFACES
 
 -- what is answered where names run short: No, or in a premise whether the types fit
@@ -130,16 +90,34 @@ module _ (go : Bool → ℕ → TypeData → TypeData → Test) (left : ℕ) whe
   abbrev pub same_methods : Bool → MethodData × MethodData → Test
   same_methods short p = behind short (p.0.opened + p.1.opened) p.0.type p.1.type
 
+  -- the underlying type of a type is another, by what is found of it; that of each of two is that of the other
   abbrev pub same_found : Bool → ℕ → TypeData → Option TypeData → Test
   same_found short opened b None = Done short
   same_found short opened b (Some u) = behind short opened (plain u) b
 
+  abbrev pub has_underlying : Bool → ℕ → TypeData → TypeData → Test
+  has_underlying short opened a b = then_ask (under a) (λ reach. same_found short opened b (found_in reach))
+
+  abbrev pub both_found : Bool → ℕ → TypeData → Option TypeData → Test
+  both_found short opened a None = Done short
+  both_found short opened a (Some v) = has_underlying short opened a (plain v)
+
+  abbrev pub same_underlying : Bool → ℕ → TypeData → TypeData → Test
+  same_underlying short opened a b = then_ask (under b) (λ reach. both_found short opened a (found_in reach))
+
+  -- two types are one; of declared ones the underlying types are asked too, so that each term lies where the other does, also
+  -- where an interface has two methods of one name that differ (own)
+  abbrev pub same_term : Bool → ℕ → TypeData → TypeData → Test
+  same_term short opened a b =
+      if alike a b then Done true else and_ask (behind short opened a b) (if is_declared a then same_underlying short (opened + 2) a b else Done true)
+
   -- the types of a term are among those of another: that of T is the one type T, that of ~T "the set of all types whose
   -- underlying type is T"; the underlying type of T is one name more that is opened
   abbrev pub lies_within_by : Bool → Bool → Bool → ℕ → TypeData → TypeData → Test
-  lies_within_by short false true opened a b = then_ask (under a) (λ reach. same_found short (opened + 1) b (found_in reach))
+  lies_within_by short false true opened a b = has_underlying short (opened + 1) a b
   lies_within_by short true false opened a b = Done false
-  lies_within_by short tilde other opened a b = behind short opened a b
+  lies_within_by short true true opened a b = behind short opened a b
+  lies_within_by short false false opened a b = same_term short opened a b
 
   abbrev pub lies_within : Bool → TermData → TermData → Test
   lies_within short a b = lies_within_by short a.tilde b.tilde (a.opened + b.opened) a.type b.type
