@@ -44,3 +44,12 @@ lies-found known bounds opened t b x e =
     ap (λ x. asked_then x (λ o. run known (identity.same_found (identity.same bounds.levels) bounds.left bounds.short opened b o))) e
     ∙ sym (found-over known t (identity.same_found (identity.same bounds.levels) bounds.left bounds.short opened b)
     (λ u. ap (λ v. identity.behind (identity.same bounds.levels) bounds.left bounds.short opened v b) (plain-twice u)))
+
+-- whether that of a second type is another's, behind so many names
+pub both-found : (known : Headers) (bounds : Bounds) (opened : ℕ) (a t : TypeData) (x : Asked (Option TypeData)) → x ≡ underlying_over known t
+    → asked_then x (λ o. run known (identity.both_found (identity.same bounds.levels) bounds.left bounds.short opened a o))
+    ≡ run known (identity.same_underlying (identity.same bounds.levels) bounds.left bounds.short opened a (plain t))
+both-found known bounds opened a t x e =
+    ap (λ x. asked_then x (λ o. run known (identity.both_found (identity.same bounds.levels) bounds.left bounds.short opened a o))) e
+    ∙ sym (found-over known t (identity.both_found (identity.same bounds.levels) bounds.left bounds.short opened a)
+    (λ u. ap (λ v. identity.has_underlying (identity.same bounds.levels) bounds.left bounds.short opened a v) (plain-twice u)))

@@ -10,7 +10,8 @@ use Rattle.go_term.specs.declared.term.Term.{Term}
 use Rattle.go_model.specs.Outcomes.Walk.{Headers}
 use Rattle.go_model.specs.Types.Forms.{answer_as}
 use Rattle.go_model.specs.Types.Own.{AreOwnFunc, KeepsTypes}
-use Rattle.go_model.specs.Types.TypeIdentity.{Test, and_ask, ask_each, by_name, fit, method_pairs, sets_fit}
+use Rattle.go_model.specs.Types.SetsFit.{by_name, method_pairs, sets_fit}
+use Rattle.go_model.specs.Types.TypeIdentity.{Test, and_ask, ask_each, fit}
 use Rattle.go_model.specs.Types.TypeSets.{MethodData}
 use Rattle.go_model.specs.Values.Quests.{Asked, Decided, Done, run}
 use Rattle.go_model.specs.declared.outcome.Answer.{Answer}

@@ -2,7 +2,10 @@
 use Rattle.std.proofs.Common.{◌≡◌, ℕ, zero, suc, ◌-◌, Bool, true, false, if◌then◌else◌, List, map, refl, sym, ap, ◌∙◌, arith, Vec, Global}
 use Rattle.std.specs.List.{AllByRecursion}
 use Rattle.std.specs.Prelude.{nat_le, not}
+use Rattle.go_term.specs.Shapes.{shape_tree}
 use Rattle.go_term.specs.Types.{TypeData}
+use Rattle.go_term.specs.declared.shape.Shape.{Shape}
+use Rattle.go_term.specs.declared.shape.Shape.TheVariants as S
 use Rattle.go_term.specs.declared.term.Term.{Term}
 use Rattle.go_model.specs.Outcomes.Walk.{Headers}
 use Rattle.go_model.specs.Types.Own.{KeepsTypes}
@@ -11,6 +14,7 @@ use Rattle.go_model.specs.Types.TypeIdentity.{ask_any, ask_each, fit, interfaces
 use Rattle.go_model.specs.Types.TypeSets.{TermData, plain}
 use Rattle.go_model.specs.Values.Quests.{Done, run}
 use Rattle.go_same.specs.Bounded as bounded
+use Rattle.go_same.specs.Collect.{is_name_shape}
 use Rattle.go_same.specs.Sets.{IsOwnSet, part_view, set_view}
 use Rattle.go_same.specs.declared.bounds.Bounds.{Bounds}
 use Rattle.go_same.specs.declared.set.TypeSet.{TypeSet}
@@ -58,6 +62,24 @@ module _ (bounds : Bounds) (opened : ℕ) (a b : TypeData) where
 pub behind-moved : (known known' : Headers) → known' ≡ known → (bounds : Bounds) (opened : ℕ) (a : TypeData) {b b' : TypeData} → b' ≡ b
     → run known' (identity.behind (identity.same bounds.levels) bounds.left bounds.short opened a (plain b')) ≡ run known (identity.behind (identity.same bounds.levels) bounds.left bounds.short opened a (plain b))
 behind-moved known known' same bounds opened a is = λ j. run (same j) (identity.behind (identity.same bounds.levels) bounds.left bounds.short opened a (plain (is j)))
+
+-- TERMS OF ONE TYPE
+
+-- what stands at a type says whether it is declared
+pub declared-layer : (tree : Term → TypeData) (shape : Shape) → is_name_shape shape ≡ identity.is_declared (plain (shape_tree tree shape))
+declared-layer tree (S.Named d ts) = refl
+declared-layer tree (S.Param d i) = refl
+declared-layer tree shape = refl
+
+-- over a judge that has gone on
+pub declared-moved : {own own' : Term → Type 0} {tree tree' : Term → TypeData} → KeepsTypes own own' tree tree' → (known known' : Headers) → known' ≡ known → (bounds : Bounds) (opened : ℕ) (a b : Term) → own a → own b
+    → run known' (bounded.same_declared bounds opened (plain (tree' a)) (plain (tree' b))) ≡ run known (bounded.same_declared bounds opened (plain (tree a)) (plain (tree b)))
+declared-moved kept known known' same bounds opened a b a_own b_own = λ j. run (same j) (bounded.same_declared bounds opened (plain (kept.trees a a_own j)) (plain (kept.trees b b_own j)))
+
+-- over one that has found the underlying type of the second
+pub found-moved : (known known' : Headers) → known' ≡ known → (bounds : Bounds) (opened : ℕ) {a a' : TypeData} → a' ≡ a → (v : TypeData)
+    → run known' (bounded.has_underlying bounds opened (plain a') v) ≡ run known (bounded.has_underlying bounds opened (plain a) v)
+found-moved known known' same bounds opened is v = λ j. run (same j) (bounded.has_underlying bounds opened (plain (is j)) v)
 
 -- as a premise
 pub premise-asked : (known : Headers) (bounds inner : Bounds) → inner.levels ≡ bounds.levels → inner.left ≡ bounds.left → inner.short ≡ not bounds.short → (tree : Term → TypeData) (us ps : List (Vec UnionPart Global)) → us ≡ ps → (a : TermData)

@@ -1,9 +1,10 @@
 -- Type identity within bounds: each question as the code asks it, in the words of go_model's definitions.
-use Rattle.std.specs.Prelude.{List, not}
+use Rattle.std.specs.Prelude.{ℕ, true, if◌then◌else◌, List, not}
 use Rattle.go_term.specs.Types.{TypeData}
 use Rattle.go_model.specs.Types.TypeIdentity as identity
-use Rattle.go_model.specs.Types.TypeIdentity.{Test, and_ask, ask_any, ask_each, implied}
+use Rattle.go_model.specs.Types.TypeIdentity.{Test, and_ask, implied, is_declared}
 use Rattle.go_model.specs.Types.TypeSets.{MethodData, SetData, TermData}
+use Rattle.go_model.specs.Values.Quests.{Done}
 use Rattle.go_same.specs.declared.bounds.Bounds.{Bounds}
 
 module _ (b : Bounds) where
@@ -38,3 +39,21 @@ module _ (b : Bounds) where
 
   abbrev pub lies_within : TermData → TermData → Test
   lies_within = identity.lies_within (identity.same b.levels) b.left b.short
+
+  -- TWO TERMS, behind so many names
+
+  abbrev pub behind : ℕ → TypeData → TypeData → Test
+  behind = identity.behind (identity.same b.levels) b.left b.short
+
+  abbrev pub has_underlying : ℕ → TypeData → TypeData → Test
+  has_underlying = identity.has_underlying (identity.same b.levels) b.left b.short
+
+  abbrev pub same_underlying : ℕ → TypeData → TypeData → Test
+  same_underlying = identity.same_underlying (identity.same b.levels) b.left b.short
+
+  -- of declared types the underlying types
+  abbrev pub same_declared : ℕ → TypeData → TypeData → Test
+  same_declared opened t u = if is_declared t then same_underlying opened t u else Done true
+
+  abbrev pub same_term : ℕ → TypeData → TypeData → Test
+  same_term = identity.same_term (identity.same b.levels) b.left b.short

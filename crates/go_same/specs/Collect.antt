@@ -86,6 +86,12 @@ abbrev pub is_param_shape : Shape → Bool
 is_param_shape (S.Param d i) = true
 is_param_shape shape = false
 
+-- a name or a type parameter
+abbrev pub is_name_shape : Shape → Bool
+is_name_shape (S.Named d ts) = true
+is_name_shape (S.Param d i) = true
+is_name_shape shape = false
+
 -- that stands at the type
 pub record IsKindOf (tree : Term → TypeData) (t : TypeData) (kind : TypeKind) : Type 0 where
   pub interface : is_interface t ≡ is_interface_kind kind

@@ -1,7 +1,6 @@
 pub mod Bounded
 pub mod Collect
 pub mod Joins
-pub mod Laws
 pub mod Layers
 pub mod MethodOrder
 pub mod Sets

@@ -9,7 +9,7 @@ use Rattle.go_module.specs.Modules.Paths.{same_text}
 use Rattle.go_term.specs.Types.{TypeData}
 use Rattle.go_term.specs.declared.term.Term.{Term}
 use Rattle.go_model.specs.Types.Heads.{same_truth}
-use Rattle.go_model.specs.Types.TypeIdentity.{has_name, text_before}
+use Rattle.go_model.specs.Types.SetsFit.{has_name, text_before}
 use Rattle.go_model.specs.Types.TypeSets.{MethodData}
 use Rattle.go_same.specs.Sets.{method_view}
 use Rattle.go_same.specs.declared.set.Method.{Method}

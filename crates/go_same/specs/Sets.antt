@@ -1,6 +1,7 @@
 -- What the type sets of the program stand for, where types stand for these trees.
-use Rattle.std.specs.Prelude.{Bool, true, false, Option, None, Some, map}
-use Rattle.std.specs.List.{AllByRecursion}
+use Rattle.std.specs.Prelude.{ℕ, ◌+◌, Bool, true, false, Option, None, Some, List, Vec, length, map}
+use Rattle.std.specs.Global.{Global}
+use Rattle.std.specs.List.{AllByRecursion, sum_by}
 use Rattle.go_term.specs.Shapes.{func_parts}
 use Rattle.go_term.specs.Types.{TypeData, function, made}
 use Rattle.go_term.specs.declared.term.Term.{Term}
@@ -36,6 +37,14 @@ module _ (tree : Term → TypeData) where
 abbrev pub is_set : FoundSet → Bool
 is_set (F.Is s) = true
 is_set found = false
+
+-- how many terms unions have, and methods and terms what is found
+abbrev pub unions_size : List (Vec UnionPart Global) → ℕ
+unions_size us = sum_by (λ u. length u.items) us
+
+abbrev pub found_size : FoundSet → ℕ
+found_size (F.Is s) = length s.methods.items + unions_size s.unions.items
+found_size found = 0
 
 module _ (own : Term → Type 0) where
   -- the types of a set are these

@@ -7,6 +7,7 @@ ghost use Rattle.go_model.specs.Types.Own.{AreOwn, Keeps};
 ghost use Rattle.go_model.specs.Types.TypeSets.{plain};
 ghost use Rattle.go_same.specs.Layers.{lent, plain_types};
 
+use crate::budget::Budget;
 use crate::layer::{Homes, same_layer, types_in};
 use crate::see::see_both;
 use go_base::NoMemory;
@@ -19,6 +20,7 @@ use std::alloc::Global;
 pub(crate) fn alike<J: Forms>(
     alloc: Global,
     judge: &mut J,
+    budget: &mut Budget,
     a: &Ty,
     b: &Ty,
 ) -> Result<bool, NoMemory>
@@ -32,7 +34,7 @@ pub(crate) fn alike<J: Forms>(
         (J.tree judge.old) (J.tree judge.new) }
 {
     let (x, y) = see_both(alloc, judge, a, b)?;
-    alike_layers(alloc, judge, &x, &y)
+    alike_layers(alloc, judge, budget, &x, &y)
 }
 
 /// The same of two types that have these layers.
@@ -40,6 +42,7 @@ pub(crate) fn alike<J: Forms>(
 pub(crate) fn alike_layers<J: Forms>(
     alloc: Global,
     judge: &mut J,
+    budget: &mut Budget,
     x: &Shape,
     y: &Shape,
 ) -> Result<bool, NoMemory>
@@ -51,12 +54,13 @@ pub(crate) fn alike_layers<J: Forms>(
         (J.world judge.old) (J.world judge.new) (J.is_type judge.old) (J.is_type judge.new)
         (J.tree judge.old) (J.tree judge.new) }
 {
+    budget.spend(1)?;
     if !same_layer(Homes::Each, x, y) {
         return Ok(false);
     }
     let ts = types_in(alloc, x)?;
     let us = types_in(alloc, y)?;
-    alike_all(alloc, judge, &ts, &us)
+    alike_all(alloc, judge, budget, &ts, &us)
 }
 
 // Whether each two of as many types are alike.
@@ -64,6 +68,7 @@ pub(crate) fn alike_layers<J: Forms>(
 fn alike_all<J: Forms>(
     alloc: Global,
     judge: &mut J,
+    budget: &mut Budget,
     ts: &[&Ty],
     us: &[&Ty],
 ) -> Result<bool, NoMemory>
@@ -78,7 +83,7 @@ fn alike_all<J: Forms>(
         (J.tree judge.old) (J.tree judge.new) }
 {
     for (i, t) in ts.iter().enumerate() {
-        if !alike(alloc, judge, t, us[i])? {
+        if !alike(alloc, judge, budget, t, us[i])? {
             return Ok(false);
         }
     }

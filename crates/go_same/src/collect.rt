@@ -12,8 +12,9 @@ ghost use Rattle.go_model.specs.Values.Quests.{run};
 ghost use Rattle.go_same.specs.Collect as spec;
 ghost use Rattle.go_same.specs.Sets.{IsOwnFound, found_as};
 
-use crate::either::{join_either, type_of_shape};
-use crate::join::{join_both, raised};
+use crate::budget::Budget;
+use crate::either::{joined_after, type_of_shape};
+use crate::join::{join_both, raised_found};
 use crate::kind::{TypeKind, is_interface, is_param, kind_of};
 use crate::set::{FoundSet, is_set};
 use crate::terms::{error_types, every_comparable, every_type, one_method, one_term};
@@ -29,6 +30,7 @@ use std::alloc::Global;
 pub(crate) fn set_of<J: Forms>(
     alloc: Global,
     judge: &mut J,
+    budget: &mut Budget,
     left: u32,
     t: Ty,
 ) -> Result<FoundSet, NoMemory>
@@ -42,13 +44,14 @@ pub(crate) fn set_of<J: Forms>(
         (J.tree judge.old) (J.tree judge.new) }
 {
     let shape = judge.see(alloc, &t)?;
-    set_of_kind(alloc, judge, left, t, kind_of(shape))
+    set_of_kind(alloc, judge, budget, left, t, kind_of(shape))
 }
 
 #[cycle(collect)]
 fn set_of_kind<J: Forms>(
     alloc: Global,
     judge: &mut J,
+    budget: &mut Budget,
     left: u32,
     t: Ty,
     kind: TypeKind,
@@ -66,10 +69,10 @@ fn set_of_kind<J: Forms>(
         (J.tree judge.old) (J.tree judge.new) }
 {
     match kind {
-        TypeKind::Literal(elems) => elements_set(alloc, judge, left, elems),
+        TypeKind::Literal(elems) => elements_set(alloc, judge, budget, left, elems),
         TypeKind::Error => Ok(FoundSet::Is(error_types(alloc, judge)?)),
         TypeKind::Comparable => Ok(FoundSet::Is(every_comparable(alloc))),
-        TypeKind::Name => named_set(alloc, judge, left, t),
+        TypeKind::Name => named_set(alloc, judge, budget, left, t),
         TypeKind::Other => Ok(FoundSet::Is(one_term(alloc, false, t)?)),
     }
 }
@@ -78,6 +81,7 @@ fn set_of_kind<J: Forms>(
 pub(crate) fn set_of_layer<J: Forms>(
     alloc: Global,
     judge: &mut J,
+    budget: &mut Budget,
     left: u32,
     shape: Shape,
 ) -> Result<FoundSet, NoMemory>
@@ -91,7 +95,7 @@ pub(crate) fn set_of_layer<J: Forms>(
         (J.tree judge.old) (J.tree judge.new) }
 {
     let t = type_of_shape(alloc, judge, shape)?;
-    set_of(alloc, judge, left, t)
+    set_of(alloc, judge, budget, left, t)
 }
 
 // The elements of an interface, all together.
@@ -99,6 +103,7 @@ pub(crate) fn set_of_layer<J: Forms>(
 fn elements_set<J: Forms>(
     alloc: Global,
     judge: &mut J,
+    budget: &mut Budget,
     left: u32,
     elems: Vec<ElemShape>,
 ) -> Result<FoundSet, NoMemory>
@@ -112,9 +117,10 @@ fn elements_set<J: Forms>(
         (J.world judge.old) (J.world judge.new) (J.is_type judge.old) (J.is_type judge.new)
         (J.tree judge.old) (J.tree judge.new) }
 {
+    budget.spend(elems.len())?;
     let mut all = FoundSet::Is(every_type(alloc));
     for e in elems {
-        let one = element_set(alloc, judge, left, e)?;
+        let one = element_set(alloc, judge, budget, left, e)?;
         all = join_both(all, one)?;
         if !is_set(&all) {
             return Ok(all);
@@ -127,6 +133,7 @@ fn elements_set<J: Forms>(
 fn element_set<J: Forms>(
     alloc: Global,
     judge: &mut J,
+    budget: &mut Budget,
     left: u32,
     elem: ElemShape,
 ) -> Result<FoundSet, NoMemory>
@@ -144,7 +151,7 @@ fn element_set<J: Forms>(
         ElemShape::Method(_, name, package, signature) => {
             Ok(FoundSet::Is(one_method(alloc, name, package, signature)?))
         }
-        ElemShape::Union(terms) => union_set(alloc, judge, left, terms),
+        ElemShape::Union(terms) => union_set(alloc, judge, budget, left, terms),
     }
 }
 
@@ -153,6 +160,7 @@ fn element_set<J: Forms>(
 fn union_set<J: Forms>(
     alloc: Global,
     judge: &mut J,
+    budget: &mut Budget,
     left: u32,
     terms: Vec<UnionShape>,
 ) -> Result<FoundSet, NoMemory>
@@ -166,9 +174,10 @@ fn union_set<J: Forms>(
         (J.world judge.old) (J.world judge.new) (J.is_type judge.old) (J.is_type judge.new)
         (J.tree judge.old) (J.tree judge.new) }
 {
+    budget.spend(terms.len())?;
     let mut all = None;
     for u in terms {
-        let more = with_term(alloc, judge, left, all, u)?;
+        let more = with_term(alloc, judge, budget, left, all, u)?;
         if !is_set(&more) {
             return Ok(more);
         }
@@ -185,6 +194,7 @@ fn union_set<J: Forms>(
 fn with_term<J: Forms>(
     alloc: Global,
     judge: &mut J,
+    budget: &mut Budget,
     left: u32,
     before: Option<FoundSet>,
     term: UnionShape,
@@ -201,37 +211,15 @@ fn with_term<J: Forms>(
         (J.world judge.old) (J.world judge.new) (J.is_type judge.old) (J.is_type judge.new)
         (J.tree judge.old) (J.tree judge.new) }
 {
-    let one = term_set(alloc, judge, left, term)?;
-    joined_after(alloc, judge, before, one)
-}
-
-fn joined_after<J: Forms>(
-    alloc: Global,
-    judge: &mut J,
-    before: Option<FoundSet>,
-    one: FoundSet,
-) -> Result<FoundSet, NoMemory>
-    requires own_before { IfSome before (IsOwnFound (J.is_type judge.old)) }
-    requires own_one { IsOwnFound (J.is_type judge.old) one }
-    ensures answer { IfOk result (λ found. found_as (J.tree judge.new) found
-        ≡ spec.asked_after sets.either_set (option_map (found_as (J.tree judge.old)) before)
-        (found_as (J.tree judge.old) one)) }
-    ensures own { IfOk result (IsOwnFound (J.is_type judge.new)) }
-    ensures keeps { Keeps (J.headers judge.old) (J.headers judge.new) (J.names judge.old) (J.names judge.new)
-        (J.outcomes judge.old) (J.outcomes judge.new) (J.is_spent judge.old) (J.is_spent judge.new)
-        (J.world judge.old) (J.world judge.new) (J.is_type judge.old) (J.is_type judge.new)
-        (J.tree judge.old) (J.tree judge.new) }
-{
-    match before {
-        None => Ok(one),
-        Some(first) => join_either(alloc, judge, first, one),
-    }
+    let one = term_set(alloc, judge, budget, left, term)?;
+    joined_after(alloc, judge, budget, before, one)
 }
 
 #[cycle(collect)]
 fn term_set<J: Forms>(
     alloc: Global,
     judge: &mut J,
+    budget: &mut Budget,
     left: u32,
     term: UnionShape,
 ) -> Result<FoundSet, NoMemory>
@@ -246,15 +234,21 @@ fn term_set<J: Forms>(
         (J.tree judge.old) (J.tree judge.new) }
 {
     if term.tilde {
-        tilde_set(alloc, judge, left, term.ty)
+        tilde_set(alloc, judge, budget, left, term.ty)
     } else {
-        set_of(alloc, judge, left, term.ty)
+        set_of(alloc, judge, budget, left, term.ty)
     }
 }
 
 // The type of a term with `~`; a type parameter counts as its constraint.
 #[cycle(collect)]
-fn tilde_set<J: Forms>(alloc: Global, judge: &mut J, left: u32, t: Ty) -> Result<FoundSet, NoMemory>
+fn tilde_set<J: Forms>(
+    alloc: Global,
+    judge: &mut J,
+    budget: &mut Budget,
+    left: u32,
+    t: Ty,
+) -> Result<FoundSet, NoMemory>
     requires { J.is_type judge.old t }
     ensures answer { IfOk result (λ found. found_as (J.tree judge.new) found
         ≡ run (J.headers judge.old) (sets.tilde_set (spec.opening_within left) (sets.plain (J.tree judge.old t)))) }
@@ -265,13 +259,14 @@ fn tilde_set<J: Forms>(alloc: Global, judge: &mut J, left: u32, t: Ty) -> Result
         (J.tree judge.old) (J.tree judge.new) }
 {
     let shape = judge.see(alloc, &t)?;
-    tilde_set_by(alloc, judge, left, t, is_param(&shape))
+    tilde_set_by(alloc, judge, budget, left, t, is_param(&shape))
 }
 
 #[cycle(collect)]
 fn tilde_set_by<J: Forms>(
     alloc: Global,
     judge: &mut J,
+    budget: &mut Budget,
     left: u32,
     t: Ty,
     param: bool,
@@ -287,7 +282,7 @@ fn tilde_set_by<J: Forms>(
         (J.tree judge.old) (J.tree judge.new) }
 {
     if param {
-        named_set(alloc, judge, left, t)
+        named_set(alloc, judge, budget, left, t)
     } else {
         Ok(FoundSet::Is(one_term(alloc, true, t)?))
     }
@@ -295,7 +290,13 @@ fn tilde_set_by<J: Forms>(
 
 // By the underlying type of a name.
 #[cycle(collect)]
-fn named_set<J: Forms>(alloc: Global, judge: &mut J, left: u32, t: Ty) -> Result<FoundSet, NoMemory>
+fn named_set<J: Forms>(
+    alloc: Global,
+    judge: &mut J,
+    budget: &mut Budget,
+    left: u32,
+    t: Ty,
+) -> Result<FoundSet, NoMemory>
     requires own { J.is_type judge.old t }
     requires name { sets.is_interface (J.tree judge.old t) ≡ false }
     ensures answer { IfOk result (λ found. found_as (J.tree judge.new) found
@@ -307,13 +308,14 @@ fn named_set<J: Forms>(alloc: Global, judge: &mut J, left: u32, t: Ty) -> Result
         (J.tree judge.old) (J.tree judge.new) }
 {
     let form = judge.underlying(alloc, &t)?;
-    set_by_form(alloc, judge, left, t, form)
+    set_by_form(alloc, judge, budget, left, t, form)
 }
 
 #[cycle(collect)]
 fn set_by_form<J: Forms>(
     alloc: Global,
     judge: &mut J,
+    budget: &mut Budget,
     left: u32,
     t: Ty,
     form: Form,
@@ -333,7 +335,7 @@ fn set_by_form<J: Forms>(
     match form {
         Form::Is(u) => {
             let shape = judge.see(alloc, &u)?;
-            set_by_kind(alloc, judge, left, t, u, is_interface(shape))
+            set_by_kind(alloc, judge, budget, left, t, u, is_interface(shape))
         }
         Form::Absent => Ok(FoundSet::Absent),
         Form::Unknown(d) => Ok(FoundSet::Unknown(d)),
@@ -345,6 +347,7 @@ fn set_by_form<J: Forms>(
 fn set_by_kind<J: Forms>(
     alloc: Global,
     judge: &mut J,
+    budget: &mut Budget,
     left: u32,
     t: Ty,
     u: Ty,
@@ -369,18 +372,7 @@ fn set_by_kind<J: Forms>(
     if left == 0 {
         return Ok(FoundSet::Absent);
     }
-    let found = set_of(alloc, judge, left - 1, u)?;
+    let found = set_of(alloc, judge, budget, left - 1, u)?;
+    budget.spend_found(&found)?;
     Ok(raised_found(found))
-}
-
-// The same with one name more opened.
-fn raised_found(found: FoundSet) -> FoundSet
-    requires { spec.IsRaisableFound found }
-    ensures { spec.IsRaisedFound found result }
-{
-    match found {
-        FoundSet::Is(set) => FoundSet::Is(raised(set)),
-        FoundSet::Absent => FoundSet::Absent,
-        FoundSet::Unknown(d) => FoundSet::Unknown(d),
-    }
 }

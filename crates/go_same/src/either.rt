@@ -1,12 +1,14 @@
 // Unions of type sets (Go specification, "General interfaces").
-ghost use Rattle.std.specs.Prelude.{◌≡◌, ◌++◌, [], ◌∷◌, IfOk, length, map};
+ghost use Rattle.std.specs.Prelude.{◌≡◌, ◌++◌, [], ◌∷◌, IfOk, IfSome, length, map};
 ghost use Rattle.std.specs.List.{AllByRecursion, flat_map};
+ghost use Rattle.std.specs.Option.{option_map};
 ghost use Rattle.go_term.specs.Shapes.{shape_tree};
 ghost use Rattle.go_model.specs.Types.Own.{AreOwn, Keeps};
 ghost use Rattle.go_model.specs.Types.TypeSets.{either_set, either_unions};
-ghost use Rattle.go_same.specs.Collect.{asked_joined};
+ghost use Rattle.go_same.specs.Collect.{asked_after, asked_joined};
 ghost use Rattle.go_same.specs.Sets.{IsOwnFound, IsOwnSet, found_as, part_view, set_view};
 
+use crate::budget::Budget;
 use crate::set::{FoundSet, TypeSet, UnionPart};
 use go_base::NoMemory;
 use go_model::Forms;
@@ -101,6 +103,7 @@ fn both_copied<J: Forms>(
 fn with_each<J: Forms>(
     alloc: Global,
     judge: &mut J,
+    budget: &mut Budget,
     first: Vec<Vec<UnionPart>>,
     u: &[UnionPart],
     vs: &[Vec<UnionPart>],
@@ -119,6 +122,8 @@ fn with_each<J: Forms>(
 {
     let mut all = first;
     for v in vs {
+        budget.spend(u.len())?;
+        budget.spend(v.len())?;
         let both = both_copied(alloc, judge, u, v)?;
         all.push(both)?;
     }
@@ -129,6 +134,7 @@ fn with_each<J: Forms>(
 fn products<J: Forms>(
     alloc: Global,
     judge: &mut J,
+    budget: &mut Budget,
     us: &[Vec<UnionPart>],
     vs: &[Vec<UnionPart>],
 ) -> Result<Vec<Vec<UnionPart>>, NoMemory>
@@ -145,7 +151,7 @@ fn products<J: Forms>(
 {
     let mut all = Vec::new(alloc);
     for u in us {
-        all = with_each(alloc, judge, all, u, vs)?;
+        all = with_each(alloc, judge, budget, all, u, vs)?;
     }
     Ok(all)
 }
@@ -171,6 +177,7 @@ fn one_of_both(
 fn joined_unions<J: Forms>(
     alloc: Global,
     judge: &mut J,
+    budget: &mut Budget,
     us: Vec<Vec<UnionPart>>,
     vs: Vec<Vec<UnionPart>>,
 ) -> Result<Vec<Vec<UnionPart>>, NoMemory>
@@ -188,7 +195,7 @@ fn joined_unions<J: Forms>(
     if us.len() == 1 && vs.len() == 1 {
         one_of_both(us, vs)
     } else {
-        products(alloc, judge, &us, &vs)
+        products(alloc, judge, budget, &us, &vs)
     }
 }
 
@@ -196,6 +203,7 @@ fn joined_unions<J: Forms>(
 fn either_sets<J: Forms>(
     alloc: Global,
     judge: &mut J,
+    budget: &mut Budget,
     a: TypeSet,
     b: TypeSet,
 ) -> Result<TypeSet, NoMemory>
@@ -209,7 +217,7 @@ fn either_sets<J: Forms>(
         (J.world judge.old) (J.world judge.new) (J.is_type judge.old) (J.is_type judge.new)
         (J.tree judge.old) (J.tree judge.new) }
 {
-    let unions = joined_unions(alloc, judge, a.unions, b.unions)?;
+    let unions = joined_unions(alloc, judge, budget, a.unions, b.unions)?;
     Ok(TypeSet {
         methods: Vec::new(alloc),
         unions,
@@ -217,11 +225,12 @@ fn either_sets<J: Forms>(
     })
 }
 
-/// The one or the other of what is found, as far as unions may have it: the first where it is no set, else the second
-/// where that is none.
-pub(crate) fn join_either<J: Forms>(
+// The one or the other of what is found, as far as unions may have it: the first where it is no set, else the second
+// where that is none.
+fn join_either<J: Forms>(
     alloc: Global,
     judge: &mut J,
+    budget: &mut Budget,
     a: FoundSet,
     b: FoundSet,
 ) -> Result<FoundSet, NoMemory>
@@ -240,8 +249,33 @@ pub(crate) fn join_either<J: Forms>(
         FoundSet::Absent => Ok(FoundSet::Absent),
         FoundSet::Is(x) => match b {
             FoundSet::Unknown(d) => Ok(FoundSet::Unknown(d)),
-            FoundSet::Is(y) => Ok(FoundSet::Is(either_sets(alloc, judge, x, y)?)),
+            FoundSet::Is(y) => Ok(FoundSet::Is(either_sets(alloc, judge, budget, x, y)?)),
             FoundSet::Absent => Ok(FoundSet::Absent),
         },
+    }
+}
+
+/// The one or the other of what is found before, where there is something, and of one more.
+pub(crate) fn joined_after<J: Forms>(
+    alloc: Global,
+    judge: &mut J,
+    budget: &mut Budget,
+    before: Option<FoundSet>,
+    one: FoundSet,
+) -> Result<FoundSet, NoMemory>
+    requires own_before { IfSome before (IsOwnFound (J.is_type judge.old)) }
+    requires own_one { IsOwnFound (J.is_type judge.old) one }
+    ensures answer { IfOk result (λ found. found_as (J.tree judge.new) found
+        ≡ asked_after either_set (option_map (found_as (J.tree judge.old)) before)
+        (found_as (J.tree judge.old) one)) }
+    ensures own { IfOk result (IsOwnFound (J.is_type judge.new)) }
+    ensures keeps { Keeps (J.headers judge.old) (J.headers judge.new) (J.names judge.old) (J.names judge.new)
+        (J.outcomes judge.old) (J.outcomes judge.new) (J.is_spent judge.old) (J.is_spent judge.new)
+        (J.world judge.old) (J.world judge.new) (J.is_type judge.old) (J.is_type judge.new)
+        (J.tree judge.old) (J.tree judge.new) }
+{
+    match before {
+        None => Ok(one),
+        Some(first) => join_either(alloc, judge, budget, first, one),
     }
 }

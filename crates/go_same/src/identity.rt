@@ -16,6 +16,7 @@ ghost use Rattle.go_same.specs.Sets.{IsOwnFound, IsOwnSet, found_as, func_type, 
 
 use crate::alike::alike_layers;
 use crate::bounds::{Bounds, answer};
+use crate::budget::Budget;
 use crate::collect::set_of_layer;
 use crate::methods::{pairs_of, sets_fit, sort_methods};
 use crate::outline::{outline, outline_funcs};
@@ -35,7 +36,8 @@ const MOST_OPENED: u32 = 32;
 
 /// Whether two types are identical (Go specification, "Type identity"), Unknown with the first header that the answer
 /// lacks. No where more than 32 names that interfaces embed would have to be opened on one path. An error is want of
-/// memory, or that a type would have to be made once more that is too deep or too large. What the judge has stays.
+/// memory, that a type would have to be made once more that is too deep or too large, or that the question would take
+/// more than 4,194,304 steps. What the judge has stays.
 pub fn same<J: Forms>(alloc: Global, judge: &mut J, a: &Ty, b: &Ty) -> Result<Answer, NoMemory>
     requires a_own { J.is_type judge.old a.now }
     requires b_own { J.is_type judge.old b.now }
@@ -47,8 +49,9 @@ pub fn same<J: Forms>(alloc: Global, judge: &mut J, a: &Ty, b: &Ty) -> Result<An
         (J.world judge.old) (J.world judge.new) (J.is_type judge.old) (J.is_type judge.new)
         (J.tree judge.old) (J.tree judge.new) }
 {
+    let mut budget = Budget::new();
     let mut pairs = Vec::new(alloc);
-    if !outline(alloc, judge, a, b, &mut pairs)? {
+    if !outline(alloc, judge, &mut budget, a, b, &mut pairs)? {
         return Ok(Answer::No);
     }
     let bounds = Bounds {
@@ -56,7 +59,7 @@ pub fn same<J: Forms>(alloc: Global, judge: &mut J, a: &Ty, b: &Ty) -> Result<An
         left: MOST_OPENED,
         short: false,
     };
-    same_pairs(alloc, judge, bounds, pairs)
+    same_pairs(alloc, judge, &mut budget, bounds, pairs)
 }
 
 /// Whether interfaces are identical two by two, by their layers.
@@ -64,6 +67,7 @@ pub fn same<J: Forms>(alloc: Global, judge: &mut J, a: &Ty, b: &Ty) -> Result<An
 pub(crate) fn same_pairs<J: Forms>(
     alloc: Global,
     judge: &mut J,
+    budget: &mut Budget,
     bounds: Bounds,
     pairs: Vec<(Shape, Shape)>,
 ) -> Result<Answer, NoMemory>
@@ -76,7 +80,7 @@ pub(crate) fn same_pairs<J: Forms>(
         (J.tree judge.old) (J.tree judge.new) }
 {
     for (x, y) in pairs {
-        match same_interfaces(alloc, judge, bounds, x, y)? {
+        match same_interfaces(alloc, judge, budget, bounds, x, y)? {
             Answer::Yes => {}
             other => return Ok(other),
         }
@@ -89,6 +93,7 @@ pub(crate) fn same_pairs<J: Forms>(
 fn same_interfaces<J: Forms>(
     alloc: Global,
     judge: &mut J,
+    budget: &mut Budget,
     bounds: Bounds,
     x: Shape,
     y: Shape,
@@ -102,11 +107,12 @@ fn same_interfaces<J: Forms>(
         (J.world judge.old) (J.world judge.new) (J.is_type judge.old) (J.is_type judge.new)
         (J.tree judge.old) (J.tree judge.new) }
 {
-    if alike_layers(alloc, judge, &x, &y)? {
+    if alike_layers(alloc, judge, budget, &x, &y)? {
         return Ok(Answer::Yes);
     }
-    let first = set_of_layer(alloc, judge, bounds.left, x)?;
-    same_as(alloc, judge, bounds, first, y)
+    budget.spend(1)?;
+    let first = set_of_layer(alloc, judge, budget, bounds.left, x)?;
+    same_as(alloc, judge, budget, bounds, first, y)
 }
 
 // By what the first of two interfaces has.
@@ -114,6 +120,7 @@ fn same_interfaces<J: Forms>(
 fn same_as<J: Forms>(
     alloc: Global,
     judge: &mut J,
+    budget: &mut Budget,
     bounds: Bounds,
     first: FoundSet,
     y: Shape,
@@ -130,8 +137,8 @@ fn same_as<J: Forms>(
 {
     match first {
         FoundSet::Is(s) => {
-            let second = set_of_layer(alloc, judge, bounds.left, y)?;
-            same_as_set(alloc, judge, bounds, s, second)
+            let second = set_of_layer(alloc, judge, budget, bounds.left, y)?;
+            same_as_set(alloc, judge, budget, bounds, s, second)
         }
         FoundSet::Absent => Ok(answer(bounds.short)),
         FoundSet::Unknown(d) => Ok(Answer::Unknown(d)),
@@ -143,6 +150,7 @@ fn same_as<J: Forms>(
 fn same_as_set<J: Forms>(
     alloc: Global,
     judge: &mut J,
+    budget: &mut Budget,
     bounds: Bounds,
     s: TypeSet,
     second: FoundSet,
@@ -158,7 +166,7 @@ fn same_as_set<J: Forms>(
         (J.tree judge.old) (J.tree judge.new) }
 {
     match second {
-        FoundSet::Is(t) => same_sets(alloc, judge, bounds, s, t),
+        FoundSet::Is(t) => same_sets(alloc, judge, budget, bounds, s, t),
         FoundSet::Absent => Ok(answer(bounds.short)),
         FoundSet::Unknown(d) => Ok(Answer::Unknown(d)),
     }
@@ -169,6 +177,7 @@ fn same_as_set<J: Forms>(
 fn same_sets<J: Forms>(
     alloc: Global,
     judge: &mut J,
+    budget: &mut Budget,
     bounds: Bounds,
     s: TypeSet,
     t: TypeSet,
@@ -189,7 +198,7 @@ fn same_sets<J: Forms>(
     if !sets_fit(&s, &t) {
         return Ok(Answer::No);
     }
-    same_fitting(alloc, judge, bounds, &s, &t)
+    same_fitting(alloc, judge, budget, bounds, &s, &t)
 }
 
 // The same of sets that fit, with their methods by name.
@@ -197,6 +206,7 @@ fn same_sets<J: Forms>(
 fn same_fitting<J: Forms>(
     alloc: Global,
     judge: &mut J,
+    budget: &mut Budget,
     bounds: Bounds,
     s: &TypeSet,
     t: &TypeSet,
@@ -214,9 +224,9 @@ fn same_fitting<J: Forms>(
         (J.world judge.old) (J.world judge.new) (J.is_type judge.old) (J.is_type judge.new)
         (J.tree judge.old) (J.tree judge.new) }
 {
-    let pairs = pairs_of(alloc, &s.methods, &t.methods)?;
-    match same_methods_all(alloc, judge, bounds, &s.methods, &t.methods, &pairs)? {
-        Answer::Yes => same_terms(alloc, judge, bounds, s, t),
+    let pairs = pairs_of(alloc, budget, &s.methods, &t.methods)?;
+    match same_methods_all(alloc, judge, budget, bounds, &s.methods, &t.methods, &pairs)? {
+        Answer::Yes => same_terms(alloc, judge, budget, bounds, s, t),
         other => Ok(other),
     }
 }
@@ -226,6 +236,7 @@ fn same_fitting<J: Forms>(
 fn same_methods_all<J: Forms>(
     alloc: Global,
     judge: &mut J,
+    budget: &mut Budget,
     bounds: Bounds,
     ms: &[Method],
     ns: &[Method],
@@ -241,16 +252,17 @@ fn same_methods_all<J: Forms>(
         (J.world judge.old) (J.world judge.new) (J.is_type judge.old) (J.is_type judge.new)
         (J.tree judge.old) (J.tree judge.new) }
 {
-    if !methods_fit(alloc, judge, ms, ns, pairs)? {
+    if !methods_fit(alloc, judge, budget, ms, ns, pairs)? {
         return Ok(Answer::No);
     }
-    same_methods(alloc, judge, bounds, ms, ns, pairs)
+    same_methods(alloc, judge, budget, bounds, ms, ns, pairs)
 }
 
 // Whether the types of the methods at the places of each pair fit.
 fn methods_fit<J: Forms>(
     alloc: Global,
     judge: &mut J,
+    budget: &mut Budget,
     ms: &[Method],
     ns: &[Method],
     pairs: &[(usize, usize)],
@@ -271,6 +283,7 @@ fn methods_fit<J: Forms>(
         if !outline_funcs(
             alloc,
             judge,
+            budget,
             &ms[*i].signature,
             &ns[*k].signature,
             &mut unread,
@@ -286,6 +299,7 @@ fn methods_fit<J: Forms>(
 fn same_methods<J: Forms>(
     alloc: Global,
     judge: &mut J,
+    budget: &mut Budget,
     bounds: Bounds,
     ms: &[Method],
     ns: &[Method],
@@ -302,7 +316,7 @@ fn same_methods<J: Forms>(
         (J.tree judge.old) (J.tree judge.new) }
 {
     for (i, k) in pairs {
-        match same_method(alloc, judge, bounds, &ms[*i], &ns[*k])? {
+        match same_method(alloc, judge, budget, bounds, &ms[*i], &ns[*k])? {
             Answer::Yes => {}
             other => return Ok(other),
         }
@@ -315,6 +329,7 @@ fn same_methods<J: Forms>(
 fn same_method<J: Forms>(
     alloc: Global,
     judge: &mut J,
+    budget: &mut Budget,
     bounds: Bounds,
     m: &Method,
     n: &Method,
@@ -329,8 +344,8 @@ fn same_method<J: Forms>(
         (J.tree judge.old) (J.tree judge.new) }
 {
     match bounds.behind(m.opened as u64 + n.opened as u64) {
-        Some(inner) => same_funcs(alloc, judge, inner, &m.signature, &n.signature),
-        None => funcs_by_form(alloc, judge, bounds, &m.signature, &n.signature),
+        Some(inner) => same_funcs(alloc, judge, budget, inner, &m.signature, &n.signature),
+        None => funcs_by_form(alloc, judge, budget, bounds, &m.signature, &n.signature),
     }
 }
 
@@ -339,6 +354,7 @@ fn same_method<J: Forms>(
 fn same_funcs<J: Forms>(
     alloc: Global,
     judge: &mut J,
+    budget: &mut Budget,
     bounds: Bounds,
     f: &FuncShape,
     g: &FuncShape,
@@ -353,15 +369,15 @@ fn same_funcs<J: Forms>(
         (J.tree judge.old) (J.tree judge.new) }
 {
     if bounds.levels == 0 {
-        return funcs_by_form(alloc, judge, bounds, f, g);
+        return funcs_by_form(alloc, judge, budget, bounds, f, g);
     }
     let mut pairs = Vec::new(alloc);
-    if !outline_funcs(alloc, judge, f, g, &mut pairs)? {
+    if !outline_funcs(alloc, judge, budget, f, g, &mut pairs)? {
         return Ok(Answer::No);
     }
     let inner = Bounds {
         levels: bounds.levels - 1,
         ..bounds
     };
-    same_pairs(alloc, judge, inner, pairs)
+    same_pairs(alloc, judge, budget, inner, pairs)
 }

@@ -1,6 +1,7 @@
 // Intersections of type sets (Go specification, "Interface types").
 ghost use Rattle.std.specs.Prelude.{◌≡◌, ◌+◌, ◌^◌, ◌<◌, IfOk, map};
 ghost use Rattle.std.specs.List.{AllByRecursion};
+ghost use Rattle.go_same.specs.Collect.{IsRaisableFound, IsRaisedFound};
 ghost use Rattle.go_same.specs.Joins.{IsBoth, IsBothSets, IsRaisable, IsRaised, raised_method, raised_part};
 
 use crate::set::{FoundSet, Method, TypeSet, UnionPart};
@@ -39,8 +40,19 @@ pub(crate) fn join_both(a: FoundSet, b: FoundSet) -> Result<FoundSet, NoMemory>
     }
 }
 
-/// The set with one name more opened on the way to each method and term.
-pub(crate) fn raised(set: TypeSet) -> TypeSet
+/// What is found, with one name more opened on the way to each method and term.
+pub(crate) fn raised_found(found: FoundSet) -> FoundSet
+    requires { IsRaisableFound found }
+    ensures { IsRaisedFound found result }
+{
+    match found {
+        FoundSet::Is(set) => FoundSet::Is(raised(set)),
+        FoundSet::Absent => FoundSet::Absent,
+        FoundSet::Unknown(d) => FoundSet::Unknown(d),
+    }
+}
+
+fn raised(set: TypeSet) -> TypeSet
     requires { IsRaisable set }
     ensures { IsRaised set result }
 {

@@ -64,3 +64,10 @@ pub(crate) fn is_param(shape: &Shape) -> bool
 {
     matches!(shape, Shape::Param(_, _))
 }
+
+/// Whether the type of this form is a name or a type parameter.
+pub(crate) fn is_name(shape: &Shape) -> bool
+    ensures { result ≡ spec.is_name_shape shape.now }
+{
+    matches!(shape, Shape::Named(_, _) | Shape::Param(_, _))
+}

@@ -1,11 +1,9 @@
-//! Type identity (Go specification, "Type identity"): its laws, and the parts of its decision over any judge.
+//! Type identity (Go specification, "Type identity"): its decision over any judge.
 //!
 //! Two types are walked beside each other (`outline`, `alike`), the type sets of interfaces are collected (`collect`),
-//! and their methods are put beside each other by name (`methods`). The call that joins these stands in no crate yet.
+//! their methods are put beside each other by name (`methods`) and their terms by what they are (`within`); `identity`
+//! joins these.
 #![tactic(auto)]
-
-// Laws.
-mod laws;
 
 // Layers of two types, beside each other.
 mod alike;
@@ -25,12 +23,10 @@ mod terms;
 
 // Type identity.
 mod bounds;
+mod budget;
 mod identity;
+mod one_type;
 mod short;
 mod within;
 
 pub use identity::same;
-pub use laws::{
-    identity_chains_without_unions, identity_is_decided_once, identity_is_reflexive,
-    identity_is_symmetric, identity_stays,
-};

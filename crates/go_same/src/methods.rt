@@ -4,10 +4,11 @@ ghost use Rattle.std.specs.List.{AllWithin, HoldsAt};
 ghost use Rattle.std.specs.List.Sorted.{IsPermutation};
 ghost use Rattle.go_term.specs.Types.{TypeData};
 ghost use Rattle.go_term.specs.declared.term.Term.{Term};
-ghost use Rattle.go_model.specs.Types.TypeIdentity.{by_name, sets_fit};
+ghost use Rattle.go_model.specs.Types.SetsFit.{by_name, sets_fit};
 ghost use Rattle.go_same.specs.MethodOrder as spec;
 ghost use Rattle.go_same.specs.Sets.{method_view, set_view};
 
+use crate::budget::Budget;
 use crate::set::{Method, TypeSet};
 use go_base::NoMemory;
 use std::alloc::Global;
@@ -25,9 +26,10 @@ pub(crate) fn sort_methods(methods: &mut Vec<Method>) -> Result<(), NoMemory>
 }
 
 /// The places of each of these methods and of each of the others that has its name, in the order of the first and then of
-/// the second. An error is want of memory.
+/// the second. An error is want of memory, or that fewer steps are left than there are pairs.
 pub(crate) fn pairs_of(
     alloc: Global,
+    budget: &mut Budget,
     ms: &[Method],
     ns: &[Method],
 ) -> Result<Vec<(usize, usize)>, NoMemory>
@@ -40,13 +42,14 @@ pub(crate) fn pairs_of(
     let mut from = 0;
     for (i, m) in ms.iter().enumerate() {
         from = first_not_before(ns, from, m);
-        add_named(&mut pairs, ms, i, ns, from)?;
+        add_named(budget, &mut pairs, ms, i, ns, from)?;
     }
     Ok(pairs)
 }
 
 // Adds the places of a method and of each of the others that has its name, of which the first can stand at `from`.
 fn add_named(
+    budget: &mut Budget,
     pairs: &mut Vec<(usize, usize)>,
     ms: &[Method],
     i: usize,
@@ -66,6 +69,7 @@ fn add_named(
         if !is_named_as(&ms[i], &ns[k]) {
             return Ok(());
         }
+        budget.spend(1)?;
         pairs.push((i, k))?;
     }
     Ok(())

@@ -9,6 +9,7 @@ ghost use Rattle.go_same.specs.Layers.{IsOwnPair, lent, pair_view, plain_types};
 ghost use Rattle.go_same.specs.Layers as layers;
 ghost use Rattle.go_same.specs.Sets.{func_type};
 
+use crate::budget::Budget;
 use crate::layer::{Homes, both_interfaces, same_func, same_layer, types_in, types_in_func};
 use crate::see::see_both;
 use go_base::NoMemory;
@@ -22,6 +23,7 @@ use std::alloc::Global;
 pub(crate) fn outline<J: Forms>(
     alloc: Global,
     judge: &mut J,
+    budget: &mut Budget,
     a: &Ty,
     b: &Ty,
     pairs: &mut Vec<(Shape, Shape)>,
@@ -41,7 +43,7 @@ pub(crate) fn outline<J: Forms>(
         (J.tree judge.old) (J.tree judge.new) }
 {
     let (x, y) = see_both(alloc, judge, a, b)?;
-    outline_layers(alloc, judge, x, y, pairs)
+    outline_layers(alloc, judge, budget, x, y, pairs)
 }
 
 /// The same of two types that have these layers.
@@ -49,6 +51,7 @@ pub(crate) fn outline<J: Forms>(
 pub(crate) fn outline_layers<J: Forms>(
     alloc: Global,
     judge: &mut J,
+    budget: &mut Budget,
     x: Shape,
     y: Shape,
     pairs: &mut Vec<(Shape, Shape)>,
@@ -66,11 +69,12 @@ pub(crate) fn outline_layers<J: Forms>(
         (J.world judge.old) (J.world judge.new) (J.is_type judge.old) (J.is_type judge.new)
         (J.tree judge.old) (J.tree judge.new) }
 {
+    budget.spend(1)?;
     if both_interfaces(&x, &y) {
         pairs.push((x, y))?;
         Ok(true)
     } else {
-        outline_apart(alloc, judge, &x, &y, pairs)
+        outline_apart(alloc, judge, budget, &x, &y, pairs)
     }
 }
 
@@ -79,6 +83,7 @@ pub(crate) fn outline_layers<J: Forms>(
 pub(crate) fn outline_apart<J: Forms>(
     alloc: Global,
     judge: &mut J,
+    budget: &mut Budget,
     x: &Shape,
     y: &Shape,
     pairs: &mut Vec<(Shape, Shape)>,
@@ -102,7 +107,7 @@ pub(crate) fn outline_apart<J: Forms>(
     }
     let ts = types_in(alloc, x)?;
     let us = types_in(alloc, y)?;
-    outline_all(alloc, judge, &ts, &us, pairs)
+    outline_all(alloc, judge, budget, &ts, &us, pairs)
 }
 
 // Whether each two of as many types fit.
@@ -110,6 +115,7 @@ pub(crate) fn outline_apart<J: Forms>(
 fn outline_all<J: Forms>(
     alloc: Global,
     judge: &mut J,
+    budget: &mut Budget,
     ts: &[&Ty],
     us: &[&Ty],
     pairs: &mut Vec<(Shape, Shape)>,
@@ -131,7 +137,7 @@ fn outline_all<J: Forms>(
         (J.tree judge.old) (J.tree judge.new) }
 {
     for (i, t) in ts.iter().enumerate() {
-        if !outline(alloc, judge, t, us[i], pairs)? {
+        if !outline(alloc, judge, budget, t, us[i], pairs)? {
             return Ok(false);
         }
     }
@@ -143,6 +149,7 @@ fn outline_all<J: Forms>(
 pub(crate) fn outline_funcs<J: Forms>(
     alloc: Global,
     judge: &mut J,
+    budget: &mut Budget,
     f: &FuncShape,
     g: &FuncShape,
     pairs: &mut Vec<(Shape, Shape)>,
@@ -162,10 +169,11 @@ pub(crate) fn outline_funcs<J: Forms>(
         (J.world judge.old) (J.world judge.new) (J.is_type judge.old) (J.is_type judge.new)
         (J.tree judge.old) (J.tree judge.new) }
 {
+    budget.spend(1)?;
     if !same_func(Homes::Unexported, f, g) {
         return Ok(false);
     }
     let ts = types_in_func(alloc, f)?;
     let us = types_in_func(alloc, g)?;
-    outline_all(alloc, judge, &ts, &us, pairs)
+    outline_all(alloc, judge, budget, &ts, &us, pairs)
 }

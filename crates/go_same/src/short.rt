@@ -8,6 +8,7 @@ ghost use Rattle.go_model.specs.Values.Quests.{run};
 ghost use Rattle.go_same.specs.Sets.{func_type};
 
 use crate::bounds::{Bounds, answer};
+use crate::budget::Budget;
 use crate::outline::{outline, outline_funcs};
 use go_base::NoMemory;
 use go_model::{Answer, Forms};
@@ -18,6 +19,7 @@ use std::alloc::Global;
 pub(crate) fn types_by_form<J: Forms>(
     alloc: Global,
     judge: &mut J,
+    budget: &mut Budget,
     bounds: Bounds,
     a: &Ty,
     b: &Ty,
@@ -35,7 +37,7 @@ pub(crate) fn types_by_form<J: Forms>(
         return Ok(Answer::No);
     }
     let mut unread = Vec::new(alloc);
-    let fits = outline(alloc, judge, a, b, &mut unread)?;
+    let fits = outline(alloc, judge, budget, a, b, &mut unread)?;
     Ok(answer(fits))
 }
 
@@ -43,6 +45,7 @@ pub(crate) fn types_by_form<J: Forms>(
 pub(crate) fn funcs_by_form<J: Forms>(
     alloc: Global,
     judge: &mut J,
+    budget: &mut Budget,
     bounds: Bounds,
     f: &FuncShape,
     g: &FuncShape,
@@ -60,6 +63,6 @@ pub(crate) fn funcs_by_form<J: Forms>(
         return Ok(Answer::No);
     }
     let mut unread = Vec::new(alloc);
-    let fits = outline_funcs(alloc, judge, f, g, &mut unread)?;
+    let fits = outline_funcs(alloc, judge, budget, f, g, &mut unread)?;
     Ok(answer(fits))
 }

@@ -1,18 +1,18 @@
 // Whether the terms of two type sets are the same (Go specification, "General interfaces", "Type identity").
 ghost use Rattle.std.specs.Prelude.{◌≡◌, IfOk, map};
 ghost use Rattle.std.specs.List.{AllByRecursion};
-ghost use Rattle.go_model.specs.Types.Forms.{answer_as, found_in};
+ghost use Rattle.go_model.specs.Types.Forms.{answer_as};
 ghost use Rattle.go_model.specs.Types.Own.{Keeps};
-ghost use Rattle.go_model.specs.Types.TypeIdentity as identity;
 ghost use Rattle.go_model.specs.Types.TypeIdentity.{ask_any, ask_each};
 ghost use Rattle.go_model.specs.Types.TypeSets.{plain};
-ghost use Rattle.go_model.specs.Types.UnderlyingType.{under};
-ghost use Rattle.go_model.specs.Values.Quests.{run, then_ask};
+ghost use Rattle.go_model.specs.Values.Quests.{run};
 ghost use Rattle.go_same.specs.Bounded as bounded;
 ghost use Rattle.go_same.specs.Sets.{IsOwnSet, part_view, set_view};
 
 use crate::bounds::{Bounds, answer};
+use crate::budget::Budget;
 use crate::identity::same_pairs;
+use crate::one_type::same_term;
 use crate::outline::outline;
 use crate::set::{TypeSet, UnionPart};
 use crate::short::types_by_form;
@@ -26,6 +26,7 @@ use std::alloc::Global;
 pub(crate) fn same_terms<J: Forms>(
     alloc: Global,
     judge: &mut J,
+    budget: &mut Budget,
     bounds: Bounds,
     s: &TypeSet,
     t: &TypeSet,
@@ -39,8 +40,8 @@ pub(crate) fn same_terms<J: Forms>(
         (J.world judge.old) (J.world judge.new) (J.is_type judge.old) (J.is_type judge.new)
         (J.tree judge.old) (J.tree judge.new) }
 {
-    match terms_lie(alloc, judge, bounds, s, t)? {
-        Answer::Yes => terms_lie(alloc, judge, bounds, t, s),
+    match terms_lie(alloc, judge, budget, bounds, s, t)? {
+        Answer::Yes => terms_lie(alloc, judge, budget, bounds, t, s),
         other => Ok(other),
     }
 }
@@ -50,6 +51,7 @@ pub(crate) fn same_terms<J: Forms>(
 fn terms_lie<J: Forms>(
     alloc: Global,
     judge: &mut J,
+    budget: &mut Budget,
     bounds: Bounds,
     s: &TypeSet,
     t: &TypeSet,
@@ -64,7 +66,7 @@ fn terms_lie<J: Forms>(
         (J.tree judge.old) (J.tree judge.new) }
 {
     for u in &s.unions {
-        match union_lies(alloc, judge, bounds, u, s, t)? {
+        match union_lies(alloc, judge, budget, bounds, u, s, t)? {
             Answer::Yes => {}
             other => return Ok(other),
         }
@@ -77,6 +79,7 @@ fn terms_lie<J: Forms>(
 fn union_lies<J: Forms>(
     alloc: Global,
     judge: &mut J,
+    budget: &mut Budget,
     bounds: Bounds,
     u: &[UnionPart],
     s: &TypeSet,
@@ -93,7 +96,7 @@ fn union_lies<J: Forms>(
         (J.tree judge.old) (J.tree judge.new) }
 {
     for a in u {
-        match term_lies(alloc, judge, bounds, a, s, t)? {
+        match term_lies(alloc, judge, budget, bounds, a, s, t)? {
             Answer::Yes => {}
             other => return Ok(other),
         }
@@ -106,6 +109,7 @@ fn union_lies<J: Forms>(
 fn term_lies<J: Forms>(
     alloc: Global,
     judge: &mut J,
+    budget: &mut Budget,
     bounds: Bounds,
     a: &UnionPart,
     s: &TypeSet,
@@ -121,8 +125,8 @@ fn term_lies<J: Forms>(
         (J.world judge.old) (J.world judge.new) (J.is_type judge.old) (J.is_type judge.new)
         (J.tree judge.old) (J.tree judge.new) }
 {
-    match lies_in(alloc, judge, bounds.of_premise(), &s.unions, a)? {
-        Answer::Yes => lies_in(alloc, judge, bounds, &t.unions, a),
+    match lies_in(alloc, judge, budget, bounds.of_premise(), &s.unions, a)? {
+        Answer::Yes => lies_in(alloc, judge, budget, bounds, &t.unions, a),
         Answer::No => Ok(Answer::Yes),
         other => Ok(other),
     }
@@ -133,6 +137,7 @@ fn term_lies<J: Forms>(
 fn lies_in<J: Forms>(
     alloc: Global,
     judge: &mut J,
+    budget: &mut Budget,
     bounds: Bounds,
     unions: &[Vec<UnionPart>],
     a: &UnionPart,
@@ -147,7 +152,7 @@ fn lies_in<J: Forms>(
         (J.tree judge.old) (J.tree judge.new) }
 {
     for u in unions {
-        match lies_in_union(alloc, judge, bounds, u, a)? {
+        match lies_in_union(alloc, judge, budget, bounds, u, a)? {
             Answer::Yes => {}
             other => return Ok(other),
         }
@@ -160,6 +165,7 @@ fn lies_in<J: Forms>(
 fn lies_in_union<J: Forms>(
     alloc: Global,
     judge: &mut J,
+    budget: &mut Budget,
     bounds: Bounds,
     u: &[UnionPart],
     a: &UnionPart,
@@ -174,7 +180,7 @@ fn lies_in_union<J: Forms>(
         (J.tree judge.old) (J.tree judge.new) }
 {
     for b in u {
-        match lies_within(alloc, judge, bounds, a, b)? {
+        match lies_within(alloc, judge, budget, bounds, a, b)? {
             Answer::No => {}
             other => return Ok(other),
         }
@@ -187,6 +193,7 @@ fn lies_in_union<J: Forms>(
 fn lies_within<J: Forms>(
     alloc: Global,
     judge: &mut J,
+    budget: &mut Budget,
     bounds: Bounds,
     a: &UnionPart,
     b: &UnionPart,
@@ -200,19 +207,22 @@ fn lies_within<J: Forms>(
         (J.world judge.old) (J.world judge.new) (J.is_type judge.old) (J.is_type judge.new)
         (J.tree judge.old) (J.tree judge.new) }
 {
+    budget.spend(1)?;
     let opened = a.opened as u64 + b.opened as u64;
     match (a.tilde, b.tilde) {
         (true, false) => Ok(Answer::No),
-        (false, true) => lies_under(alloc, judge, bounds, opened + 1, &a.ty, &b.ty),
-        _ => same_behind(alloc, judge, bounds, opened, &a.ty, &b.ty),
+        (false, true) => has_underlying(alloc, judge, budget, bounds, opened + 1, &a.ty, &b.ty),
+        (true, true) => same_behind(alloc, judge, budget, bounds, opened, &a.ty, &b.ty),
+        (false, false) => same_term(alloc, judge, budget, bounds, a, b),
     }
 }
 
-// Whether the underlying type of a type is the other, behind so many names.
+/// Whether the underlying type of a type is the other, behind so many names.
 #[cycle(same)]
-fn lies_under<J: Forms>(
+pub(crate) fn has_underlying<J: Forms>(
     alloc: Global,
     judge: &mut J,
+    budget: &mut Budget,
     bounds: Bounds,
     opened: u64,
     a: &Ty,
@@ -221,26 +231,25 @@ fn lies_under<J: Forms>(
     requires a_own { J.is_type judge.old a.now }
     requires b_own { J.is_type judge.old b.now }
     ensures answer { IfOk result (λ answer. answer_as answer
-        ≡ run (J.headers judge.old) (then_ask (under (plain (J.tree judge.old a.now)))
-        (λ reach. identity.same_found (identity.same bounds.levels) bounds.left bounds.short opened
-        (plain (J.tree judge.old b.now)) (found_in reach)))) }
+        ≡ run (J.headers judge.old) (bounded.has_underlying bounds opened (plain (J.tree judge.old a.now)) (plain (J.tree judge.old b.now)))) }
     ensures keeps { Keeps (J.headers judge.old) (J.headers judge.new) (J.names judge.old) (J.names judge.new)
         (J.outcomes judge.old) (J.outcomes judge.new) (J.is_spent judge.old) (J.is_spent judge.new)
         (J.world judge.old) (J.world judge.new) (J.is_type judge.old) (J.is_type judge.new)
         (J.tree judge.old) (J.tree judge.new) }
 {
     match judge.underlying(alloc, a)? {
-        Form::Is(u) => same_behind(alloc, judge, bounds, opened, &u, b),
+        Form::Is(u) => same_behind(alloc, judge, budget, bounds, opened, &u, b),
         Form::Absent => Ok(answer(bounds.short)),
         Form::Unknown(d) => Ok(Answer::Unknown(d)),
     }
 }
 
-// Whether two types are identical, behind so many names.
+/// Whether two types are identical, behind so many names.
 #[cycle(same)]
-fn same_behind<J: Forms>(
+pub(crate) fn same_behind<J: Forms>(
     alloc: Global,
     judge: &mut J,
+    budget: &mut Budget,
     bounds: Bounds,
     opened: u64,
     a: &Ty,
@@ -249,16 +258,15 @@ fn same_behind<J: Forms>(
     requires a_own { J.is_type judge.old a.now }
     requires b_own { J.is_type judge.old b.now }
     ensures answer { IfOk result (λ answer. answer_as answer
-        ≡ run (J.headers judge.old) (identity.behind (identity.same bounds.levels) bounds.left bounds.short opened
-        (plain (J.tree judge.old a.now)) (plain (J.tree judge.old b.now)))) }
+        ≡ run (J.headers judge.old) (bounded.behind bounds opened (plain (J.tree judge.old a.now)) (plain (J.tree judge.old b.now)))) }
     ensures keeps { Keeps (J.headers judge.old) (J.headers judge.new) (J.names judge.old) (J.names judge.new)
         (J.outcomes judge.old) (J.outcomes judge.new) (J.is_spent judge.old) (J.is_spent judge.new)
         (J.world judge.old) (J.world judge.new) (J.is_type judge.old) (J.is_type judge.new)
         (J.tree judge.old) (J.tree judge.new) }
 {
     match bounds.behind(opened) {
-        Some(inner) => same_types(alloc, judge, inner, a, b),
-        None => types_by_form(alloc, judge, bounds, a, b),
+        Some(inner) => same_types(alloc, judge, budget, inner, a, b),
+        None => types_by_form(alloc, judge, budget, bounds, a, b),
     }
 }
 
@@ -267,6 +275,7 @@ fn same_behind<J: Forms>(
 fn same_types<J: Forms>(
     alloc: Global,
     judge: &mut J,
+    budget: &mut Budget,
     bounds: Bounds,
     a: &Ty,
     b: &Ty,
@@ -281,15 +290,15 @@ fn same_types<J: Forms>(
         (J.tree judge.old) (J.tree judge.new) }
 {
     if bounds.levels == 0 {
-        return types_by_form(alloc, judge, bounds, a, b);
+        return types_by_form(alloc, judge, budget, bounds, a, b);
     }
     let mut pairs = Vec::new(alloc);
-    if !outline(alloc, judge, a, b, &mut pairs)? {
+    if !outline(alloc, judge, budget, a, b, &mut pairs)? {
         return Ok(Answer::No);
     }
     let inner = Bounds {
         levels: bounds.levels - 1,
         ..bounds
     };
-    same_pairs(alloc, judge, inner, pairs)
+    same_pairs(alloc, judge, budget, inner, pairs)
 }

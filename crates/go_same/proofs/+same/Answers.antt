@@ -1,13 +1,13 @@
-use Rattle.std.proofs.Common.{◌≡◌, ◌++◌, ◌-◌, map, refl, sym, ap, subst, ◌∙◌, arith, ◌<◌, List, Vec, Global, get_or, length}
+use Rattle.std.proofs.Common.{◌≡◌, ◌++◌, ◌+◌, ◌-◌, map, refl, sym, ap, subst, ◌∙◌, arith, ◌<◌, List, Vec, Global, get_or, length}
 use Rattle.std.proofs.lemmas.Result.{IfOk-weaker}
 use Rattle.std.specs.Vec.Iter.{into_iter_items, into_iter_len}
 use Rattle.go_model.specs.Types.Forms.{answer_as, form_as}
-use Rattle.go_model.specs.Types.TypeIdentity.{ask_each, fit, interfaces_in, ask_any}
+use Rattle.go_model.specs.Types.TypeIdentity.{and_ask, ask_each, fit, interfaces_in, ask_any}
 use Rattle.go_model.specs.Types.TypeSets.{plain}
-use Rattle.go_model.specs.Values.Quests.{Decided, Done}
+use Rattle.go_model.specs.Values.Quests.{Decided, Done, run}
 use Rattle.go_same.specs.Bounded as bounded
 use Rattle.go_same.specs.Layers.{pair_view}
-use Rattle.go_same.specs.MethodOrder.{views_at}
+use Rattle.go_same.specs.MethodOrder.{named_pairs, views_at}
 use Rattle.go_same.specs.Sets.{IsOwnFound, func_type, method_view, set_view, part_view}
 use Rattle.go_same.proofs.KeepLemmas.{keeps_then, set_types}
 use Rattle.go_same.proofs.KeptLemmas.{layer_stays}
@@ -20,8 +20,8 @@ use Rattle.go_model.specs.Types.TypeIdentity as identity
 use Rattle.go_same.specs.declared.set.UnionPart.{UnionPart}
 use Rattle.go_same.proofs.AskLemmas.{and-other, and-yes, any-ends, any-next, each-ends, each-next, flat-ends, flat-next, implied-no, implied-other, implied-yes}
 use Rattle.go_same.proofs.EitherLemmas.{left_parts}
-use Rattle.go_same.proofs.ReachLemmas.{lies-found}
-use Rattle.go_same.proofs.TermLemmas.{any-moved, behind-moved, lies-moved, pairs-asked, premise-asked, term-moved, terms-moved, union-moved, within-moved}
+use Rattle.go_same.proofs.ReachLemmas.{both-found, lies-found}
+use Rattle.go_same.proofs.TermLemmas.{any-moved, behind-moved, declared-moved, found-moved, lies-moved, pairs-asked, premise-asked, term-moved, terms-moved, union-moved, within-moved}
 
 pub identity::same_pairs-same_interfaces-requires : goal.identity::same_pairs-same_interfaces-requires
 identity::same_pairs-same_interfaces-requires g t c κs lives =
@@ -109,7 +109,13 @@ identity::same_fitting-returns-in-Yes-clause-answer g t c =
     let tree = g.J.Ask.tree c.args.judge.now in
     let keeps = c.same_methods_all.ensures.keeps in
     let told = told_named tree (g.J.Ask.headers c.args.judge.now) c.args.bounds c.args.s.now.methods.items c.args.t.now.methods.items c.deref.result.now c.deref-2.result.now c.deref-3.result.now c.deref-4.result.now c.in_ok-pairs.pairs.items c.deref-5.result.now c.deref.ensures.value c.deref-2.ensures.value c.deref-3.ensures.value c.deref-4.ensures.value c.deref-5.ensures.value c.in_ok-pairs.ensures.in_range (c.in_ok-pairs.ensures.pairs tree) c.in_ok-other.other c.in_ok-other.ensures.answer in
-    IfOk-weaker c.same_terms.result _ _ (λ r h. h ∙ terms_moved keeps.kept (g.J.Ask.headers c.args.judge.now) (g.J.Ask.headers c.same_methods_all.new.judge) keeps.same c.args.bounds c.args.s.now c.args.t.now c.requires.s_own c.requires.t_own _ (sym (ap answer_as c.in-Yes.is) ∙ told)) c.same_terms.ensures.answer
+    let known = g.J.Ask.headers c.args.judge.now in
+    let known' = g.J.Ask.headers c.same_methods_all.new.judge in
+    let tree' = g.J.Ask.tree c.same_methods_all.new.judge in
+    let methods = bounded.same_methods_all c.args.bounds (named_pairs (map (method_view tree) c.args.s.now.methods.items) (map (method_view tree) c.args.t.now.methods.items)) in
+    let left : run known' (bounded.same_terms c.args.bounds (set_view tree' c.args.s.now) (set_view tree' c.args.t.now)) ≡ run known (and_ask methods (bounded.same_terms c.args.bounds (set_view tree c.args.s.now) (set_view tree c.args.t.now))) =
+    terms_moved {own = g.J.Ask.is_type c.args.judge.now} {own' = g.J.Ask.is_type c.same_methods_all.new.judge} {tree = tree} {tree' = tree'} keeps.kept known known' keeps.same c.args.bounds c.args.s.now c.args.t.now c.requires.s_own c.requires.t_own methods (sym (ap answer_as c.in-Yes.is) ∙ told) in
+    IfOk-weaker c.same_terms.result (λ r. answer_as r ≡ run known' (bounded.same_terms c.args.bounds (set_view tree' c.args.s.now) (set_view tree' c.args.t.now))) _ (λ r h. h ∙ left) c.same_terms.ensures.answer
 
 pub identity::same_methods_all-returns-then-not-branch-clause-answer : goal.identity::same_methods_all-returns-then-not-branch-clause-answer
 identity::same_methods_all-returns-then-not-branch-clause-answer g t c other =
@@ -300,16 +306,51 @@ within::same_types-returns-clause-answer g t c =
     (map (pair_view (g.J.Ask.tree c.outline.new.judge)) c.outline.new.pairs.items)
     (here.pairs c.if-not-branch.false ∙ ap (λ ps. map (pair_view (g.J.Ask.tree c.args.judge.now)) ps ++ interfaces_in (plain (g.J.Ask.tree c.args.judge.now c.args.a.now)) (plain (g.J.Ask.tree c.args.judge.now c.args.b.now))) c.new-pairs.ensures.items)) c.same_pairs.ensures.answer
 
-pub within::lies_under-returns-in-Is-clause-answer : goal.within::lies_under-returns-in-Is-clause-answer
-within::lies_under-returns-in-Is-clause-answer g t c =
+pub within::has_underlying-returns-in-Is-clause-answer : goal.within::has_underlying-returns-in-Is-clause-answer
+within::has_underlying-returns-in-Is-clause-answer g t c =
     let here = c.in_ok-u.ensures.keeps in
     IfOk-weaker c.same_behind.result _ _ (λ r h. h ∙ behind-moved (g.J.Ask.headers c.args.judge.now) (g.J.Ask.headers c.underlying.new.self) here.same c.args.bounds c.args.opened (plain (g.J.Ask.tree c.underlying.new.self c.in-Is.u)) (here.kept.trees c.args.b.now c.requires.b_own)
     ∙ lies-found (g.J.Ask.headers c.args.judge.now) c.args.bounds c.args.opened (g.J.Ask.tree c.args.judge.now c.args.a.now) (plain (g.J.Ask.tree c.args.judge.now c.args.b.now)) _ (ap (form_as (g.J.Ask.tree c.underlying.new.self)) (sym c.in-Is.is) ∙ c.in_ok-u.ensures.answer)) c.same_behind.ensures.answer
 
-pub within::lies_under-returns-in-Absent-clause-answer : goal.within::lies_under-returns-in-Absent-clause-answer
-within::lies_under-returns-in-Absent-clause-answer g t c =
+pub within::has_underlying-returns-in-Absent-clause-answer : goal.within::has_underlying-returns-in-Absent-clause-answer
+within::has_underlying-returns-in-Absent-clause-answer g t c =
     c.answer.ensures ∙ lies-found (g.J.Ask.headers c.args.judge.now) c.args.bounds c.args.opened (g.J.Ask.tree c.args.judge.now c.args.a.now) (plain (g.J.Ask.tree c.args.judge.now c.args.b.now)) _ (ap (form_as (g.J.Ask.tree c.underlying.new.self)) (sym c.in-Absent.is) ∙ c.in_ok-u.ensures.answer)
 
-pub within::lies_under-returns-in-Unknown-clause-answer : goal.within::lies_under-returns-in-Unknown-clause-answer
-within::lies_under-returns-in-Unknown-clause-answer g t c =
+pub within::has_underlying-returns-in-Unknown-clause-answer : goal.within::has_underlying-returns-in-Unknown-clause-answer
+within::has_underlying-returns-in-Unknown-clause-answer g t c =
     lies-found (g.J.Ask.headers c.args.judge.now) c.args.bounds c.args.opened (g.J.Ask.tree c.args.judge.now c.args.a.now) (plain (g.J.Ask.tree c.args.judge.now c.args.b.now)) _ (ap (form_as (g.J.Ask.tree c.underlying.new.self)) (sym c.in-Unknown.is) ∙ c.in_ok-u.ensures.answer)
+
+pub one_type::same_apart-returns-in-Yes-clause-answer : goal.one_type::same_apart-returns-in-Yes-clause-answer
+one_type::same_apart-returns-in-Yes-clause-answer g t c =
+    let here = c.in_ok-other.ensures.keeps in
+    let known = g.J.Ask.headers c.args.judge.now in
+    let opened = c.args.a.now.opened + c.args.b.now.opened in
+    let first = plain (g.J.Ask.tree c.args.judge.now c.args.a.now.ty) in
+    let second = plain (g.J.Ask.tree c.args.judge.now c.args.b.now.ty) in
+    IfOk-weaker c.same_declared.result _ _ (λ r h. h ∙ declared-moved here.kept known (g.J.Ask.headers c.same_behind.new.judge) here.same c.args.bounds (opened + 2) c.args.a.now.ty c.args.b.now.ty c.requires.a_own c.requires.b_own
+    ∙ and-yes known (bounded.behind c.args.bounds opened first second) (bounded.same_declared c.args.bounds (opened + 2) first second) c.in_ok-other.other c.in-Yes.is c.in_ok-other.ensures.answer) c.same_declared.ensures.answer
+
+pub one_type::same_apart-returns-in_default : goal.one_type::same_apart-returns-in_default
+one_type::same_apart-returns-in_default g t c =
+    let opened = c.args.a.now.opened + c.args.b.now.opened in
+    let first = plain (g.J.Ask.tree c.args.judge.now c.args.a.now.ty) in
+    let second = plain (g.J.Ask.tree c.args.judge.now c.args.b.now.ty) in
+    record {
+      answer = and-other (g.J.Ask.headers c.args.judge.now) (bounded.behind c.args.bounds opened first second) (bounded.same_declared c.args.bounds (opened + 2) first second) c.in_ok-other.other c.in_default.not-Yes c.in_ok-other.ensures.answer;
+      keeps = c.in_ok-other.ensures.keeps;
+    }
+
+pub one_type::same_underlying-returns-in-Is-clause-answer : goal.one_type::same_underlying-returns-in-Is-clause-answer
+one_type::same_underlying-returns-in-Is-clause-answer g t c =
+    let here = c.in_ok-v.ensures.keeps in
+    let known = g.J.Ask.headers c.args.judge.now in
+    IfOk-weaker c.has_underlying.result _ _ (λ r h. h ∙ found-moved known (g.J.Ask.headers c.underlying.new.self) here.same c.args.bounds c.args.opened (here.kept.trees c.args.a.now c.requires.a_own) (plain (g.J.Ask.tree c.underlying.new.self c.in-Is.v))
+    ∙ both-found known c.args.bounds c.args.opened (plain (g.J.Ask.tree c.args.judge.now c.args.a.now)) (g.J.Ask.tree c.args.judge.now c.args.b.now) _ (ap (form_as (g.J.Ask.tree c.underlying.new.self)) (sym c.in-Is.is) ∙ c.in_ok-v.ensures.answer)) c.has_underlying.ensures.answer
+
+pub one_type::same_underlying-returns-in-Absent-clause-answer : goal.one_type::same_underlying-returns-in-Absent-clause-answer
+one_type::same_underlying-returns-in-Absent-clause-answer g t c =
+    c.answer.ensures ∙ both-found (g.J.Ask.headers c.args.judge.now) c.args.bounds c.args.opened (plain (g.J.Ask.tree c.args.judge.now c.args.a.now)) (g.J.Ask.tree c.args.judge.now c.args.b.now) _ (ap (form_as (g.J.Ask.tree c.underlying.new.self)) (sym c.in-Absent.is) ∙ c.in_ok-v.ensures.answer)
+
+pub one_type::same_underlying-returns-in-Unknown-clause-answer : goal.one_type::same_underlying-returns-in-Unknown-clause-answer
+one_type::same_underlying-returns-in-Unknown-clause-answer g t c =
+    both-found (g.J.Ask.headers c.args.judge.now) c.args.bounds c.args.opened (plain (g.J.Ask.tree c.args.judge.now c.args.a.now)) (g.J.Ask.tree c.args.judge.now c.args.b.now) _ (ap (form_as (g.J.Ask.tree c.underlying.new.self)) (sym c.in-Unknown.is) ∙ c.in_ok-v.ensures.answer)

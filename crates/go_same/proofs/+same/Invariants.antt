@@ -13,64 +13,76 @@ use Rattle.go_same.specs.Sets.{method_view, part_view, set_view}
 use Rattle.go_same.proofs.+same.Given as goal
 
 abbrev pub decreases-identity::same_pairs : goal.decreases-identity::same_pairs
-decreases-identity::same_pairs g l = 16 * l.bounds.levels + 15
+decreases-identity::same_pairs g l = 20 * l.bounds.levels + 19
 
 abbrev pub decreases-identity::same_interfaces : goal.decreases-identity::same_interfaces
-decreases-identity::same_interfaces g l = 16 * l.bounds.levels + 14
+decreases-identity::same_interfaces g l = 20 * l.bounds.levels + 18
 
 abbrev pub decreases-identity::same_as : goal.decreases-identity::same_as
-decreases-identity::same_as g l = 16 * l.bounds.levels + 13
+decreases-identity::same_as g l = 20 * l.bounds.levels + 17
 
 abbrev pub decreases-identity::same_as_set : goal.decreases-identity::same_as_set
-decreases-identity::same_as_set g l = 16 * l.bounds.levels + 12
+decreases-identity::same_as_set g l = 20 * l.bounds.levels + 16
 
 abbrev pub decreases-identity::same_sets : goal.decreases-identity::same_sets
-decreases-identity::same_sets g l = 16 * l.bounds.levels + 11
+decreases-identity::same_sets g l = 20 * l.bounds.levels + 15
 
 abbrev pub decreases-identity::same_fitting : goal.decreases-identity::same_fitting
-decreases-identity::same_fitting g l = 16 * l.bounds.levels + 10
+decreases-identity::same_fitting g l = 20 * l.bounds.levels + 14
 
 abbrev pub decreases-identity::same_methods_all : goal.decreases-identity::same_methods_all
-decreases-identity::same_methods_all g l = 16 * l.bounds.levels + 9
+decreases-identity::same_methods_all g l = 20 * l.bounds.levels + 13
 
 abbrev pub decreases-identity::same_methods : goal.decreases-identity::same_methods
-decreases-identity::same_methods g l = 16 * l.bounds.levels + 8
+decreases-identity::same_methods g l = 20 * l.bounds.levels + 12
 
 abbrev pub decreases-identity::same_method : goal.decreases-identity::same_method
-decreases-identity::same_method g l = 16 * l.bounds.levels + 7
+decreases-identity::same_method g l = 20 * l.bounds.levels + 11
 
 abbrev pub decreases-identity::same_funcs : goal.decreases-identity::same_funcs
-decreases-identity::same_funcs g l = 16 * l.bounds.levels + 0
+decreases-identity::same_funcs g l = 20 * l.bounds.levels + 0
 
 abbrev pub decreases-within::same_terms : goal.decreases-within::same_terms
-decreases-within::same_terms g l = 16 * l.bounds.levels + 9
+decreases-within::same_terms g l = 20 * l.bounds.levels + 13
 
 abbrev pub decreases-within::terms_lie : goal.decreases-within::terms_lie
-decreases-within::terms_lie g l = 16 * l.bounds.levels + 8
+decreases-within::terms_lie g l = 20 * l.bounds.levels + 12
 
 abbrev pub decreases-within::union_lies : goal.decreases-within::union_lies
-decreases-within::union_lies g l = 16 * l.bounds.levels + 7
+decreases-within::union_lies g l = 20 * l.bounds.levels + 11
 
 abbrev pub decreases-within::term_lies : goal.decreases-within::term_lies
-decreases-within::term_lies g l = 16 * l.bounds.levels + 6
+decreases-within::term_lies g l = 20 * l.bounds.levels + 10
 
 abbrev pub decreases-within::lies_in : goal.decreases-within::lies_in
-decreases-within::lies_in g l = 16 * l.bounds.levels + 5
+decreases-within::lies_in g l = 20 * l.bounds.levels + 9
 
 abbrev pub decreases-within::lies_in_union : goal.decreases-within::lies_in_union
-decreases-within::lies_in_union g l = 16 * l.bounds.levels + 4
+decreases-within::lies_in_union g l = 20 * l.bounds.levels + 8
 
 abbrev pub decreases-within::lies_within : goal.decreases-within::lies_within
-decreases-within::lies_within g l = 16 * l.bounds.levels + 3
+decreases-within::lies_within g l = 20 * l.bounds.levels + 7
 
-abbrev pub decreases-within::lies_under : goal.decreases-within::lies_under
-decreases-within::lies_under g l = 16 * l.bounds.levels + 2
+abbrev pub decreases-one_type::same_term : goal.decreases-one_type::same_term
+decreases-one_type::same_term g l = 20 * l.bounds.levels + 6
+
+abbrev pub decreases-one_type::same_apart : goal.decreases-one_type::same_apart
+decreases-one_type::same_apart g l = 20 * l.bounds.levels + 5
+
+abbrev pub decreases-one_type::same_declared : goal.decreases-one_type::same_declared
+decreases-one_type::same_declared g l = 20 * l.bounds.levels + 4
+
+abbrev pub decreases-one_type::same_underlying : goal.decreases-one_type::same_underlying
+decreases-one_type::same_underlying g l = 20 * l.bounds.levels + 3
+
+abbrev pub decreases-within::has_underlying : goal.decreases-within::has_underlying
+decreases-within::has_underlying g l = 20 * l.bounds.levels + 2
 
 abbrev pub decreases-within::same_behind : goal.decreases-within::same_behind
-decreases-within::same_behind g l = 16 * l.bounds.levels + 1
+decreases-within::same_behind g l = 20 * l.bounds.levels + 1
 
 abbrev pub decreases-within::same_types : goal.decreases-within::same_types
-decreases-within::same_types g l = 16 * l.bounds.levels + 0
+decreases-within::same_types g l = 20 * l.bounds.levels + 0
 
 -- what is left answers the whole
 abbrev pub invariant-within::terms_lie-loop-u : goal.invariant-within::terms_lie-loop-u

@@ -1,15 +1,23 @@
 -- Laws of type identity.
--- Says which types have no unions: no interface in them, however many names are opened, has a union that leaves a type out, nor
--- has one in the types of its methods; and that identity chains through such a type.
-use Rattle.std.specs.Prelude.{◌≡◌, ℕ, zero, suc, ◌+◌, true, false, Some}
+-- Says how identity chains; which types have no unions: no interface in them, however many names are opened, has a union that
+-- leaves a type out, nor has one in the types of its methods; and that identity chains through such a type.
+use Rattle.std.specs.Prelude.{◌≡◌, ℕ, zero, suc, ◌+◌, Bool, true, false, Some}
 use Rattle.std.specs.List.{AllByRecursion}
 use Rattle.go_term.specs.Types.{TypeData}
 use Rattle.go_model.specs.Outcomes.Walk.{Headers}
-use Rattle.go_model.specs.Types.TypeIdentity.{identical, interfaces_in, is_all, most_levels, most_opened, same}
+use Rattle.go_model.specs.Types.SetsFit.{is_all}
+use Rattle.go_model.specs.Types.TypeIdentity.{identical, interfaces_in, most_levels, most_opened, same}
 use Rattle.go_model.specs.Types.TypeSets.{SetData, plain, set_of}
 use Rattle.go_model.specs.Values.Quests.{Decided, run}
 
 module _ (headers : Headers) where
+  -- where a first type is identical to a second and that to a third, it is true whether the first is identical to the third, where
+  -- that is decided and as many names may be opened on a path as for both questions together
+  abbrev pub Chains : TypeData → TypeData → TypeData → Bool → Type 0
+  Chains a b c r =
+      run headers (identical a b) ≡ Decided true → run headers (identical b c) ≡ Decided true
+      → run headers (same most_levels false (most_opened + most_opened) (plain a) (plain c)) ≡ Decided r → r ≡ true
+
   -- levels counts interfaces within methods of interfaces
   abbrev pub HasNoUnions : ℕ → TypeData → Type 0
   HasNoUnions zero t = Unit {0}

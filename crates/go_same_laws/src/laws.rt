@@ -5,7 +5,7 @@ ghost use Rattle.go_model.specs.Outcomes.Records.{HeaderData};
 ghost use Rattle.go_model.specs.Outcomes.Walk.{Headers};
 ghost use Rattle.go_model.specs.Types.TypeIdentity.{identical};
 ghost use Rattle.go_model.specs.Values.Quests.{Decided, IsPart, Stays, run};
-ghost use Rattle.go_same.specs.Laws.{ChainsThrough};
+ghost use Rattle.go_same_laws.specs.Laws.{Chains, ChainsThrough};
 
 /// Each type is identical to itself, whatever headers are known.
 pub fn identity_is_reflexive()
@@ -29,6 +29,12 @@ pub fn identity_is_decided_once()
 pub fn identity_stays()
     ensures { (known more : ℕ → Option HeaderData) → IsPart known more
         → (a b : TypeData) → Stays more (run known (identical a b)) (run more (identical a b)) }
+{}
+
+/// Where a type is identical to another and that to a third, the first is identical to the third, where that is decided
+/// and as many names may be opened on a path as for both questions together.
+pub fn identity_chains()
+    ensures { (headers : Headers) (a b c : TypeData) (r : Bool) → Chains headers a b c r }
 {}
 
 /// Where a type is identical to one in whose interfaces no union leaves a type out, and that one to a third, the first is

@@ -1,6 +1,5 @@
 -- Types up to what identity sees: types that are alike are equal but for objects, and what fits chains.
-use Rattle.std.proofs.Common.{◌≡◌, ℕ, Bool, true, false, ◌&&◌, if◌then◌else◌, List, [], ◌∷◌, get_or, refl, sym, ap, subst, ◌∙◌}
-use Rattle.std.specs.List.{AllByRecursion}
+use Rattle.std.proofs.Common.{◌≡◌, ℕ, Bool, true, false, ◌&&◌, if◌then◌else◌, List, [], ◌∷◌, get_or, refl, sym, ap, ◌∙◌}
 use Rattle.std.specs.Prelude.{◌==◌}
 use Rattle.std.proofs.lemmas.Bool.{eqb-true}
 use Rattle.std.proofs.lemmas.Slice.Eq.{bytes_eq-Decides}
@@ -12,10 +11,9 @@ use Rattle.go_term.specs.declared.term.Dir.{Dir}
 use Rattle.go_term.specs.declared.term.Dir.TheVariants as D
 use Rattle.go_term.specs.Types.{Head, basic, pointer, slice, array, map_type, channel, function, struct_type, interface_type, tuple, named, param, bound, list, field, method, union, union_term, FieldHead, MethodHead, TypeData, Parts, made, no_parts, more_parts}
 use Rattle.go_model.specs.Types.Heads.{alike, all_alike, basic_number, dir_number, same_field, same_head, same_method, same_name, same_truth}
-use Rattle.go_model.specs.Types.TypeIdentity.{all_fit, are_interfaces, fit, interfaces_in, interfaces_in_all}
+use Rattle.go_model.specs.Types.TypeIdentity.{all_fit, are_interfaces, fit}
 use Rattle.go_model.specs.Types.TypeSets.{home_of, no_object, plain, plain_all, without_object}
-use Rattle.go_same.proofs.AlikeLemmas.{head_itself, near}
-use Rattle.go_same.proofs.EveryLemmas.{every_both, every_first, every_second}
+use Rattle.go_same_laws.proofs.AlikeLemmas.{head_itself, near}
 
 -- TESTS
 
@@ -85,7 +83,7 @@ object_is : (d e : ObjId) → (d.0 == e.0) ≡ true → d ≡ e
 object_is d e f = let same = eqb-true d.0 e.0 f in λ i. record { 0 = same i }
 
 -- what the test of heads sees of one
-abbrev seen : (List ℕ → List ℕ → List ℕ) → Head → Head
+abbrev pub seen : (List ℕ → List ℕ → List ℕ) → Head → Head
 seen home (field f) = field (record f { object = no_object; «package» = home f.name f.«package» })
 seen home (method m) = method (record m { object = no_object; «package» = home m.name m.«package» })
 seen home head = head
@@ -237,11 +235,11 @@ plain_is t u e f told = sym e ∙ plain_alike t u told ∙ f
 
 -- TYPES THAT FIT
 
-abbrev is_literal : Head → Bool
+abbrev pub is_literal : Head → Bool
 is_literal interface_type = true
 is_literal h = false
 
-are_literals : (h g : Head) → are_interfaces h g ≡ (is_literal h && is_literal g)
+pub are_literals : (h g : Head) → are_interfaces h g ≡ (is_literal h && is_literal g)
 are_literals interface_type interface_type = refl
 are_literals h g = refl
 
@@ -255,20 +253,35 @@ heads_literal : (h g : Head) → same_head home_of h g ≡ true → is_literal h
 heads_literal h g e = sym (literal_seen h) ∙ ap is_literal (head_seen home_of h g e) ∙ literal_seen g
 
 -- what it tells of two heads and their parts that they fit: both are interfaces, or neither is and they are the same throughout
-record Fits (p q heads parts : Bool) : Type 0 where
-  alike : p ≡ q
-  same_heads : q ≡ false → heads ≡ true
-  same_parts : q ≡ false → parts ≡ true
+pub record Fits (p q heads parts : Bool) : Type 0 where
+  pub alike : p ≡ q
+  pub same_heads : q ≡ false → heads ≡ true
+  pub same_parts : q ≡ false → parts ≡ true
 
 fits_by : (p q heads parts : Bool) → (heads ≡ true → p ≡ q) → (if p && q then true else (heads && parts)) ≡ true → Fits p q heads parts
 fits_by true true heads parts so told = record { alike = refl; same_heads = λ e. absurd (let wrong : true ≡ false = e in cc wrong); same_parts = λ e. absurd (let wrong : true ≡ false = e in cc wrong) }
 fits_by true false heads parts so told = let both = both_true heads parts told in record { alike = so both.0; same_heads = λ e. both.0; same_parts = λ e. both.1 }
 fits_by false q heads parts so told = let both = both_true heads parts told in record { alike = so both.0; same_heads = λ e. both.0; same_parts = λ e. both.1 }
 
-fits : (h g : Head) (ts us : Parts) → fit (made h ts) (made g us) ≡ true → Fits (is_literal h) (is_literal g) (same_head home_of h g) (all_fit ts us)
+pub fits : (h g : Head) (ts us : Parts) → fit (made h ts) (made g us) ≡ true → Fits (is_literal h) (is_literal g) (same_head home_of h g) (all_fit ts us)
 fits h g ts us e =
     fits_by (is_literal h) (is_literal g) (same_head home_of h g) (all_fit ts us) (heads_literal h g)
     (sym (λ i. if are_literals h g i then true else (same_head home_of h g && all_fit ts us)) ∙ e)
+
+literal_is : (h : Head) → is_literal h ≡ true → h ≡ interface_type
+literal_is interface_type e = refl
+literal_is h e = absurd (let wrong : false ≡ true = e in cc wrong)
+
+-- the heads of types that fit look the same
+pub fit_seen : (h g : Head) (ts us : Parts) → fit (made h ts) (made g us) ≡ true → seen home_of h ≡ seen home_of g
+fit_seen h g ts us e = at (is_literal g) refl
+  where
+    parts : Fits (is_literal h) (is_literal g) (same_head home_of h g) (all_fit ts us)
+    parts = fits h g ts us e
+
+    at : (b : Bool) → is_literal g ≡ b → seen home_of h ≡ seen home_of g
+    at true f = ap (seen home_of) (literal_is h (parts.alike ∙ f) ∙ sym (literal_is g f))
+    at false f = head_seen home_of h g (parts.same_heads f)
 
 fit_from : (b p q heads parts : Bool) → p ≡ b → q ≡ b → (b ≡ false → (heads && parts) ≡ true) → (if p && q then true else (heads && parts)) ≡ true
 fit_from true p q heads parts e f so = λ i. if e i && f i then true else (heads && parts)
@@ -297,89 +310,3 @@ mutual
       let first = fit_chain t u v one.0 two.0 in
       let rest = all_fit_chain ts us vs one.1 two.1 in
       true_both (fit t v) (all_fit ts vs) first rest
-
--- INTERFACES AT THE SAME PLACES OF THREE TYPES
-
-are_both : (b : Bool) (h g : Head) → is_literal h ≡ b → is_literal g ≡ b → are_interfaces h g ≡ b
-are_both b h g e f = are_literals h g ∙ (λ i. e i && f i) ∙ twice b
-  where
-    twice : (b : Bool) → (b && b) ≡ b
-    twice true = refl
-    twice false = refl
-
-module _ (P Q N R : TypeData × TypeData → Type 0) (combine : (t u v : TypeData) → P (t, u) → Q (u, v) → N (u, u) → R (t, v)) where
-  here_or : (b : Bool) (t u v : TypeData) (tu uv uu tv : List (TypeData × TypeData))
-      → (b ≡ false → AllByRecursion P tu → AllByRecursion Q uv → AllByRecursion N uu → AllByRecursion R tv)
-      → AllByRecursion P (if b then (t, u) ∷ [] else tu) → AllByRecursion Q (if b then (u, v) ∷ [] else uv) → AllByRecursion N (if b then (u, u) ∷ [] else uu)
-      → AllByRecursion R (if b then (t, v) ∷ [] else tv)
-  here_or true t u v tu uv uu tv rest ps qs ns = (combine t u v ps.0 qs.0 ns.0, tt)
-  here_or false t u v tu uv uu tv rest ps qs ns = rest refl ps qs ns
-
-  mutual
-    pub chain_interfaces : (t u v : TypeData) → fit t u ≡ true → fit u v ≡ true
-        → AllByRecursion P (interfaces_in t u) → AllByRecursion Q (interfaces_in u v) → AllByRecursion N (interfaces_in u u) → AllByRecursion R (interfaces_in t v)
-    chain_interfaces (made h ts) (made g us) (made k vs) e f ps qs ns =
-        let one = fits h g ts us e in
-        let two = fits g k us vs f in
-        let deeper = chain_all ts us vs in
-        let b = is_literal g in
-        let t = made h ts in
-        let u = made g us in
-        let v = made k vs in
-        subst (λ (c : Bool). AllByRecursion R (if c then (t, v) ∷ [] else interfaces_in_all ts vs)) (sym (are_both b h k one.alike (sym two.alike)))
-        (here_or b t u v (interfaces_in_all ts us) (interfaces_in_all us vs) (interfaces_in_all us us) (interfaces_in_all ts vs)
-        (λ other. deeper (one.same_parts other) (two.same_parts (sym two.alike ∙ other)))
-        (subst (λ (c : Bool). AllByRecursion P (if c then (t, u) ∷ [] else interfaces_in_all ts us)) (are_both b h g one.alike refl) ps)
-        (subst (λ (c : Bool). AllByRecursion Q (if c then (u, v) ∷ [] else interfaces_in_all us vs)) (are_both b g k refl (sym two.alike)) qs)
-        (subst (λ (c : Bool). AllByRecursion N (if c then (u, u) ∷ [] else interfaces_in_all us us)) (are_both b g g refl refl) ns))
-
-    chain_all : (ts us vs : Parts) → all_fit ts us ≡ true → all_fit us vs ≡ true
-        → AllByRecursion P (interfaces_in_all ts us) → AllByRecursion Q (interfaces_in_all us vs) → AllByRecursion N (interfaces_in_all us us) → AllByRecursion R (interfaces_in_all ts vs)
-    chain_all no_parts us vs e f ps qs ns = tt
-    chain_all (more_parts t ts) no_parts vs e f ps qs ns = absurd (let wrong : false ≡ true = e in cc wrong)
-    chain_all (more_parts t ts) (more_parts u us) no_parts e f ps qs ns = absurd (let wrong : false ≡ true = f in cc wrong)
-    chain_all (more_parts t ts) (more_parts u us) (more_parts v vs) e f ps qs ns =
-        let one = both_true (fit t u) (all_fit ts us) e in
-        let two = both_true (fit u v) (all_fit us vs) f in
-        let first = chain_interfaces t u v one.0 two.0
-        (every_first P (interfaces_in t u) (interfaces_in_all ts us) ps)
-        (every_first Q (interfaces_in u v) (interfaces_in_all us vs) qs)
-        (every_first N (interfaces_in u u) (interfaces_in_all us us) ns) in
-        let rest = chain_all ts us vs one.1 two.1
-        (every_second P (interfaces_in t u) (interfaces_in_all ts us) ps)
-        (every_second Q (interfaces_in u v) (interfaces_in_all us vs) qs)
-        (every_second N (interfaces_in u u) (interfaces_in_all us us) ns) in
-        every_both R (interfaces_in t v) (interfaces_in_all ts vs) first rest
-
--- PLAIN TYPES AT THE SAME PLACES
-
-abbrev pub ArePlainPair : TypeData × TypeData → Type 0
-ArePlainPair p = IsPlain p.0 × IsPlain p.1
-
-mutual
-  pub plain_places : (t u : TypeData) → IsPlain t → IsPlain u → AllByRecursion ArePlainPair (interfaces_in t u)
-  plain_places (made h ts) (made g us) e f =
-      let rest = plain_all_places ts us (parts_plain h ts e) (parts_plain g us f) in
-      elim (are_interfaces h g) as (λ (b : Bool). AllByRecursion ArePlainPair (if b then (made h ts, made g us) ∷ [] else interfaces_in_all ts us)) [ true ↦ ((e, f), tt) | false ↦ rest ]
-
-  plain_all_places : (ts us : Parts) → ArePlain ts → ArePlain us → AllByRecursion ArePlainPair (interfaces_in_all ts us)
-  plain_all_places no_parts us e f = tt
-  plain_all_places (more_parts t ts) no_parts e f = tt
-  plain_all_places (more_parts t ts) (more_parts u us) e f =
-      every_both ArePlainPair (interfaces_in t u) (interfaces_in_all ts us)
-      (plain_places t u (first_plain t ts e) (first_plain u us f))
-      (plain_all_places ts us (rest_plain t ts e) (rest_plain u us f))
-
--- places of a type beside itself
-abbrev pub IsTwice : TypeData × TypeData → Type 0
-IsTwice p = p.0 ≡ p.1
-
-mutual
-  pub twice_places : (t : TypeData) → AllByRecursion IsTwice (interfaces_in t t)
-  twice_places (made h ts) =
-      let rest = twice_all_places ts in
-      elim (are_interfaces h h) as (λ (b : Bool). AllByRecursion IsTwice (if b then (made h ts, made h ts) ∷ [] else interfaces_in_all ts ts)) [ true ↦ (refl, tt) | false ↦ rest ]
-
-  twice_all_places : (ts : Parts) → AllByRecursion IsTwice (interfaces_in_all ts ts)
-  twice_all_places no_parts = tt
-  twice_all_places (more_parts t ts) = every_both IsTwice (interfaces_in t t) (interfaces_in_all ts ts) (twice_places t) (twice_all_places ts)

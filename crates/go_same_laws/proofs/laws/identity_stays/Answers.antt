@@ -1,6 +1,6 @@
 use Rattle.go_model.specs.Types.TypeIdentity.{identical}
 use Rattle.go_model.proofs.QuestLemmas.{run-stays}
-use Rattle.go_same.proofs.laws.identity_stays.Goals as goal
+use Rattle.go_same_laws.proofs.laws.identity_stays.Goals as goal
 
 pub returns : goal.returns
 returns c = λ known more part a b. run-stays known more part (identical a b)

@@ -1,17 +1,20 @@
--- Type identity the other way round: what two types are asked comes to Yes where the other way round it does.
-use Rattle.std.proofs.Common.{◌≡◌, ℕ, zero, suc, ◌+◌, ◌-◌, ◌&&◌, Bool, true, false, if◌then◌else◌, Option, Some, None, List, [], ◌∷◌, map, filter, refl, sym, subst, ◌∙◌, arith}
+-- Type identity of a type with itself, and the other way round: what two types are asked comes to Yes where the other way round
+-- it does.
+use Rattle.std.proofs.Common.{◌≡◌, ℕ, zero, suc, ◌+◌, ◌-◌, ◌&&◌, Bool, true, false, if◌then◌else◌, Option, Some, None, List, [], ◌∷◌, map, filter, refl, sym, ap, subst, ◌∙◌, arith}
 use Rattle.std.specs.Prelude.{nat_le}
 use Rattle.std.specs.List.{AllByRecursion}
 use Rattle.std.proofs.lemmas.Cmp.{nat_list_eq_equiv}
 use Rattle.go_term.specs.Types.{TypeData}
 use Rattle.go_model.specs.Outcomes.Walk.{Headers}
 use Rattle.go_model.specs.Types.Heads.{alike, same_truth}
-use Rattle.go_model.specs.Types.TypeIdentity.{Test, and_ask, ask_each, behind, by_name, fit, has_name, has_names_of, interfaces_in, is_all, method_pairs, methods_fit, same, same_as, same_as_set, same_interfaces, same_methods, same_methods_all, same_sets, sets_fit, terms_lie}
+use Rattle.go_model.specs.Types.SetsFit.{by_name, has_name, has_names_of, is_all, method_pairs, sets_fit}
+use Rattle.go_model.specs.Types.TypeIdentity.{Test, and_ask, ask_each, behind, fit, interfaces_in, methods_fit, same, same_as, same_as_set, same_interfaces, same_methods, same_methods_all, same_sets, terms_lie}
 use Rattle.go_model.specs.Types.TypeSets.{MethodData, SetData, set_of}
 use Rattle.go_model.specs.Values.Quests.{Decided, Done, run, then_ask}
-use Rattle.go_same.proofs.AlikeLemmas.{alike_swap, fit_swap, interfaces_swap, swapped, truth_swap}
-use Rattle.go_same.proofs.EveryLemmas.{every_kept, every_of_flat, every_of_map, every_of_names, every_so, every_swap, every_to_flat, every_to_keep, every_to_map, every_to_names}
-use Rattle.go_same.proofs.YesLemmas.{IsYes, both_yes, each_yes, hence, not_no, thence, yes_both, yes_each}
+use Rattle.go_same_laws.proofs.AlikeLemmas.{alike_itself, alike_swap, fit_itself, fit_swap, interfaces_swap, swapped, truth_swap}
+use Rattle.go_same_laws.proofs.EveryLemmas.{every_kept, every_of_flat, every_of_map, every_of_names, every_so, every_swap, every_to_flat, every_to_keep, every_to_map, every_to_names}
+use Rattle.go_same_laws.proofs.PlaceLemmas.{IsTwice, twice_places}
+use Rattle.go_same_laws.proofs.YesLemmas.{IsYes, both_yes, each_yes, hence, not_no, thence, yes_both, yes_each}
 
 -- NAMES AND SETS
 
@@ -142,7 +145,7 @@ module _ (headers : Headers) where
   -- INTERFACES
 
   module _ (go : Bool → ℕ → TypeData → TypeData → Test) (turn : (left : ℕ) (a b : TypeData) → IsYes headers (go false left a b) → IsYes headers (go false left b a)) (left : ℕ) where
-    behind_swap : (opened : ℕ) (a b : TypeData) → IsYes headers (behind go left false opened a b) → IsYes headers (behind go left false opened b a)
+    pub behind_swap : (opened : ℕ) (a b : TypeData) → IsYes headers (behind go left false opened a b) → IsYes headers (behind go left false opened b a)
     behind_swap opened a b told =
         let parts = if_yes (nat_le opened left) (go false (left - opened) a b) told in
         yes_if (nat_le opened left) (go false (left - opened) b a) parts.0 (turn (left - opened) a b parts.1)
@@ -193,3 +196,22 @@ module _ (headers : Headers) where
       let each = swap_each test test swapped (interface_swap (same levels) (same_swap levels) left) (interfaces_in a b) (each_yes headers test (interfaces_in a b) fits.1) in
       let turned = subst (AllByRecursion (λ (p : TypeData × TypeData). IsYes headers (test p))) (sym (interfaces_swap a b)) each in
       yes_if (fit b a) (ask_each test (interfaces_in b a)) (fit_swap b a ∙ fits.0) (yes_each headers test (interfaces_in b a) turned)
+
+  -- of a type beside itself nothing has to be asked
+  pub twice_yes : (levels : ℕ) (short : Bool) (left : ℕ) (p : TypeData × TypeData) → IsTwice p → IsYes headers (same_interfaces (same levels) left short p)
+  twice_yes levels short left p e = if_alike (alike p.0 p.1) _ (subst (λ (w : TypeData). alike p.0 w ≡ true) e (alike_itself p.0))
+    where
+      if_alike : (b : Bool) (q : Test) → b ≡ true → IsYes headers (if b then Done true else q)
+      if_alike true q e = refl
+      if_alike false q e = absurd (let wrong : false ≡ true = e in cc wrong)
+
+  pub same_itself : (levels : ℕ) (short : Bool) (left : ℕ) (t : TypeData) → IsYes headers (same (suc levels) short left t t)
+  same_itself levels short left t =
+      let test = same_interfaces (same levels) left short in
+      let each = every_so IsTwice (λ p. IsYes headers (test p)) (twice_yes levels short left) (interfaces_in t t) (twice_places t) in
+      yes_if (fit t t) (ask_each test (interfaces_in t t)) (fit_itself t) (yes_each headers test (interfaces_in t t) each)
+
+  -- a premise holds of a type and itself
+  pub premise_itself : (levels left : ℕ) (t : TypeData) → IsYes headers (same levels true left t t)
+  premise_itself zero left t = ap Decided (fit_itself t)
+  premise_itself (suc levels) left t = same_itself levels true left t

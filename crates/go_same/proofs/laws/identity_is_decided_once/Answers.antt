@@ -1,5 +1,0 @@
-use Rattle.go_same.proofs.IdentityLemmas.{identical_once}
-use Rattle.go_same.proofs.laws.identity_is_decided_once.Goals as goal
-
-pub returns : goal.returns
-returns c = identical_once
