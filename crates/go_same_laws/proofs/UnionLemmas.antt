@@ -89,7 +89,7 @@ module _ (headers : Headers) (total : IsTotal headers) (go : Asking) (level : Le
         (λ z there far. within_on headers total go level p q x.opened y.opened z.opened within.1 far.1 x.type y.type z.type within.0 known.0.0 far.0 x.tilde y.tilde z.tilde here there)
         us within_u (some_in false q us y (yes_implied headers (lies_in go q true ts y) (lies_in go q false us y) known.1 premise))
 
-    -- a term that lies within one of the second set lies beside it within others
+    -- where a term lies within one of the second set and within others, the one lies in their unions as far as a premise tells
     around : (x y : TermData) → IsWithin p x → Lies false p x y → Known y → (P : TermData → Type 0) → ((z : TermData) → P z → Lies false p x z) → ((z : TermData) → P z → y.tilde ≡ true → z.tilde ≡ true)
         → AllByRecursion (λ u. AllByRecursion Known u) ts → AllByRecursion (SomeOf P) ts → LiesIn true q ts y
     around x y within here known P lies tilde =

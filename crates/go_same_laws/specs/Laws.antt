@@ -11,8 +11,8 @@ use Rattle.go_model.specs.Types.TypeSets.{SetData, plain, set_of}
 use Rattle.go_model.specs.Values.Quests.{Decided, run}
 
 module _ (headers : Headers) where
-  -- where a first type is identical to a second and that to a third, it is true whether the first is identical to the third, where
-  -- that is decided and as many names may be opened on a path as for both questions together
+  -- where a first type is identical to a second and that to a third, r, which says whether the first is identical to the third
+  -- where as many names may be opened on a path as for both questions together, is Yes
   abbrev pub Chains : TypeData → TypeData → TypeData → Bool → Type 0
   Chains a b c r =
       run headers (identical a b) ≡ Decided true → run headers (identical b c) ≡ Decided true
