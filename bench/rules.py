@@ -11,7 +11,7 @@ Of each row of the tables:
   file imports from. No two crates have an edit of one name.
 - crates/go_rows/data/rules.txt has a row `CODE: ` for it, in the order of the tables, which runs the program, and one
   row `CODE not: ` or more.
-Each definition and each constant of a rule is in the tables, and so is each code in what a row of go_rows/data wants.
+Each definition and each constant of a rule is in the tables, but of those that are not told yet, and so is each code in what a row of go_rows/data wants.
 Prints what is wrong, and exits with 1 where something is.
 """
 import collections, pathlib, re, sys
@@ -37,6 +37,8 @@ IN_WORDS = {
     ('P2', '`import "m"` in the package m'): {'a.go': 'package p\n\nimport "m"\n'},
     ('P3', '`package p` and `package q` in two files of a folder'): {'a.go': 'package p\n', 'b.go': 'package q\n'},
 }
+# The rules that no module which is loaded can break yet: each is told of below its table, and stands in none.
+UNTOLD = {'P5'}
 wrong = []
 
 
@@ -177,7 +179,7 @@ def check_all_told(pairs, folder, suffix, pattern):
     """Each definition or constant of a rule is in the tables."""
     for path in sorted(CRATES.glob(f'*/{folder}/**/*{suffix}')):
         for name, family, number in pattern.findall(path.read_text()):
-            if (name, str(path.relative_to(CRATES))) not in pairs:
+            if family + number not in UNTOLD and (name, str(path.relative_to(CRATES))) not in pairs:
                 say(f'{family}{number}: {name} of {path.relative_to(CRATES)} is not in the tables')
 
 

@@ -1,10 +1,14 @@
--- The lines of expressions, node after node.
-use Rattle.std.proofs.Common.{◌≡◌, Bor, List, ◌∷◌, ◌++◌, sym, ap, ◌∙◌, append_assoc}
+-- The records of expressions, and their lines, node after node.
+use Rattle.std.proofs.Common.{◌≡◌, Bor, Option, Some, None, List, ◌∷◌, ◌++◌, refl, sym, ap, ◌∙◌, append_assoc}
+use Rattle.std.specs.Prelude.{option_and_then, unwrap_or}
 use Rattle.std.specs.List.{flat_map}
 use Rattle.std.proofs.lemmas.Grind.{flat_map-append}
 use Rattle.go_tree.specs.declared.node.Node.{Node}
 use Rattle.go_tree.specs.Tree.{Tree}
 use Rattle.go_module.specs.Names.Occurrences.{nodes_in}
+use Rattle.go_model.specs.Outcomes.Judged.{Nothing, OutcomeData}
+use Rattle.go_model.specs.Outcomes.Readings.{record_in}
+use Rattle.go_model.specs.Outcomes.Records.{RecData}
 use Rattle.go_model.specs.Report.{LineData}
 use Rattle.go_names.specs.Views.{trees_at}
 
@@ -23,3 +27,8 @@ nodes_more line t left rest list shown old new whole at is_shown is_list now so_
     ∙ ap (λ (l : List LineData). old ++ l) (sym (flat_map-append line (nodes_in t) others))
     ∙ ap (λ (l : List Tree). old ++ flat_map line (flat_map nodes_in l)) (sym at)
     ∙ so_far
+
+-- the record of an outcome that may be there
+pub read_record : (o : Option (OutcomeData RecData)) → option_and_then record_in o ≡ record_in (unwrap_or o Nothing)
+read_record None = refl
+read_record (Some outcome) = refl

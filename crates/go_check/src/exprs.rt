@@ -2,12 +2,14 @@
 // expressions").
 ghost use Rattle.std.specs.Prelude.{◌≡◌, ◌∷◌, ◌++◌, [], IfOk, OnOk, Some, map};
 ghost use Rattle.std.specs.List.{flat_map};
+ghost use Rattle.std.specs.Option.{option_map};
 ghost use Rattle.go_tree.specs.Tree.{tree_of, start_of, end_of};
 ghost use Rattle.go_module.specs.Modules.Module.{file_view};
 ghost use Rattle.go_module.specs.Names.Occurrences.{nodes_in, nodes_in_parts};
 ghost use Rattle.go_model.specs.Outcomes.Records.{rec_view};
 ghost use Rattle.go_model.specs.PackageLines as rule;
 ghost use Rattle.go_model.specs.Report.{line_view};
+ghost use Rattle.go_model.specs.Values.Records.{record_by};
 ghost use Rattle.go_names.specs.Views.{spec_view, trees_at};
 ghost use Rattle.go_expr.specs.Read.{outcome_read};
 ghost use Rattle.go_expr.specs.Walker.{outcomes_view};
@@ -17,9 +19,9 @@ ghost use Rattle.go_check.specs.Lines.Found.{expr_lines, own_file_view};
 use crate::own_file::OwnFile;
 use crate::uses::written;
 use go_base::NoMemory;
-use go_expr::{Walker, nodes_in};
+use go_expr::Walker;
 use go_model::{Line, Rec, What};
-use go_names::Spec;
+use go_names::{Spec, nodes_in};
 use go_tree::Node;
 use std::alloc::Global;
 
@@ -96,10 +98,18 @@ fn push_one(
         ++ expr_by (outcome_read (outcomes_view walker.now)) file.now.stub (file_view file.now.file.now)
         (tree_of node.now)) }
 {
-    if let Some(found) = walker.found(node.id()) {
+    if let Some(found) = record_of(walker, node) {
         lines.push(expr_line(file, node, found)?)?;
     }
     Ok(())
+}
+
+// The record of a node that has one.
+fn record_of<'a>(walker: &'a Walker, node: &Node) -> Option<&'a Rec>
+    ensures { option_map (λ rec. rec_view rec.now) result
+        ≡ record_by (outcome_read (outcomes_view walker.now)) (tree_of node.now) }
+{
+    walker.found(node.id())
 }
 
 // The line of an expression with that record.

@@ -1,5 +1,5 @@
 // Who judges the expressions of a module, by the headers that are known and the scopes of its packages.
-ghost use Rattle.std.specs.Prelude.{◌≡◌, false};
+ghost use Rattle.std.specs.Prelude.{◌≡◌, false, refl};
 ghost use Rattle.go_model.specs.Outcomes.Walked.{no_outcomes};
 ghost use Rattle.go_model.specs.Values.HeadersView.{headers_view};
 ghost use Rattle.go_term.specs.View.{type_of};
@@ -42,6 +42,10 @@ impl Ask for ModuleJudge<'_> {
     ghost is_type = { λ _ _. Unit {0} };
 
     ghost tree = { λ _ t. type_of t };
+
+    ghost copies = { λ _ _ _ same _. (tt, same) };
+
+    ghost plain = { λ _ _ _. refl };
 
     fn ask(&mut self, d: ObjId) -> Result<Option<Header>, NoMemory> {
         self.headers.ask(d)

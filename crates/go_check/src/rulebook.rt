@@ -1,5 +1,5 @@
 // Who judges the expressions of a module, walks over them, and is told the headers of its declarations.
-ghost use Rattle.std.specs.Prelude.{◌≡◌, ◌∷◌, [], ℕ, None, false, OnErr, OnOk};
+ghost use Rattle.std.specs.Prelude.{◌≡◌, ◌∷◌, [], ℕ, None, false, refl, OnErr, OnOk};
 ghost use Rattle.go_model.specs.Outcomes.Records.{header_view};
 ghost use Rattle.go_model.specs.Outcomes.Walked.{no_outcomes};
 ghost use Rattle.go_model.specs.Values.Headers.{headers_of};
@@ -78,6 +78,10 @@ impl Ask for Rulebook<'_> {
     ghost is_type = { λ _ _. Unit {0} };
 
     ghost tree = { λ _ t. type_of t };
+
+    ghost copies = { λ _ _ _ same _. (tt, same) };
+
+    ghost plain = { λ _ _ _. refl };
 
     fn ask(&mut self, d: ObjId) -> Result<Option<Header>, NoMemory> {
         if self.is_spent {

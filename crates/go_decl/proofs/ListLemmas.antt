@@ -28,6 +28,11 @@ pub on_err_map : {T E : Type 0} (r : Result T E) (P Q : Type 0) → (P → Q) �
 on_err_map (Ok x) P Q f p = tt
 on_err_map (Err e) P Q f p = f p
 
+-- what either answer gives
+pub either_answer : {T E : Type 0} (r : Result T E) (P Q X : Type 0) → (P → X) → (Q → X) → OnOk r P → OnErr r Q → X
+either_answer (Ok x) P Q X f g p q = f p
+either_answer (Err e) P Q X f g p q = g q
+
 -- what a view shows of an element
 pub viewed_at : {X Y : Type 0} (f : X → Y) (xs : List X) (q : ℕ) (x : X) → q < length xs → x ≡ get_or xs q x → slice_get (map f xs) q ≡ Some (f x)
 viewed_at f [] q x lt e = absurd (omega (arith, lt))

@@ -7,8 +7,10 @@ use Rattle.go_tree.specs.Tree.{Tree, branch, start_of}
 use Rattle.go_module.specs.Broken.{broken_at, told_if}
 use Rattle.go_module.specs.declared.declaration.Built.{Built}
 use Rattle.go_module.specs.declared.declaration.Built.TheVariants.{Itself, Pair, WholeList}
+use Rattle.go_module.specs.declared.object.ObjKind.{ObjKind}
+use Rattle.go_module.specs.declared.object.ObjKind.TheVariants.{Const, Var}
 use Rattle.go_module.specs.Modules.Module.{PackageData}
-use Rattle.go_module.specs.Names.Declarations.{Declaration, Spec, declarations_in, declarations_of, declared_in, pairs, rests_on, specs_of, with_list}
+use Rattle.go_module.specs.Names.Declarations.{Declaration, Spec, by_itself, by_values, declarations_in, declarations_of, declared_by_kind, declared_in, pairs, rests_on, specs_of, with_list}
 use Rattle.go_module.specs.Names.Occurrences.{nodes_in, nodes_in_parts}
 use Rattle.go_module.proofs.MemberLemmas.{cons_cases, contains_head, contains_none, contains_tail}
 use Rattle.go_model.specs.declared.meaning.Meaning.{Meaning}
@@ -18,7 +20,7 @@ use Rattle.go_model.specs.Outcomes.Records.{RecData, declared_header}
 use Rattle.go_model.specs.Outcomes.Walk.{Headers, outcome}
 use Rattle.go_model.specs.Outcomes.Walked.{AreWalked, Outcomes, nodes_of}
 use Rattle.go_model.specs.Values.Records.{bound_value, header_by, header_over, record_by, record_of}
-use Rattle.go_model.specs.Values.Rules.{broken_by, broken_in, broken_node, broken_spec, broken_spec_by, unequal_at, unequal_by, unequal_sides}
+use Rattle.go_model.specs.Values.Rules.{broken_by, broken_in, broken_node, broken_spec, broken_spec_by, unequal_at, unequal_by, unequal_by_kind, unequal_sides}
 use Rattle.go_model.proofs.FlatLemmas.{flat_cases, flat_contains, flat_map-same, map_cases, only_is}
 use Rattle.go_expr.specs.Read.{nodes_under, outcome_read}
 use Rattle.go_expr.proofs.ReadLemmas.{read_is}
@@ -51,14 +53,35 @@ in_pairs spec (n ∷ names) (v ∷ values) within d h x i =
         (λ (value : Contains (v ∷ []) x). Contains-append_right spec.types spec.values x (subst (λ (w : Tree). Contains spec.values w) (only_is v x value) (within v (contains_head v values v refl))))
         (Contains-append_cases spec.types (v ∷ []) x j)
 
-rests_within : (spec : Spec) (d : Declaration) → Contains (declared_in spec) d → (x : Tree) → Contains (rests_on d) x → Contains (spec.types ++ spec.values) x
-rests_within spec d h x i = by_test (length spec.names == length spec.values) h
+-- by its values, or by itself
+abbrev Within : Spec → Declaration → Type 0
+Within spec d = (x : Tree) → Contains (rests_on d) x → Contains (spec.types ++ spec.values) x
+
+values_within : (spec : Spec) (d : Declaration) → Contains (by_values spec) d → Within spec d
+values_within spec d h x i = by_test (length spec.names == length spec.values) h
   where
     by_test : (b : Bool) → Contains (if b then pairs spec spec.names spec.values else map (with_list spec) spec.names) d → Contains (spec.types ++ spec.values) x
     by_test true j = in_pairs spec spec.names spec.values (λ v k. k) d j x i
     by_test false j =
         let name = map_cases (with_list spec) spec.names d j in
         subst (λ (e : Declaration). Contains (rests_on e) x) (sym name.2) i
+
+itself_within : (spec : Spec) (d : Declaration) → Contains (map (by_itself spec) spec.names) d → Within spec d
+itself_within spec d h x i =
+    let name = map_cases (by_itself spec) spec.names d h in
+    ⊎_elim
+    (λ (type : Contains spec.types x). Contains-append_left spec.types spec.values x type)
+    (λ (none : Contains [] x). absurd (contains_none x none))
+    (Contains-append_cases spec.types [] x (subst (λ (e : Declaration). Contains (rests_on e) x) (sym name.2) i))
+
+within_by_kind : (kind : ObjKind) (types : List Tree) (spec : Spec) (d : Declaration) → Contains (declared_by_kind kind types spec) d → Within spec d
+within_by_kind Const types spec d h = values_within spec d h
+within_by_kind Var [] spec d h = values_within spec d h
+within_by_kind Var (type ∷ types) spec d h = itself_within spec d h
+within_by_kind kind types spec d h = itself_within spec d h
+
+rests_within : (spec : Spec) (d : Declaration) → Contains (declared_in spec) d → Within spec d
+rests_within spec d h = within_by_kind spec.kind spec.types spec d h
 
 pairs_built : (spec : Spec) (names values : List Tree) (d : Declaration) → Contains (pairs spec names values) d → d.built ≡ Pair
 pairs_built spec [] values d h = absurd (contains_none d h)
@@ -71,14 +94,28 @@ pairs_built spec (n ∷ names) (v ∷ values) d h =
     (cons_cases first (pairs spec names values) d h)
 
 -- a declaration to which the whole list belongs rests on all expressions of its spec
-whole_list : (spec : Spec) (d : Declaration) → Contains (declared_in spec) d → d.built ≡ WholeList → spec.values ≡ d.values
-whole_list spec d h is = by_test (length spec.names == length spec.values) h
+values_whole : (spec : Spec) (d : Declaration) → Contains (by_values spec) d → d.built ≡ WholeList → spec.values ≡ d.values
+values_whole spec d h is = by_test (length spec.names == length spec.values) h
   where
     by_test : (b : Bool) → Contains (if b then pairs spec spec.names spec.values else map (with_list spec) spec.names) d → spec.values ≡ d.values
     by_test true j = absurd (let never : Pair ≡ WholeList = sym (pairs_built spec spec.names spec.values d j) ∙ is in cc)
     by_test false j =
         let name = map_cases (with_list spec) spec.names d j in
         ap (λ (e : Declaration). e.values) name.2
+
+itself_built : (spec : Spec) (d : Declaration) → Contains (map (by_itself spec) spec.names) d → d.built ≡ WholeList → ⊥
+itself_built spec d h is =
+    let name = map_cases (by_itself spec) spec.names d h in
+    let never : Itself ≡ WholeList = ap (λ (e : Declaration). e.built) name.2 ∙ is in cc
+
+whole_by_kind : (kind : ObjKind) (types : List Tree) (spec : Spec) (d : Declaration) → Contains (declared_by_kind kind types spec) d → d.built ≡ WholeList → spec.values ≡ d.values
+whole_by_kind Const types spec d h is = values_whole spec d h is
+whole_by_kind Var [] spec d h is = values_whole spec d h is
+whole_by_kind Var (type ∷ types) spec d h is = absurd (itself_built spec d h is)
+whole_by_kind kind types spec d h is = absurd (itself_built spec d h is)
+
+whole_list : (spec : Spec) (d : Declaration) → Contains (declared_in spec) d → d.built ≡ WholeList → spec.values ≡ d.values
+whole_list spec d h is = whole_by_kind spec.kind spec.types spec d h is
 
 pub declared_within : (spec : Spec) (d : Declaration) → Contains (declared_in spec) d → (t : Tree) → Contains (nodes_under d) t → Contains (nodes_in_parts spec) t
 declared_within spec d h t i =
@@ -109,11 +146,15 @@ module _ (means : ℕ → Meaning) (headers : Headers) (outcomes : Outcomes) whe
     each_same : (file : ℕ) (told : Option ℕ) (xs : List Tree) → ((x : Tree) → Contains xs x → (t : Tree) → Contains (nodes_in x) t → Contains nodes t) → flat_map (broken_by read file told) xs ≡ flat_map (broken_in file told means headers) xs
     each_same file told xs inside = flat_map-same (broken_by read file told) (broken_in file told means headers) xs (λ x h. part_same file told x (inside x h))
 
-    unequal_same : (spec : Spec) → ((v : Tree) → Contains spec.values v → (t : Tree) → Contains (nodes_in v) t → Contains nodes t) → unequal_by read spec ≡ unequal_at means headers spec
-    unequal_same spec inside =
+    unequal_kind_same : (kind : ObjKind) (spec : Spec) → ((v : Tree) → Contains spec.values v → (t : Tree) → Contains (nodes_in v) t → Contains nodes t) → unequal_by_kind read kind spec ≡ unequal_by_kind (outcome means headers) kind spec
+    unequal_kind_same Const spec inside =
         let records : list_all (λ v. is_some (record_by read v)) spec.values ≡ list_all (λ v. is_some (record_of means headers v)) spec.values =
         list_all-same (λ v. is_some (record_by read v)) (λ v. is_some (record_of means headers v)) spec.values (λ v h. ap is_some (record_same v (inside v h))) in
         (λ i. told_if (not (length spec.names == length spec.values) && records i) (broken_at spec.file (start_of spec.node) unequal_sides))
+    unequal_kind_same kind spec inside = refl
+
+    unequal_same : (spec : Spec) → ((v : Tree) → Contains spec.values v → (t : Tree) → Contains (nodes_in v) t → Contains nodes t) → unequal_by read spec ≡ unequal_at means headers spec
+    unequal_same spec inside = unequal_kind_same spec.kind spec inside
 
     spec_same : (spec : Spec) → ((t : Tree) → Contains (nodes_in_parts spec) t → Contains nodes t) → broken_spec_by read spec ≡ broken_spec means headers spec
     spec_same spec within =
@@ -137,15 +178,15 @@ module _ (means : ℕ → Meaning) (headers : Headers) (outcomes : Outcomes) whe
         let parts = each_same spec.file spec.told_at (rests_on d) inside in
         (λ i. unequal i ++ parts i)
 
-    value_same : (b : Built) (values : List Tree) → ((x : Tree) → Contains values x → (t : Tree) → Contains (nodes_in x) t → Contains nodes t) → option_and_then (record_by read) (bound_value b values) ≡ option_and_then (record_of means headers) (bound_value b values)
-    value_same Pair [] within = refl
-    value_same Pair (v ∷ values) within = record_same v (within v (contains_head v values v refl))
-    value_same WholeList values within = refl
-    value_same Itself values within = refl
+    value_same : (kind : ObjKind) (b : Built) (values : List Tree) → ((x : Tree) → Contains values x → (t : Tree) → Contains (nodes_in x) t → Contains nodes t)
+        → option_and_then (record_by read) (bound_value kind b values) ≡ option_and_then (record_of means headers) (bound_value kind b values)
+    value_same Const Pair [] within = refl
+    value_same Const Pair (v ∷ values) within = record_same v (within v (contains_head v values v refl))
+    value_same kind b values within = refl
 
     pub header_same : (d : Declaration) → ((t : Tree) → Contains (nodes_under d) t → Contains nodes t) → header_by read d ≡ header_over means headers d
     header_same d within =
-        ap (option_and_then declared_header) (value_same d.built d.values (λ x h t i. within t (flat_contains nodes_in (rests_on d) x t (Contains-append_right d.types d.values x h) i)))
+        ap (option_and_then declared_header) (value_same d.kind d.built d.values (λ x h t i. within t (flat_contains nodes_in (rests_on d) x t (Contains-append_right d.types d.values x h) i)))
 
   -- what specs break
   pub specs_same : (specs : List Spec) → AreWalked means headers (flat_map nodes_in_parts specs) outcomes → flat_map (broken_spec_by read) specs ≡ flat_map (broken_spec means headers) specs

@@ -4,12 +4,14 @@ use Rattle.std.specs.Prelude.{◌==◌, ◌↔◌, true, false, is_some, slice_g
 use Rattle.std.specs.Map.{lookup}
 use Rattle.std.specs.Option.{option_map}
 use Rattle.go_base.specs.declared.ids.ObjId.{ObjId}
+use Rattle.go_term.specs.Types.{TypeData}
+use Rattle.go_term.specs.declared.term.Term.{Term}
 use Rattle.go_module.specs.Scopes.{same_object}
 use Rattle.go_model.specs.declared.header.Header.{Header}
 use Rattle.std.proofs.lemmas.Bool.{cases_eq, ne_eqb}
 use Rattle.go_model.specs.declared.meaning.Meaning.{Meaning}
 use Rattle.go_module.specs.Names.Declarations.{Declaration, number_of}
-use Rattle.go_model.specs.Outcomes.Records.{HeaderData, header_view}
+use Rattle.go_model.specs.Outcomes.Records.{HeaderData, header_as}
 use Rattle.go_model.specs.Outcomes.Walk.{Headers}
 use Rattle.go_model.specs.Values.Declared.{declared_as}
 use Rattle.go_model.specs.Values.Records.{header_over}
@@ -112,6 +114,10 @@ module _ (before : Headers) (means : ℕ → Meaning) (declarations : List Decla
   pub exact_after : (headers : Headers) → IsBacked before means declarations headers → ((d : ℕ) → IsSettled headers means declarations headers d) → (d : ℕ) (h : HeaderData) → (headers d ≡ Some h) ↔ Known before means declarations d h
   exact_after headers b s = exact before means declarations headers b (λ d. settled_after headers d (s d))
 
+-- equal headers are backed by equal declarations
+pub backed_as : {before : Headers} {means : ℕ → Meaning} {declarations others : List Declaration} {headers same : Headers} → declarations ≡ others → same ≡ headers → IsBacked before means declarations headers → IsBacked before means others same
+backed_as {before} {means} {declarations} {others} {headers} {same} are is b = subst (λ (ds : List Declaration). IsBacked before means ds same) are (subst (IsBacked before means declarations) (sym is) b)
+
 -- a declaration whose header does not follow is settled
 pub settled_none : (headers : Headers) (means : ℕ → Meaning) (declarations : List Declaration) (d : ℕ) (declaration : Declaration) → declared_as declarations d ≡ Some declaration → header_over means headers declaration ≡ None → IsSettled headers means declarations headers d
 settled_none headers means declarations d declaration declared none = λ h vacant f.
@@ -196,8 +202,8 @@ is_vacant None none = refl
 is_vacant (Some h) none = absurd (let never : true ≡ false = none in cc)
 
 -- what is found of a declaration over the same headers with the same meanings is found over these
-pub found_over : (means k : ℕ → Meaning) (headers m : Headers) (declaration : Declaration) (o x : Option Header) → k ≡ means → m ≡ headers → option_map header_view o ≡ header_over k m declaration → o ≡ x → header_over means headers declaration ≡ option_map header_view x
-found_over means k headers m declaration o x same kept found is = (λ i. header_over (sym same i) (sym kept i) declaration) ∙ sym found ∙ ap (option_map header_view) is
+pub found_over : (tree : Term → TypeData) (means k : ℕ → Meaning) (headers m : Headers) (declaration : Declaration) (o x : Option Header) → k ≡ means → m ≡ headers → option_map (header_as tree) o ≡ header_over k m declaration → o ≡ x → header_over means headers declaration ≡ option_map (header_as tree) x
+found_over tree means k headers m declaration o x same kept found is = (λ i. header_over (sym same i) (sym kept i) declaration) ∙ sym found ∙ ap (option_map (header_as tree)) is
 
 pub learnt_over : (headers m after : Headers) (d : ℕ) (h : HeaderData) → m ≡ headers → ((e : ℕ) → after e ≡ headers_of m ((d, h) ∷ []) e) → (e : ℕ) → after e ≡ headers_of headers ((d, h) ∷ []) e
 learnt_over headers m after d h kept learnt e = learnt e ∙ ap (λ (k : Headers). headers_of k ((d, h) ∷ []) e) kept

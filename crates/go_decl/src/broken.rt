@@ -14,10 +14,9 @@ ghost use Rattle.go_decl.specs.Parts.{broken_under, unequal_for};
 
 use crate::rules::UNEQUAL_SIDES;
 use go_base::{Broken, NoMemory, Rule};
-use go_expr::nodes_in;
 use go_model::{ExprWalk, Outcome, Spot};
-use go_module::{Built, add_if, broken_at};
-use go_names::{Declaration, Spec};
+use go_module::{Built, ObjKind, add_if, broken_at};
+use go_names::{Declaration, Spec, nodes_in};
 use go_tree::Node;
 use std::alloc::Global;
 
@@ -71,7 +70,7 @@ fn push_unequal_for<W: ExprWalk>(
     }
 }
 
-// Pushes R37 at a spec whose numbers of names and of expressions differ.
+// Pushes R37 at a spec of constants whose numbers of names and of expressions differ.
 fn push_unequal<W: ExprWalk>(
     walks: &W,
     spec: &Spec,
@@ -80,9 +79,14 @@ fn push_unequal<W: ExprWalk>(
     ensures { OnOk result (found.new.items
         ≡ found.old.items ++ unequal_by (outcome_read (W.outcomes walks.now)) (spec_view spec.now)) }
 {
-    let unequal = are_unequal(walks, spec.names, spec.values);
-    let start = spec.node.start();
-    add_if(found, unequal, broken_at(spec.file, start, UNEQUAL_SIDES))
+    match spec.kind {
+        ObjKind::Const => {
+            let unequal = are_unequal(walks, spec.names, spec.values);
+            let start = spec.node.start();
+            add_if(found, unequal, broken_at(spec.file, start, UNEQUAL_SIDES))
+        }
+        _ => Ok(()),
+    }
 }
 
 // Whether the numbers of names and of expressions differ, and all expressions have records.

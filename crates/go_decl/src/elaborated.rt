@@ -1,13 +1,14 @@
 // A declaration by itself: its header, and what it breaks (Go specification, "Constant declarations", "Declarations and
 // scope").
-ghost use Rattle.std.specs.Prelude.{◌≡◌, ◌+◌, ◌≤◌, [], IfOk, None, OnOk, Some};
+ghost use Rattle.std.specs.Prelude.{◌≡◌, ◌+◌, ◌≤◌, [], IfOk, IfSome, None, OnOk, Some};
 ghost use Rattle.std.specs.List.{Contains};
 ghost use Rattle.std.specs.Option.{option_map};
 ghost use Rattle.go_module.specs.Modules.Module.{module_view};
 ghost use Rattle.go_module.specs.Names.Declarations.{declared_in};
 ghost use Rattle.go_module.specs.Order.{IsListOf};
-ghost use Rattle.go_model.specs.Outcomes.Records.{header_view};
+ghost use Rattle.go_model.specs.Outcomes.Records.{header_as};
 ghost use Rattle.go_model.specs.Outcomes.Walked.{AreNumbered, NodesAreNumbered};
+ghost use Rattle.go_model.specs.Types.Own.{IsOwnHeader, KeepsTypes};
 ghost use Rattle.go_model.specs.Values.Meaning.{AreThere, meaning_by};
 ghost use Rattle.go_model.specs.Values.Records.{header_over};
 ghost use Rattle.go_expr.specs.Read.{nodes_under, outcome_read};
@@ -32,10 +33,10 @@ pub struct Elaborated {
 }
 
 /// Walks once over the type and the expressions on which the header of a declaration of the module rests, and answers
-/// what follows over the headers that are known, which stay: its header, and what it breaks. Identifiers mean what the
-/// rules say, which so have to speak of the package of the declaration. It asks that each object that is denoted is
-/// there, and that no two nodes of a package have one number. Of several declarations with one number the first is
-/// meant. A call is a step. An error is want of memory.
+/// what follows over the headers that are known, which stay: its header, whose types are the rules' own, and what it
+/// breaks. Identifiers mean what the rules say, which so have to speak of the package of the declaration. It asks that
+/// each object that is denoted is there, and that no two nodes of a package have one number. Of several declarations
+/// with one number the first is meant. A call is a step. An error is want of memory.
 pub fn elaborate<R: Rules, L: Ledger>(
     alloc: Global,
     d: ObjId,
@@ -47,8 +48,9 @@ pub fn elaborate<R: Rules, L: Ledger>(
     requires there { AreThere (R.names rules.old) }
     requires numbered { NodesAreNumbered (module_view «module».now) }
     ensures header { IfOk result (λ made. (part : Part) → part_named (module_view «module».now) d.0 ≡ Some part
-        → option_map header_view made.header
+        → option_map (header_as (R.tree rules.new)) made.header
         ≡ header_over (meaning_by (R.names rules.old)) (R.headers rules.old) part.declaration) }
+    ensures own { IfOk result (λ made. IfSome made.header (IsOwnHeader (R.is_type rules.new))) }
     ensures broken { IfOk result (λ made. (part : Part) → part_named (module_view «module».now) d.0 ≡ Some part
         → IsListOf (broken_part (meaning_by (R.names rules.old)) (R.headers rules.old) part) made.broken.items) }
     ensures none { IfOk result (λ made. part_named (module_view «module».now) d.0 ≡ None
@@ -58,6 +60,7 @@ pub fn elaborate<R: Rules, L: Ledger>(
     ensures at_most { steps.new ≤ steps.old + 1 }
     ensures names { R.names rules.new ≡ R.names rules.old }
     ensures world { R.world rules.new ≡ R.world rules.old }
+    ensures types { KeepsTypes (R.is_type rules.old) (R.is_type rules.new) (R.tree rules.old) (R.tree rules.new) }
 {
     let found = part_named(alloc, module, d)?;
     steps.tick();
@@ -79,13 +82,15 @@ fn elaborate_part<R: Rules>(
     requires there { AreThere (R.names rules.old) }
     requires declared { Contains (declared_in (part_view part.now).spec) (part_view part.now).declaration }
     requires numbered { AreNumbered (nodes_under (part_view part.now).declaration) }
-    ensures header { IfOk result (λ made. option_map header_view made.header
+    ensures header { IfOk result (λ made. option_map (header_as (R.tree rules.new)) made.header
         ≡ header_over (meaning_by (R.names rules.old)) (R.headers rules.old) (part_view part.now).declaration) }
+    ensures own { IfOk result (λ made. IfSome made.header (IsOwnHeader (R.is_type rules.new))) }
     ensures broken { IfOk result (λ made. IsListOf
         (broken_part (meaning_by (R.names rules.old)) (R.headers rules.old) (part_view part.now)) made.broken.items) }
     ensures same { R.headers rules.new ≡ R.headers rules.old }
     ensures names { R.names rules.new ≡ R.names rules.old }
     ensures world { R.world rules.new ≡ R.world rules.old }
+    ensures types { KeepsTypes (R.is_type rules.old) (R.is_type rules.new) (R.tree rules.old) (R.tree rules.new) }
 {
     let declaration = &part.declaration;
     walk_parts(alloc, rules, declaration.types, declaration.values)?;

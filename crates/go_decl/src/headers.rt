@@ -4,9 +4,10 @@ ghost use Rattle.std.specs.Prelude.{IfOk, OnErr, OnOk, IsTrue};
 ghost use Rattle.std.specs.Map.{lookup};
 ghost use Rattle.go_base.specs.declared.ids.ObjId.{ObjId as Object};
 ghost use Rattle.go_module.specs.Scopes.{same_object};
-ghost use Rattle.go_model.specs.Outcomes.Records.{HeaderData, header_view};
+ghost use Rattle.go_model.specs.Outcomes.Records.{HeaderData, header_as};
+ghost use Rattle.go_model.specs.Types.Own.{IsOwnHeader, KeepsTypes};
 ghost use Rattle.go_model.specs.Values.Headers.{Known, headers_of};
-ghost use Rattle.go_model.specs.Values.HeadersView.{headers_view};
+ghost use Rattle.go_model.specs.Values.HeadersView.{AreOwnHeaders, header_in, headers_as};
 ghost use Rattle.go_model.specs.Values.Meaning.{AreThere, meaning_by};
 ghost use Rattle.go_decl.specs.Places.{ArePlaces};
 ghost use Rattle.go_decl.specs.Rounds.{IsBacked, IsSettled, IsToldOrNot, open_in};
@@ -21,8 +22,8 @@ use go_names::Declaration;
 use std::alloc::Global;
 use std::sync::ledger::Ledger;
 
-/// Goes round until a round adds no header. The rules and `known` have the same headers. An error is want of memory;
-/// some headers may be known then, and no others.
+/// Goes round until a round adds no header. The rules and `known` have the same headers, whose types are the rules' own.
+/// An error is want of memory; some headers may be known then, and no others.
 pub fn add_rounds<R: Rules, L: Ledger>(
     alloc: Global,
     rules: &mut R,
@@ -32,17 +33,20 @@ pub fn add_rounds<R: Rules, L: Ledger>(
     steps: &mut Steps<L>,
 ) -> Result<(), NoMemory>
     requires there { AreThere (R.names rules.old) }
-    requires same { headers_view known.old ≡ R.headers rules.old }
+    requires same { headers_as (R.tree rules.old) known.old ≡ R.headers rules.old }
+    requires own { AreOwnHeaders (R.is_type rules.old) known.old }
     requires places { ArePlaces (declarations_view declarations.now) places.now.entries }
     ensures exact { OnOk result ((d : ℕ) (h : HeaderData) → (R.headers rules.new d ≡ Some h)
         ↔ Known (R.headers rules.old) (meaning_by (R.names rules.old)) (declarations_view declarations.now) d h) }
     ensures backed { IsBacked (R.headers rules.old) (meaning_by (R.names rules.old))
         (declarations_view declarations.now) (R.headers rules.new) }
-    ensures known { OnOk result (headers_view known.new ≡ R.headers rules.new) }
+    ensures known { OnOk result (headers_as (R.tree rules.new) known.new ≡ R.headers rules.new) }
+    ensures own { AreOwnHeaders (R.is_type rules.new) known.new }
     ensures kept { OnErr result (IsBacked (R.headers rules.old) (meaning_by (R.names rules.old))
-        (declarations_view declarations.now) (headers_view known.new)) }
+        (declarations_view declarations.now) (headers_as (R.tree rules.new) known.new)) }
     ensures names { R.names rules.new ≡ R.names rules.old }
     ensures world { R.world rules.new ≡ R.world rules.old }
+    ensures types { KeepsTypes (R.is_type rules.old) (R.is_type rules.new) (R.tree rules.old) (R.tree rules.new) }
 {
     while add_round(alloc, rules, known, places, declarations, steps)? {}
     Ok(())
@@ -58,7 +62,8 @@ fn add_round<R: Rules, L: Ledger>(
     steps: &mut Steps<L>,
 ) -> Result<bool, NoMemory>
     requires there { AreThere (R.names rules.old) }
-    requires same { headers_view known.old ≡ R.headers rules.old }
+    requires same { headers_as (R.tree rules.old) known.old ≡ R.headers rules.old }
+    requires own { AreOwnHeaders (R.is_type rules.old) known.old }
     requires places { ArePlaces (declarations_view declarations.now) places.now.entries }
     ensures backed { IsBacked (R.headers rules.old) (meaning_by (R.names rules.old))
         (declarations_view declarations.now) (R.headers rules.new) }
@@ -67,11 +72,13 @@ fn add_round<R: Rules, L: Ledger>(
         < open_in (R.headers rules.old) (declarations_view declarations.now)) }
     ensures settled { IfOk result (λ added. added ≡ false → (d : ℕ) → IsSettled (R.headers rules.new)
         (meaning_by (R.names rules.old)) (declarations_view declarations.now) (R.headers rules.new) d) }
-    ensures known { OnOk result (headers_view known.new ≡ R.headers rules.new) }
+    ensures known { OnOk result (headers_as (R.tree rules.new) known.new ≡ R.headers rules.new) }
+    ensures own { AreOwnHeaders (R.is_type rules.new) known.new }
     ensures kept { OnErr result (IsBacked (R.headers rules.old) (meaning_by (R.names rules.old))
-        (declarations_view declarations.now) (headers_view known.new)) }
+        (declarations_view declarations.now) (headers_as (R.tree rules.new) known.new)) }
     ensures names { R.names rules.new ≡ R.names rules.old }
     ensures world { R.world rules.new ≡ R.world rules.old }
+    ensures types { KeepsTypes (R.is_type rules.old) (R.is_type rules.new) (R.tree rules.old) (R.tree rules.new) }
 {
     let mut added = false;
     for place in 0..declarations.len() {
@@ -93,7 +100,8 @@ fn add_one<R: Rules, L: Ledger>(
     steps: &mut Steps<L>,
 ) -> Result<bool, NoMemory>
     requires there { AreThere (R.names rules.old) }
-    requires same { headers_view known.old ≡ R.headers rules.old }
+    requires same { headers_as (R.tree rules.old) known.old ≡ R.headers rules.old }
+    requires own { AreOwnHeaders (R.is_type rules.old) known.old }
     requires places { ArePlaces (declarations_view declarations.now) places.now.entries }
     requires within { place < length declarations.now }
     ensures backed { IsBacked (R.headers rules.old) (meaning_by (R.names rules.old))
@@ -105,11 +113,13 @@ fn add_one<R: Rules, L: Ledger>(
     ensures settled { IfOk result (λ added. added ≡ false → (d : Object)
         → lookup (same_object d) places.now.entries ≡ Some place → IsSettled (R.headers rules.new)
         (meaning_by (R.names rules.old)) (declarations_view declarations.now) (R.headers rules.new) d.0) }
-    ensures known { OnOk result (headers_view known.new ≡ R.headers rules.new) }
+    ensures known { OnOk result (headers_as (R.tree rules.new) known.new ≡ R.headers rules.new) }
+    ensures own { AreOwnHeaders (R.is_type rules.new) known.new }
     ensures kept { OnErr result (IsBacked (R.headers rules.old) (meaning_by (R.names rules.old))
-        (declarations_view declarations.now) (headers_view known.new)) }
+        (declarations_view declarations.now) (headers_as (R.tree rules.new) known.new)) }
     ensures names { R.names rules.new ≡ R.names rules.old }
     ensures world { R.world rules.new ≡ R.world rules.old }
+    ensures types { KeepsTypes (R.is_type rules.old) (R.is_type rules.new) (R.tree rules.old) (R.tree rules.new) }
 {
     let declaration = &declarations[place];
     let number = declaration.number();
@@ -131,12 +141,12 @@ fn add_one<R: Rules, L: Ledger>(
 
 // Whether a declaration has a header.
 fn is_known(known: &Headers, d: ObjId) -> bool
-    ensures { result ≡ is_some (headers_view known.now d.0) }
+    ensures { result ≡ is_some (header_in known.now d.0) }
 {
     known.get(d).is_some()
 }
 
-// Tells the rules a header, and keeps it.
+// Tells the rules a header with types of their own, and keeps it.
 fn tell<R: Rules>(
     rules: &mut R,
     known: &mut Headers,
@@ -144,14 +154,19 @@ fn tell<R: Rules>(
     header: Header,
 ) -> Result<(), NoMemory>
     requires vacant { R.headers rules.old d.0 ≡ None }
-    requires same { headers_view known.old ≡ R.headers rules.old }
+    requires same { headers_as (R.tree rules.old) known.old ≡ R.headers rules.old }
+    requires own { AreOwnHeaders (R.is_type rules.old) known.old }
+    requires header { IsOwnHeader (R.is_type rules.old) header }
     ensures learned { OnOk result ((e : ℕ) → R.headers rules.new e
-        ≡ headers_of (R.headers rules.old) ((d.0, header_view header) ∷ []) e) }
-    ensures err { OnErr result (IsToldOrNot (R.headers rules.old) d.0 (header_view header) (R.headers rules.new)) }
-    ensures known { OnOk result (headers_view known.new ≡ R.headers rules.new) }
-    ensures kept { OnErr result (headers_view known.new ≡ headers_view known.old) }
+        ≡ headers_of (R.headers rules.old) ((d.0, header_as (R.tree rules.old) header) ∷ []) e) }
+    ensures err { OnErr result (IsToldOrNot (R.headers rules.old) d.0 (header_as (R.tree rules.old) header)
+        (R.headers rules.new)) }
+    ensures known { OnOk result (headers_as (R.tree rules.new) known.new ≡ R.headers rules.new) }
+    ensures own { AreOwnHeaders (R.is_type rules.new) known.new }
+    ensures kept { OnErr result (headers_as (R.tree rules.new) known.new ≡ headers_as (R.tree rules.old) known.old) }
     ensures names { R.names rules.new ≡ R.names rules.old }
     ensures world { R.world rules.new ≡ R.world rules.old }
+    ensures types { KeepsTypes (R.is_type rules.old) (R.is_type rules.new) (R.tree rules.old) (R.tree rules.new) }
 {
     rules.learn(d, &header)?;
     known.add(d, header)

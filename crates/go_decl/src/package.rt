@@ -5,8 +5,9 @@ ghost use Rattle.go_module.specs.Modules.Module.{PackageData, module_view, packa
 ghost use Rattle.go_module.specs.Names.Declarations.{declarations_of, specs_of};
 ghost use Rattle.go_model.specs.Outcomes.Records.{HeaderData};
 ghost use Rattle.go_model.specs.Outcomes.Walked.{AreNumbered, AreWalked, NodesAreNumbered, nodes_of};
+ghost use Rattle.go_model.specs.Types.Own.{KeepsTypes};
 ghost use Rattle.go_model.specs.Values.Headers.{Known};
-ghost use Rattle.go_model.specs.Values.HeadersView.{headers_view};
+ghost use Rattle.go_model.specs.Values.HeadersView.{AreOwnHeaders, headers_as};
 ghost use Rattle.go_model.specs.Values.Meaning.{AreThere, meaning_by};
 ghost use Rattle.go_names.specs.Views.{specs_view};
 ghost use Rattle.go_decl.specs.Broken.{AreBroken};
@@ -25,12 +26,12 @@ use std::alloc::Global;
 use std::sync::ledger::Ledger;
 
 /// Finds the headers of the package at a place of the module in rounds, and tells them to the rules and to `known`,
-/// which have the same headers before; then walks once over all that stands behind the names of its specs, and
-/// answers what its values break, as the list of a report: each declaration that waits for its own header, and each
-/// rule that a spec or a node breaks over these headers. Identifiers mean what the rules say, which so have to speak of
-/// this package. It asks that each object that is denoted is there, and that no two nodes of a package have one number.
-/// Of several declarations with one number the first is meant. Each try to find a header is a step. An error is want of
-/// memory; some of these headers may be known then, and no others.
+/// which have the same headers before, with types of the rules' own; then walks once over all that stands behind the
+/// names of its specs, and answers what its values break, as the list of a report: each declaration that waits for its
+/// own header, and each rule that a spec or a node breaks over these headers. Identifiers mean what the rules say,
+/// which so have to speak of this package. It asks that each object that is denoted is there, and that no two nodes of
+/// a package have one number. Of several declarations with one number the first is meant. Each try to find a header is
+/// a step. An error is want of memory; some of these headers may be known then, and no others.
 pub fn rounds<R: Rules, L: Ledger>(
     alloc: Global,
     rules: &mut R,
@@ -43,11 +44,13 @@ pub fn rounds<R: Rules, L: Ledger>(
     requires within { «package» < length «module».now.packages.items }
     requires there { AreThere (R.names rules.old) }
     requires numbered { NodesAreNumbered (module_view «module».now) }
-    requires same { headers_view known.old ≡ R.headers rules.old }
+    requires same { headers_as (R.tree rules.old) known.old ≡ R.headers rules.old }
+    requires own { AreOwnHeaders (R.is_type rules.old) known.old }
     ensures exact { OnOk result ((p : PackageData) → slice_get (module_view «module».now).packages «package» ≡ Some p
         → (d : ℕ) (h : HeaderData) → (R.headers rules.new d ≡ Some h)
         ↔ Known (R.headers rules.old) (meaning_by (R.names rules.old)) (declarations_of p) d h) }
-    ensures known { OnOk result (headers_view known.new ≡ R.headers rules.new) }
+    ensures known { OnOk result (headers_as (R.tree rules.new) known.new ≡ R.headers rules.new) }
+    ensures own { AreOwnHeaders (R.is_type rules.new) known.new }
     ensures nodes { OnOk result ((p : PackageData) → slice_get (module_view «module».now).packages «package» ≡ Some p
         → AreWalked (meaning_by (R.names rules.old)) (R.headers rules.new) (nodes_of p) (R.outcomes rules.new)) }
     ensures list { IfOk result (λ list. (p : PackageData)
@@ -55,9 +58,10 @@ pub fn rounds<R: Rules, L: Ledger>(
         → AreBroken (meaning_by (R.names rules.old)) (R.headers rules.new) p list.items) }
     ensures err { OnErr result ((p : PackageData) → slice_get (module_view «module».now).packages «package» ≡ Some p
         → IsBacked (R.headers rules.old) (meaning_by (R.names rules.old)) (declarations_of p)
-        (headers_view known.new)) }
+        (headers_as (R.tree rules.new) known.new)) }
     ensures names { R.names rules.new ≡ R.names rules.old }
     ensures world { R.world rules.new ≡ R.world rules.old }
+    ensures types { KeepsTypes (R.is_type rules.old) (R.is_type rules.new) (R.tree rules.old) (R.tree rules.new) }
 {
     rounds_in(alloc, rules, known, &module.packages[package], steps)
 }
@@ -72,18 +76,21 @@ fn rounds_in<R: Rules, L: Ledger>(
 ) -> Result<Vec<Broken>, NoMemory>
     requires there { AreThere (R.names rules.old) }
     requires numbered { AreNumbered (nodes_of (package_view own.now)) }
-    requires same { headers_view known.old ≡ R.headers rules.old }
+    requires same { headers_as (R.tree rules.old) known.old ≡ R.headers rules.old }
+    requires own { AreOwnHeaders (R.is_type rules.old) known.old }
     ensures exact { OnOk result ((d : ℕ) (h : HeaderData) → (R.headers rules.new d ≡ Some h)
         ↔ Known (R.headers rules.old) (meaning_by (R.names rules.old)) (declarations_of (package_view own.now)) d h) }
-    ensures known { OnOk result (headers_view known.new ≡ R.headers rules.new) }
+    ensures known { OnOk result (headers_as (R.tree rules.new) known.new ≡ R.headers rules.new) }
+    ensures own { AreOwnHeaders (R.is_type rules.new) known.new }
     ensures nodes { OnOk result (AreWalked (meaning_by (R.names rules.old)) (R.headers rules.new)
         (nodes_of (package_view own.now)) (R.outcomes rules.new)) }
     ensures list { IfOk result (λ list. AreBroken (meaning_by (R.names rules.old)) (R.headers rules.new)
         (package_view own.now) list.items) }
     ensures err { OnErr result (IsBacked (R.headers rules.old) (meaning_by (R.names rules.old))
-        (declarations_of (package_view own.now)) (headers_view known.new)) }
+        (declarations_of (package_view own.now)) (headers_as (R.tree rules.new) known.new)) }
     ensures names { R.names rules.new ≡ R.names rules.old }
     ensures world { R.world rules.new ≡ R.world rules.old }
+    ensures types { KeepsTypes (R.is_type rules.old) (R.is_type rules.new) (R.tree rules.old) (R.tree rules.new) }
 {
     let specs = package_specs(alloc, own)?;
     let declarations = declarations_in(alloc, &specs)?;

@@ -14,11 +14,10 @@ ghost use Rattle.go_expr.specs.Read.{nodes_under, outcome_read};
 
 use crate::places::Places;
 use go_base::NoMemory;
-use go_expr::nodes_in;
 use go_graph::{Numbers, cyclic_vertices, is_marked};
 use go_model::{ExprWalk, Outcome};
 use go_module::ObjId;
-use go_names::Declaration;
+use go_names::{Declaration, nodes_in};
 use go_tree::Node;
 use std::alloc::Global;
 

@@ -4,6 +4,7 @@ ghost use Rattle.std.specs.List.{flat_map};
 ghost use Rattle.go_tree.specs.Tree.{tree_of};
 ghost use Rattle.go_module.specs.Names.Occurrences.{nodes_in, nodes_in_parts};
 ghost use Rattle.go_model.specs.Outcomes.Walked.{walked_over};
+ghost use Rattle.go_model.specs.Types.Own.{KeepsTypes};
 ghost use Rattle.go_model.specs.Values.Meaning.{AreThere, meaning_by};
 ghost use Rattle.go_names.specs.Views.{specs_view};
 
@@ -23,6 +24,7 @@ pub fn walk_specs<W: ExprWalk>(alloc: Global, walks: &mut W, specs: &[Spec]) -> 
     ensures same { W.headers walks.new ≡ W.headers walks.old }
     ensures names { W.names walks.new ≡ W.names walks.old }
     ensures world { W.world walks.new ≡ W.world walks.old }
+    ensures types { KeepsTypes (W.is_type walks.old) (W.is_type walks.new) (W.tree walks.old) (W.tree walks.new) }
 {
     for place in (0..specs.len()).rev() {
         let spec = specs[place];
@@ -46,6 +48,7 @@ pub fn walk_parts<W: ExprWalk>(
     ensures same { W.headers walks.new ≡ W.headers walks.old }
     ensures names { W.names walks.new ≡ W.names walks.old }
     ensures world { W.world walks.new ≡ W.world walks.old }
+    ensures types { KeepsTypes (W.is_type walks.old) (W.is_type walks.new) (W.tree walks.old) (W.tree walks.new) }
 {
     walk_nodes(alloc, walks, values)?;
     walk_nodes(alloc, walks, types)
@@ -60,6 +63,7 @@ fn walk_nodes<W: ExprWalk>(alloc: Global, walks: &mut W, nodes: &[Node]) -> Resu
     ensures same { W.headers walks.new ≡ W.headers walks.old }
     ensures names { W.names walks.new ≡ W.names walks.old }
     ensures world { W.world walks.new ≡ W.world walks.old }
+    ensures types { KeepsTypes (W.is_type walks.old) (W.is_type walks.new) (W.tree walks.old) (W.tree walks.new) }
 {
     for place in (0..nodes.len()).rev() {
         walk_one(alloc, walks, &nodes[place])?;
@@ -76,6 +80,7 @@ fn walk_one<W: ExprWalk>(alloc: Global, walks: &mut W, node: &Node) -> Result<()
     ensures same { W.headers walks.new ≡ W.headers walks.old }
     ensures names { W.names walks.new ≡ W.names walks.old }
     ensures world { W.world walks.new ≡ W.world walks.old }
+    ensures types { KeepsTypes (W.is_type walks.old) (W.is_type walks.new) (W.tree walks.old) (W.tree walks.new) }
 {
     walks.walk(alloc, node, None)?;
     Ok(())

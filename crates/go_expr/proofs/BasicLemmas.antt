@@ -1,5 +1,5 @@
 -- Constants of other kinds are no untyped integers.
-use Rattle.std.proofs.Common.{◌≡◌, ℤ, Option, Some, None, refl}
+use Rattle.std.proofs.Common.{◌≡◌, Option, Some, None, refl}
 use Rattle.go_num.specs.declared.value.Value.{Value}
 use Rattle.go_term.specs.declared.basic.Basic.{Basic}
 use Rattle.go_term.specs.declared.basic.Basic.TheVariants.{UntypedInt}

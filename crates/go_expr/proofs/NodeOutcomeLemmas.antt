@@ -1,8 +1,9 @@
 -- The outcome of a node, from the outcomes of its operands and from those of its inner parts.
 use Rattle.std.proofs.Common.{◌≡◌, ℕ, ℤ, pos, negsuc, ◌^◌, nat_lt, Bool, true, false, cond, Option, Some, None, List, [], ◌∷◌, map, refl, sym, ap, ◌∙◌}
-use Rattle.std.specs.Prelude.{is_some}
+use Rattle.std.specs.Prelude.{is_some, option_and_then}
 use Rattle.std.specs.Option.{option_map}
-use Rattle.go_num.specs.Arithmetic.{limited}
+use Rattle.go_num.specs.Arithmetic.{binary_value, limited}
+use Rattle.go_num.specs.declared.arithmetic.IntOp.TheVariants.{Add}
 use Rattle.go_tree.specs.declared.node_kind.NodeKind.TheVariants.{AddExpr, IntLit, Name, ParenExpr, SelectorExpr}
 use Rattle.go_tree.specs.Tree.{Tree, branch, id_of, kind_of, more_trees, no_trees, parts_of, text_of}
 use Rattle.go_module.specs.Names.Inner.{inner_parts}
@@ -14,12 +15,12 @@ use Rattle.go_model.specs.Outcomes.Constructs.Name.{name}
 use Rattle.go_model.specs.Outcomes.Constructs.Parentheses.{parentheses}
 use Rattle.go_model.specs.Outcomes.Constructs.Selector.{selector}
 use Rattle.go_model.specs.Outcomes.Constructs.Sum.{sum}
-use Rattle.go_model.specs.Outcomes.Judged.{Found, Nothing, OutcomeData, judged, tested}
+use Rattle.go_model.specs.Outcomes.Judged.{Asks, Found, Nothing, OutcomeData, asked, judged, tested}
 use Rattle.go_model.specs.Outcomes.Operands.{at_whole}
-use Rattle.go_model.specs.Outcomes.Records.{RecData, integer_record}
+use Rattle.go_model.specs.Outcomes.Records.{HeaderData, RecData, integer_in, integer_record}
 use Rattle.go_model.specs.Outcomes.Walk.{Headers, outcome, outcomes}
 use Rattle.go_model.specs.Values.Quests.{Done}
-use Rattle.go_expr.specs.Outcomes.{both_of, limited_view, only_of, outcome_by_parts, selector_by_parts}
+use Rattle.go_expr.specs.Outcomes.{both_of, limited_view, only_of, outcome_by_parts, parentheses_by_parts, selector_by_parts, sum_by_parts, sum_of_integers}
 
 -- from the outcomes of its operands
 abbrev pub outcome_by_operands : (ℕ → Meaning) → Headers → Tree → OutcomeData RecData
@@ -46,6 +47,19 @@ by_limit headers x (Some y) e = ap (λ v. Found (integer_record v)) (sym (limite
 -- what is asked whether it is within the limits, and then given
 pub limited_outcome : (headers : Headers) (x : ℤ) → limited_view (limited x) ≡ tested headers (at_whole wide_integer (Done (is_some (limited x))) ∷ []) (Done (integer_record x))
 limited_outcome headers x = by_limit headers x (limited x) refl
+
+-- what is asked of a sum of two integers
+abbrev sum_asks : ℤ → ℤ → Asks HeaderData RecData
+sum_asks x y = record { tests = at_whole wide_integer (Done (is_some (limited (binary_value Add x y)))) ∷ []; gives = Done (integer_record (binary_value Add x y)) }
+
+by_integers : (headers : Headers) (x y : Option ℤ) → sum_of_integers x y ≡ asked headers (option_and_then (λ a. option_map (sum_asks a) y) x)
+by_integers headers (Some a) (Some b) = limited_outcome headers (binary_value Add a b)
+by_integers headers (Some a) None = refl
+by_integers headers None y = refl
+
+-- a sum whose operands have these records
+pub sum_of_records : (headers : Headers) (a b : RecData) (parts : List (OutcomeData RecData)) → sum_of_integers (integer_in a) (integer_in b) ≡ judged headers sum (Found a ∷ (Found b ∷ parts))
+sum_of_records headers a b parts = by_integers headers (integer_in a) (integer_in b)
 
 -- an identifier has no operand
 name_parts : (headers : Headers) (m : Meaning) (xs ys : List (OutcomeData RecData)) → judged headers (name m) xs ≡ judged headers (name m) ys
@@ -120,3 +134,9 @@ module _ (means : ℕ → Meaning) (headers : Headers) where
 
   pub at_selector_by_parts : (t a b : Tree) (xs : List (OutcomeData RecData)) → kind_of t ≡ SelectorExpr → parts_of t ≡ more_trees a (more_trees b no_trees) → outcome_by_parts means headers t xs ≡ selector_by_parts headers (means (id_of b)) xs
   at_selector_by_parts (branch id from to kind text parts) a b xs e is = (λ i. outcome_by_parts means headers (branch id from to (e i) text (is i)) xs)
+
+  pub at_parentheses_by_parts : (t : Tree) (xs : List (OutcomeData RecData)) → kind_of t ≡ ParenExpr → outcome_by_parts means headers t xs ≡ parentheses_by_parts headers xs
+  at_parentheses_by_parts (branch id from to kind text parts) xs e = ap (λ k. outcome_by_parts means headers (branch id from to k text parts) xs) e
+
+  pub at_sum_by_parts : (t : Tree) (xs : List (OutcomeData RecData)) → kind_of t ≡ AddExpr → outcome_by_parts means headers t xs ≡ sum_by_parts headers xs
+  at_sum_by_parts (branch id from to kind text parts) xs e = ap (λ k. outcome_by_parts means headers (branch id from to k text parts) xs) e

@@ -6,13 +6,15 @@ use Rattle.std.proofs.lemmas.List.{map-append, reverse-append}
 use Rattle.std.proofs.lemmas.List.Elements.{Contains-append_left, Contains-append_right}
 use Rattle.go_tree.specs.declared.node.Node.{Node}
 use Rattle.go_tree.specs.Tree.{Tree, id_of, tree_of}
+use Rattle.go_term.specs.Types.{TypeData}
+use Rattle.go_term.specs.declared.term.Term.{Term}
 use Rattle.go_module.specs.Names.Inner.{inner_parts}
 use Rattle.go_module.specs.Names.Occurrences.{nodes_in}
 use Rattle.go_model.specs.declared.meaning.Meaning.{Meaning}
 use Rattle.go_model.specs.declared.outcome.Outcome.{Outcome}
 use Rattle.go_model.specs.Outcomes.Judged.{OutcomeData}
 use Rattle.go_model.specs.Outcomes.Records.{RecData}
-use Rattle.go_model.specs.Outcomes.View.{outcome_view}
+use Rattle.go_model.specs.Outcomes.View.{outcome_as}
 use Rattle.go_model.specs.Outcomes.Walk.{Headers, outcome}
 use Rattle.go_model.specs.Outcomes.Walked.{ArePartly, Outcomes, walked_over}
 use Rattle.go_model.proofs.WalkedLemmas.{partly_more, partly_walked, walked-append, walked-same}
@@ -77,11 +79,11 @@ module _ (means : ℕ → Meaning) (headers : Headers) where
       ∙ ap (λ (nodes : List Tree). walked_over means headers nodes old n) (sym (nodes_in-inner t))
 
   -- the outcome of one more part, the last first
-  pub outcomes_more : (x : Tree) (rest all : List Tree) (old new : List Outcome) (o : Outcome) → x ∷ rest ≡ all → map outcome_view old ≡ reverse (map (outcome means headers) rest) → outcome_view o ≡ outcome means headers x
-      → new ≡ old ++ o ∷ [] → map outcome_view new ≡ reverse (map (outcome means headers) all)
-  outcomes_more x rest all old new o is_all so_far is now =
-      ap (map outcome_view) now
-      ∙ map-append outcome_view old (o ∷ [])
+  pub outcomes_more : (tree : Term → TypeData) (x : Tree) (rest all : List Tree) (old new : List Outcome) (o : Outcome) → x ∷ rest ≡ all
+      → map (outcome_as tree) old ≡ reverse (map (outcome means headers) rest) → outcome_as tree o ≡ outcome means headers x → new ≡ old ++ o ∷ [] → map (outcome_as tree) new ≡ reverse (map (outcome means headers) all)
+  outcomes_more tree x rest all old new o is_all so_far is now =
+      ap (map (outcome_as tree)) now
+      ∙ map-append (outcome_as tree) old (o ∷ [])
       ∙ (λ i. so_far i ++ is i ∷ [])
       ∙ sym (reverse-append (outcome means headers x ∷ []) (map (outcome means headers) rest))
       ∙ ap (λ (ts : List Tree). reverse (map (outcome means headers) ts)) is_all

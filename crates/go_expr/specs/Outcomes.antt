@@ -2,6 +2,8 @@
 -- `NodeOutcomeLemmas`.
 use Rattle.std.specs.Prelude.{ℕ, ℤ, Option, Some, None, List, [], ◌∷◌}
 use Rattle.std.specs.Option.{option_map_or}
+use Rattle.go_num.specs.Arithmetic.{binary_value, limited}
+use Rattle.go_num.specs.declared.arithmetic.IntOp.TheVariants.{Add}
 use Rattle.go_tree.specs.declared.node_kind.NodeKind.TheVariants.{AddExpr, IntLit, Name, ParenExpr, SelectorExpr}
 use Rattle.go_tree.specs.Tree.{Tree, branch, id_of, more_trees, no_trees}
 use Rattle.go_model.specs.declared.meaning.Meaning.{Meaning}
@@ -21,6 +23,11 @@ use Rattle.go_model.specs.Outcomes.Walk.{Headers}
 abbrev pub limited_view : Option ℤ → OutcomeData RecData
 limited_view (Some v) = outcomes.Found (integer_record v)
 limited_view None = outcomes.Broken wide_integer (Whole ∷ [])
+
+-- what two operands add up to where both are untyped integer constants, which have these values
+abbrev pub sum_of_integers : Option ℤ → Option ℤ → OutcomeData RecData
+sum_of_integers (Some x) (Some y) = limited_view (limited (binary_value Add x y))
+sum_of_integers x y = outcomes.Nothing
 
 -- the only item of a list of one; the two of a list of two
 abbrev pub only_of : {X : Type 0} → List X → Option X

@@ -2,15 +2,18 @@
 ghost use Rattle.std.specs.Prelude.{◌≡◌, ◌∷◌, [], IfOk};
 ghost use Rattle.go_model.specs.declared.outcome.Spot.TheVariants as spots;
 ghost use Rattle.go_model.specs.Outcomes.Judged as outcomes;
-ghost use Rattle.go_model.specs.Outcomes.View.{outcome_view};
+ghost use Rattle.go_model.specs.Outcomes.View.{outcome_as};
+ghost use Rattle.go_model.specs.Types.Own.{IsOwnOutcome};
 
 use go_base::{NoMemory, Rule};
-use go_model::{Outcome, Spot};
+use go_model::{Judge, Outcome, Spot};
 use std::alloc::Global;
 
 /// A node that breaks a rule, as a whole. An error is want of memory.
-pub fn broken(alloc: Global, rule: Rule) -> Result<Outcome, NoMemory>
-    ensures { IfOk result (λ outcome. outcome_view outcome ≡ outcomes.Broken rule (spots.Whole ∷ [])) }
+pub fn broken<J: Judge>(alloc: Global, judge: &J, rule: Rule) -> Result<Outcome, NoMemory>
+    ensures outcome { IfOk result (λ outcome. outcome_as (J.tree judge.now) outcome
+        ≡ outcomes.Broken rule (spots.Whole ∷ [])) }
+    ensures own { IfOk result (IsOwnOutcome (J.is_type judge.now)) }
 {
     let mut list = Vec::new(alloc);
     list.push(Spot::Whole)?;

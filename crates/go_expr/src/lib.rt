@@ -1,15 +1,19 @@
 //! What expressions come to over the headers that are known.
 //!
 //! A `Walker` walks over expressions and types and keeps the outcome of each node, by the node's number: a judge
-//! answers which headers are known and what identifiers denote, and each construct has a file of its own.
-//! `header_over` reads the header of a declaration off a walk, `header_by` off outcomes that are kept; `nodes_in`
-//! lists the nodes. How headers are found is left to go_decl, which rules are told where to go_check.
+//! answers which headers are known and what identifiers denote, makes each type and sees its form, and each construct
+//! has a file of its own.
+//! `header_over` reads the header of a declaration off a walk, `header_by` off outcomes that are kept. How headers are
+//! found is left to go_decl, which rules are told where to go_check.
 #![tactic(auto)]
 
 mod rules;
 
 // What identifiers mean.
 mod meaning;
+
+// Types that the judge makes.
+mod types;
 
 // What a node comes to: each construct.
 mod broken;
@@ -21,9 +25,7 @@ mod sum;
 
 // Walks over expressions, and what is read off them.
 mod headers;
-mod nodes;
 mod walker;
 
 pub use headers::{header_by, header_over};
-pub use nodes::nodes_in;
 pub use walker::Walker;

@@ -3,46 +3,67 @@ ghost use Rattle.std.specs.Prelude.{◌≡◌, List, IfOk};
 ghost use Rattle.go_model.specs.Outcomes.Constructs.Literal as spec;
 ghost use Rattle.go_model.specs.Outcomes.Judged.{OutcomeData, judged};
 ghost use Rattle.go_model.specs.Outcomes.Records as records;
-ghost use Rattle.go_model.specs.Outcomes.Records.{RecData, rec_view};
-ghost use Rattle.go_model.specs.Outcomes.View.{outcome_view};
+ghost use Rattle.go_model.specs.Outcomes.Records.{RecData, rec_as};
+ghost use Rattle.go_model.specs.Outcomes.View.{outcome_as};
 ghost use Rattle.go_model.specs.Outcomes.Walk as walk;
+ghost use Rattle.go_model.specs.Types.Own.{IsOwnOutcome, IsOwnRec, Keeps};
 ghost use Rattle.go_expr.specs.Outcomes.{limited_view};
 
 use crate::broken::broken;
 use crate::rules::WIDE_INTEGER;
+use crate::types::basic_type;
 use go_base::NoMemory;
-use go_model::{Mode, Outcome, Rec};
+use go_model::{Judge, Mode, Outcome, Rec};
 use go_num::Value;
 use go_scan::int_lit_value;
-use go_term::{Basic, Term};
+use go_term::Basic;
 use std::alloc::Global;
 
 /// An integer literal by its text: L2 where its value is too large. An error is want of memory.
-pub fn literal(alloc: Global, text: &[u8]) -> Result<Outcome, NoMemory>
-    ensures { IfOk result (λ outcome. (headers : walk.Headers) (parts : List (OutcomeData RecData))
-        → outcome_view outcome ≡ judged headers (spec.literal text.now) parts) }
+pub fn literal<J: Judge>(alloc: Global, judge: &mut J, text: &[u8]) -> Result<Outcome, NoMemory>
+    ensures outcome { IfOk result (λ outcome. (headers : walk.Headers) (parts : List (OutcomeData RecData))
+        → outcome_as (J.tree judge.new) outcome ≡ judged headers (spec.literal text.now) parts) }
+    ensures own { IfOk result (IsOwnOutcome (J.is_type judge.new)) }
+    ensures keeps { Keeps (J.headers judge.old) (J.headers judge.new) (J.names judge.old) (J.names judge.new)
+        (J.outcomes judge.old) (J.outcomes judge.new) (J.is_spent judge.old) (J.is_spent judge.new)
+        (J.world judge.old) (J.world judge.new) (J.is_type judge.old) (J.is_type judge.new)
+        (J.tree judge.old) (J.tree judge.new) }
 {
-    limited_outcome(alloc, int_lit_value(text))
+    limited_outcome(alloc, judge, int_lit_value(text))
 }
 
 /// What a value comes to: itself where it is within the limits, else it breaks L2. An error is want of memory.
-pub fn limited_outcome(alloc: Global, value: Option<i128>) -> Result<Outcome, NoMemory>
-    ensures { IfOk result (λ outcome. outcome_view outcome ≡ limited_view value) }
+pub fn limited_outcome<J: Judge>(
+    alloc: Global,
+    judge: &mut J,
+    value: Option<i128>,
+) -> Result<Outcome, NoMemory>
+    ensures outcome { IfOk result (λ outcome. outcome_as (J.tree judge.new) outcome ≡ limited_view value) }
+    ensures own { IfOk result (IsOwnOutcome (J.is_type judge.new)) }
+    ensures keeps { Keeps (J.headers judge.old) (J.headers judge.new) (J.names judge.old) (J.names judge.new)
+        (J.outcomes judge.old) (J.outcomes judge.new) (J.is_spent judge.old) (J.is_spent judge.new)
+        (J.world judge.old) (J.world judge.new) (J.is_type judge.old) (J.is_type judge.new)
+        (J.tree judge.old) (J.tree judge.new) }
 {
     match value {
-        Some(value) => Ok(Outcome::Found(integer_record(value))),
-        None => broken(alloc, WIDE_INTEGER),
+        Some(value) => Ok(Outcome::Found(integer_record(alloc, judge, value)?)),
+        None => broken(alloc, judge, WIDE_INTEGER),
     }
 }
 
-// The record of an untyped integer constant without a name.
-fn integer_record(value: i128) -> Rec
-    ensures { rec_view result ≡ records.integer_record value }
+// The record of an untyped integer constant without a name. An error is want of memory.
+fn integer_record<J: Judge>(alloc: Global, judge: &mut J, value: i128) -> Result<Rec, NoMemory>
+    ensures record { IfOk result (λ rec. rec_as (J.tree judge.new) rec ≡ records.integer_record value) }
+    ensures own { IfOk result (IsOwnRec (J.is_type judge.new)) }
+    ensures keeps { Keeps (J.headers judge.old) (J.headers judge.new) (J.names judge.old) (J.names judge.new)
+        (J.outcomes judge.old) (J.outcomes judge.new) (J.is_spent judge.old) (J.is_spent judge.new)
+        (J.world judge.old) (J.world judge.new) (J.is_type judge.old) (J.is_type judge.new)
+        (J.tree judge.old) (J.tree judge.new) }
 {
-    Rec {
+    Ok(Rec {
         mode: Mode::Const,
-        ty: Some(Term::Basic(Basic::UntypedInt)),
+        ty: Some(basic_type(alloc, judge, Basic::UntypedInt)?),
         value: Some(Value::Int(value)),
         object: None,
-    }
+    })
 }

@@ -39,6 +39,7 @@ fn kind_meaning(d: ObjId, kind: ObjKind) -> Meaning
         ObjKind::Const => Meaning::Declared(d),
         ObjKind::Defined => Meaning::Other,
         ObjKind::Alias => Meaning::Other,
+        ObjKind::Var => Meaning::Other,
         ObjKind::Package => Meaning::Other,
         ObjKind::Builtin => Meaning::Other,
         ObjKind::Nil => Meaning::Other,

@@ -1,15 +1,15 @@
 // Identifiers (Go specification, "Operands", "Predeclared identifiers").
-ghost use Rattle.std.specs.Prelude.{◌≡◌, List, IfOk};
+ghost use Rattle.std.specs.Prelude.{◌≡◌, List, IfOk, IfSome};
 ghost use Rattle.std.specs.Option.{option_map};
 ghost use Rattle.go_model.specs.declared.meaning.Meaning.TheVariants as meanings;
 ghost use Rattle.go_model.specs.Outcomes.Constructs.Name as spec;
 ghost use Rattle.go_model.specs.Outcomes.Judged.{OutcomeData, judged};
-ghost use Rattle.go_model.specs.Outcomes.Records.{RecData, header_view, named_record, rec_view, typed_record};
-ghost use Rattle.go_model.specs.Outcomes.View.{outcome_view};
-ghost use Rattle.go_model.specs.Types.Own.{KeepsTypes};
-ghost use Rattle.go_term.specs.View.{type_of};
+ghost use Rattle.go_model.specs.Outcomes.Records.{RecData, header_as, named_record, rec_as, typed_record};
+ghost use Rattle.go_model.specs.Outcomes.View.{outcome_as};
+ghost use Rattle.go_model.specs.Types.Own.{IsOwnHeader, IsOwnOutcome, IsOwnRec, Keeps};
 
 use crate::broken::broken;
+use crate::types::named_type;
 use go_base::NoMemory;
 use go_model::{Header, Judge, Meaning, Mode, Outcome, Rec};
 use go_module::{ObjId, UNBUILT_FORM};
@@ -20,51 +20,84 @@ use std::alloc::Global;
 /// predeclared identifier breaks U0. An error is want of memory.
 pub fn name<J: Judge>(alloc: Global, judge: &mut J, meaning: Meaning) -> Result<Outcome, NoMemory>
     ensures outcome { IfOk result (λ outcome. (parts : List (OutcomeData RecData))
-        → outcome_view outcome ≡ judged (J.headers judge.old) (spec.name meaning) parts) }
-    ensures same { J.headers judge.new ≡ J.headers judge.old }
-    ensures names { J.names judge.new ≡ J.names judge.old }
-    ensures world { J.world judge.new ≡ J.world judge.old }
-    ensures types { KeepsTypes (J.is_type judge.old) (J.is_type judge.new) (J.tree judge.old) (J.tree judge.new) }
+        → outcome_as (J.tree judge.new) outcome ≡ judged (J.headers judge.old) (spec.name meaning) parts) }
+    ensures own { IfOk result (IsOwnOutcome (J.is_type judge.new)) }
+    ensures keeps { Keeps (J.headers judge.old) (J.headers judge.new) (J.names judge.old) (J.names judge.new)
+        (J.outcomes judge.old) (J.outcomes judge.new) (J.is_spent judge.old) (J.is_spent judge.new)
+        (J.world judge.old) (J.world judge.new) (J.is_type judge.old) (J.is_type judge.new)
+        (J.tree judge.old) (J.tree judge.new) }
 {
     match meaning {
-        Meaning::Declared(d) => Ok(declared(alloc, d, judge.ask(d)?)),
-        Meaning::Predeclared => broken(alloc, UNBUILT_FORM),
+        Meaning::Declared(d) => {
+            let header = judge.ask(d)?;
+            declared(alloc, judge, d, header)
+        }
+        Meaning::Predeclared => broken(alloc, judge, UNBUILT_FORM),
         Meaning::Other => Ok(Outcome::Nothing),
     }
 }
 
-// A declaration, by the header that it may have.
-fn declared(alloc: Global, d: ObjId, header: Option<Header>) -> Outcome
-    ensures { (parts : List (OutcomeData RecData)) → outcome_view result
-        ≡ judged (λ _. option_map header_view header) (spec.name (meanings.Declared d)) parts }
+// A declaration, by the header that it may have. An error is want of memory.
+fn declared<J: Judge>(
+    alloc: Global,
+    judge: &mut J,
+    d: ObjId,
+    header: Option<Header>,
+) -> Result<Outcome, NoMemory>
+    requires { IfSome header (IsOwnHeader (J.is_type judge.old)) }
+    ensures outcome { IfOk result (λ outcome. (parts : List (OutcomeData RecData))
+        → outcome_as (J.tree judge.new) outcome
+        ≡ judged (λ _. option_map (header_as (J.tree judge.old)) header) (spec.name (meanings.Declared d)) parts) }
+    ensures own { IfOk result (IsOwnOutcome (J.is_type judge.new)) }
+    ensures keeps { Keeps (J.headers judge.old) (J.headers judge.new) (J.names judge.old) (J.names judge.new)
+        (J.outcomes judge.old) (J.outcomes judge.new) (J.is_spent judge.old) (J.is_spent judge.new)
+        (J.world judge.old) (J.world judge.new) (J.is_type judge.old) (J.is_type judge.new)
+        (J.tree judge.old) (J.tree judge.new) }
 {
     match header {
-        Some(header) => Outcome::Found(named_record(alloc, d, header)),
-        None => Outcome::Waits(d),
+        Some(header) => Ok(Outcome::Found(named_record(alloc, judge, d, header)?)),
+        None => Ok(Outcome::Waits(d)),
     }
 }
 
-// The record of a name, by the header of the declaration that it denotes.
-fn named_record(alloc: Global, d: ObjId, header: Header) -> Rec
-    ensures { rec_view result ≡ named_record d (header_view header) }
+// The record of a name, by the header of the declaration that it denotes. An error is want of memory.
+fn named_record<J: Judge>(
+    alloc: Global,
+    judge: &mut J,
+    d: ObjId,
+    header: Header,
+) -> Result<Rec, NoMemory>
+    requires { IsOwnHeader (J.is_type judge.old) header }
+    ensures record { IfOk result (λ rec. rec_as (J.tree judge.new) rec
+        ≡ named_record d (header_as (J.tree judge.old) header)) }
+    ensures own { IfOk result (IsOwnRec (J.is_type judge.new)) }
+    ensures keeps { Keeps (J.headers judge.old) (J.headers judge.new) (J.names judge.old) (J.names judge.new)
+        (J.outcomes judge.old) (J.outcomes judge.new) (J.is_spent judge.old) (J.is_spent judge.new)
+        (J.world judge.old) (J.world judge.new) (J.is_type judge.old) (J.is_type judge.new)
+        (J.tree judge.old) (J.tree judge.new) }
 {
     match header {
-        Header::Const(ty, value) => Rec {
+        Header::Const(ty, value) => Ok(Rec {
             mode: Mode::Const,
             ty: Some(ty),
             value: Some(value),
             object: Some(d),
-        },
-        Header::Var(ty) => typed_record(d, Mode::Var, ty),
-        Header::Func(_, ty) => typed_record(d, Mode::Value, ty),
-        Header::Defined(_, _, _) => typed_record(d, Mode::IsType, Ty::Named(d, Vec::new(alloc))),
-        Header::Alias(ty) => typed_record(d, Mode::IsType, ty),
+        }),
+        Header::Var(ty) => Ok(typed_record(judge, d, Mode::Var, ty)),
+        Header::Func(_, ty) => Ok(typed_record(judge, d, Mode::Value, ty)),
+        Header::Defined(_, _, _) => {
+            let ty = named_type(alloc, judge, d)?;
+            Ok(typed_record(judge, d, Mode::IsType, ty))
+        }
+        Header::Alias(ty) => Ok(typed_record(judge, d, Mode::IsType, ty)),
     }
 }
 
 // The record of a name of this type that has no value.
-fn typed_record(d: ObjId, mode: Mode, ty: Ty) -> Rec
-    ensures { rec_view result ≡ typed_record d mode (type_of ty) }
+fn typed_record<J: Judge>(judge: &J, d: ObjId, mode: Mode, ty: Ty) -> Rec
+    requires { J.is_type judge.now ty }
+    ensures record { rec_as (J.tree judge.now) result ≡ typed_record d mode (J.tree judge.now ty) }
+    ensures own { IsOwnRec (J.is_type judge.now) result }
 {
     Rec {
         mode,

@@ -3,16 +3,20 @@ ghost use Rattle.std.specs.Prelude.{◌≡◌, List, ◌∷◌, IfOk};
 ghost use Rattle.go_model.specs.Outcomes.Constructs.Parentheses as spec;
 ghost use Rattle.go_model.specs.Outcomes.Judged.{OutcomeData, judged};
 ghost use Rattle.go_model.specs.Outcomes.Records.{RecData};
-ghost use Rattle.go_model.specs.Outcomes.View.{outcome_view};
+ghost use Rattle.go_model.specs.Outcomes.View.{outcome_as};
 ghost use Rattle.go_model.specs.Outcomes.Walk as walk;
+ghost use Rattle.go_model.specs.Types.Own.{IsOwnOutcome};
 
 use go_base::NoMemory;
-use go_model::Outcome;
+use go_model::{Judge, Outcome};
 
 /// An expression in parentheses, by the outcome of what stands in them. An error is want of memory.
-pub fn parentheses(part: &Outcome) -> Result<Outcome, NoMemory>
-    ensures { IfOk result (λ outcome. (headers : walk.Headers) (parts : List (OutcomeData RecData))
-        → outcome_view outcome ≡ judged headers spec.parentheses (outcome_view part.now ∷ parts)) }
+pub fn parentheses<J: Judge>(judge: &J, part: &Outcome) -> Result<Outcome, NoMemory>
+    requires { IsOwnOutcome (J.is_type judge.now) part.now }
+    ensures outcome { IfOk result (λ outcome. (headers : walk.Headers) (parts : List (OutcomeData RecData))
+        → outcome_as (J.tree judge.now) outcome
+        ≡ judged headers spec.parentheses (outcome_as (J.tree judge.now) part.now ∷ parts)) }
+    ensures own { IfOk result (IsOwnOutcome (J.is_type judge.now)) }
 {
     match part {
         Outcome::Found(found) => Ok(Outcome::Found(found.clone()?)),

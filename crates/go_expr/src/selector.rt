@@ -4,9 +4,9 @@ ghost use Rattle.go_model.specs.declared.meaning.Meaning.TheVariants as meanings
 ghost use Rattle.go_model.specs.Outcomes.Constructs.Selector as spec;
 ghost use Rattle.go_model.specs.Outcomes.Judged.{OutcomeData, judged};
 ghost use Rattle.go_model.specs.Outcomes.Records.{RecData};
-ghost use Rattle.go_model.specs.Outcomes.View.{outcome_view};
+ghost use Rattle.go_model.specs.Outcomes.View.{outcome_as};
 ghost use Rattle.go_model.specs.Outcomes.Walk as walk;
-ghost use Rattle.go_model.specs.Types.Own.{KeepsTypes};
+ghost use Rattle.go_model.specs.Types.Own.{IsOwnOutcome, Keeps};
 
 use crate::broken::broken;
 use crate::name::name;
@@ -23,28 +23,31 @@ pub fn selector<J: Judge>(
     meaning: Meaning,
     operand: &Outcome,
 ) -> Result<Outcome, NoMemory>
-    ensures outcome { IfOk result (λ outcome. (parts : List (OutcomeData RecData)) → outcome_view outcome
-        ≡ judged (J.headers judge.old) (spec.selector meaning) (outcome_view operand.now ∷ parts)) }
-    ensures same { J.headers judge.new ≡ J.headers judge.old }
-    ensures names { J.names judge.new ≡ J.names judge.old }
-    ensures world { J.world judge.new ≡ J.world judge.old }
-    ensures types { KeepsTypes (J.is_type judge.old) (J.is_type judge.new) (J.tree judge.old) (J.tree judge.new) }
+    ensures outcome { IfOk result (λ outcome. (parts : List (OutcomeData RecData))
+        → outcome_as (J.tree judge.new) outcome
+        ≡ judged (J.headers judge.old) (spec.selector meaning) (outcome_as (J.tree judge.old) operand.now ∷ parts)) }
+    ensures own { IfOk result (IsOwnOutcome (J.is_type judge.new)) }
+    ensures keeps { Keeps (J.headers judge.old) (J.headers judge.new) (J.names judge.old) (J.names judge.new)
+        (J.outcomes judge.old) (J.outcomes judge.new) (J.is_spent judge.old) (J.is_spent judge.new)
+        (J.world judge.old) (J.world judge.new) (J.is_type judge.old) (J.is_type judge.new)
+        (J.tree judge.old) (J.tree judge.new) }
 {
     match meaning {
-        Meaning::Other => of_value(alloc, operand),
+        Meaning::Other => of_value(alloc, judge, operand),
         Meaning::Declared(_) => name(alloc, judge, meaning),
         Meaning::Predeclared => name(alloc, judge, meaning),
     }
 }
 
 // A selector of a value, by the outcome of its operand.
-fn of_value(alloc: Global, operand: &Outcome) -> Result<Outcome, NoMemory>
-    ensures { IfOk result (λ outcome. (headers : walk.Headers) (parts : List (OutcomeData RecData))
-        → outcome_view outcome
-        ≡ judged headers (spec.selector meanings.Other) (outcome_view operand.now ∷ parts)) }
+fn of_value<J: Judge>(alloc: Global, judge: &J, operand: &Outcome) -> Result<Outcome, NoMemory>
+    ensures outcome { IfOk result (λ outcome. (headers : walk.Headers) (parts : List (OutcomeData RecData))
+        → outcome_as (J.tree judge.now) outcome
+        ≡ judged headers (spec.selector meanings.Other) (outcome_as (J.tree judge.now) operand.now ∷ parts)) }
+    ensures own { IfOk result (IsOwnOutcome (J.is_type judge.now)) }
 {
     match operand {
-        Outcome::Found(_) => broken(alloc, UNBUILT_FORM),
+        Outcome::Found(_) => broken(alloc, judge, UNBUILT_FORM),
         Outcome::Waits(d) => Ok(Outcome::Waits(*d)),
         Outcome::Broken(_, _) => Ok(Outcome::Nothing),
         Outcome::Nothing => Ok(Outcome::Nothing),

@@ -1,19 +1,22 @@
 // Walks over expressions and types, node by node (Go specification, "Expressions").
-ghost use Rattle.std.specs.Prelude.{◌≡◌, ℕ, None, IfOk, OnErr, OnOk, map};
+ghost use Rattle.std.specs.Prelude.{◌≡◌, ◌==◌, ℕ, None, Some, IfOk, IfSome, OnErr, OnOk, if◌then◌else◌, map};
 ghost use Rattle.std.specs.Prelude.{option_and_then};
+ghost use Rattle.std.specs.List.{AllByRecursion};
 ghost use Rattle.std.specs.Option.{option_map};
-ghost use Rattle.go_tree.specs.Tree.{tree_of};
+ghost use Rattle.go_tree.specs.Tree.{id_of, tree_of};
+ghost use Rattle.go_term.specs.Types.{TypeData};
+ghost use Rattle.go_term.specs.declared.term.Term.{Term};
 ghost use Rattle.go_module.specs.Names.Occurrences.{nodes_in};
 ghost use Rattle.go_model.specs.Outcomes.Readings.{record_in};
-ghost use Rattle.go_model.specs.Outcomes.Records.{rec_view};
-ghost use Rattle.go_model.specs.Outcomes.View.{outcome_view};
+ghost use Rattle.go_model.specs.Outcomes.Records.{rec_as};
+ghost use Rattle.go_model.specs.Outcomes.View.{outcome_as};
 ghost use Rattle.go_model.specs.Outcomes.Walk as walk;
 ghost use Rattle.go_model.specs.Outcomes.Walked.{ArePartly, walked_over};
-ghost use Rattle.go_model.specs.Types.Own.{KeepsTypes};
+ghost use Rattle.go_model.specs.Types.Own.{IsOwnOutcome, Keeps, KeepsTypes};
 ghost use Rattle.go_model.specs.Values.Meaning.{AreThere, meaning_by};
 ghost use Rattle.go_expr.specs.Outcomes.{both_of, only_of, outcome_by_parts};
 ghost use Rattle.go_expr.specs.Outcomes.{parentheses_by_parts, selector_by_parts, sum_by_parts};
-ghost use Rattle.go_expr.specs.Walker.{outcomes_view};
+ghost use Rattle.go_expr.specs.Walker.{AreOwnOutcomes, outcome_in, outcomes_as};
 
 use crate::literal::literal;
 use crate::meaning::meaning;
@@ -38,7 +41,7 @@ pub struct Walker {
 impl Walker {
     /// No node is reached yet.
     pub fn new(alloc: Global) -> Walker
-        ensures { (n : ℕ) → outcomes_view result n ≡ None }
+        ensures { (n : ℕ) → outcome_in result n ≡ None }
     {
         Walker {
             table: IndexMap::with_hasher(alloc, NumberHasher::new()),
@@ -46,9 +49,10 @@ impl Walker {
     }
 
     /// The outcome of a node over the headers of the judge, which stays as it is, also on an error. It asks that each
-    /// object that is denoted is there. The walk reaches the node and all nodes in it, the name of a package before a
-    /// `.` too. `_want` is the type of the variable or the result to which the value is given; nothing is built yet
-    /// that looks at it. An error is want of memory; some of these nodes may have their outcomes then.
+    /// object that is denoted is there, and that the outcomes that are kept have types of the judge's own; so have then
+    /// that of the node and all that are kept. The walk reaches the node and all nodes in it, the name of a package
+    /// before a `.` too. `_want` is the type of the variable or the result to which the value is given; nothing is built
+    /// yet that looks at it. An error is want of memory; some of these nodes may have their outcomes then.
     pub fn walk_node<J: Judge>(
         &mut self,
         alloc: Global,
@@ -56,13 +60,19 @@ impl Walker {
         node: &Node,
         _want: Option<Ty>,
     ) -> Result<Outcome, NoMemory>
-        requires { AreThere (J.names judge.old) }
-        ensures outcome { IfOk result (λ found. outcome_view found
+        requires there { AreThere (J.names judge.old) }
+        requires wanted { IfSome _want (J.is_type judge.old) }
+        requires own { AreOwnOutcomes (J.is_type judge.old) self.old }
+        ensures outcome { IfOk result (λ found. outcome_as (J.tree judge.new) found
             ≡ walk.outcome (meaning_by (J.names judge.old)) (J.headers judge.old) (tree_of node.now)) }
-        ensures reached { OnOk result ((n : ℕ) → outcomes_view self.new n ≡ walked_over (meaning_by (J.names judge.old))
-            (J.headers judge.old) (nodes_in (tree_of node.now)) (outcomes_view self.old) n) }
+        ensures own { IfOk result (IsOwnOutcome (J.is_type judge.new)) }
+        ensures reached { OnOk result ((n : ℕ) → outcomes_as (J.tree judge.new) self.new n
+            ≡ walked_over (meaning_by (J.names judge.old)) (J.headers judge.old) (nodes_in (tree_of node.now))
+            (outcomes_as (J.tree judge.old) self.old) n) }
         ensures err { OnErr result (ArePartly (meaning_by (J.names judge.old)) (J.headers judge.old)
-            (nodes_in (tree_of node.now)) (outcomes_view self.old) (outcomes_view self.new)) }
+            (nodes_in (tree_of node.now)) (outcomes_as (J.tree judge.old) self.old)
+            (outcomes_as (J.tree judge.new) self.new)) }
+        ensures owned { AreOwnOutcomes (J.is_type judge.new) self.new }
         ensures same { J.headers judge.new ≡ J.headers judge.old }
         ensures names { J.names judge.new ≡ J.names judge.old }
         ensures world { J.world judge.new ≡ J.world judge.old }
@@ -73,7 +83,7 @@ impl Walker {
 
     /// The outcome of a node in the last walk that reached it, None exactly where none did.
     pub fn outcome(&self, id: NodeId) -> Option<&Outcome>
-        ensures { option_map (λ found. outcome_view found.now) result ≡ outcomes_view self.now id.0 }
+        ensures { option_map (λ found. found.now) result ≡ outcome_in self.now id.0 }
     {
         self.table.get(&id)
     }
@@ -81,8 +91,8 @@ impl Walker {
     /// The record of a node, None exactly where the last walk that reached it gave it none, or none did. Over more
     /// headers records stay.
     pub fn found(&self, id: NodeId) -> Option<&Rec>
-        ensures { option_map (λ rec. rec_view rec.now) result
-            ≡ option_and_then record_in (outcomes_view self.now id.0) }
+        ensures { (tree : Term → TypeData) → option_map (λ rec. rec_as tree rec.now) result
+            ≡ option_and_then record_in (outcomes_as tree self.now id.0) }
     {
         match self.outcome(id) {
             Some(Outcome::Found(rec)) => Some(rec),
@@ -102,16 +112,21 @@ fn walk<J: Judge>(
     walker: &mut Walker,
 ) -> Result<Outcome, NoMemory>
     requires there { AreThere (J.names judge.old) }
-    ensures outcome { IfOk result (λ found. outcome_view found
+    requires own { AreOwnOutcomes (J.is_type judge.old) walker.old }
+    ensures outcome { IfOk result (λ found. outcome_as (J.tree judge.new) found
         ≡ walk.outcome (meaning_by (J.names judge.old)) (J.headers judge.old) (tree_of node.now)) }
-    ensures reached { OnOk result ((n : ℕ) → outcomes_view walker.new n ≡ walked_over (meaning_by (J.names judge.old))
-        (J.headers judge.old) (nodes_in (tree_of node.now)) (outcomes_view walker.old) n) }
+    ensures own { IfOk result (IsOwnOutcome (J.is_type judge.new)) }
+    ensures reached { OnOk result ((n : ℕ) → outcomes_as (J.tree judge.new) walker.new n
+        ≡ walked_over (meaning_by (J.names judge.old)) (J.headers judge.old) (nodes_in (tree_of node.now))
+        (outcomes_as (J.tree judge.old) walker.old) n) }
     ensures err { OnErr result (ArePartly (meaning_by (J.names judge.old)) (J.headers judge.old)
-        (nodes_in (tree_of node.now)) (outcomes_view walker.old) (outcomes_view walker.new)) }
-    ensures same { J.headers judge.new ≡ J.headers judge.old }
-    ensures names { J.names judge.new ≡ J.names judge.old }
-    ensures world { J.world judge.new ≡ J.world judge.old }
-    ensures types { KeepsTypes (J.is_type judge.old) (J.is_type judge.new) (J.tree judge.old) (J.tree judge.new) }
+        (nodes_in (tree_of node.now)) (outcomes_as (J.tree judge.old) walker.old)
+        (outcomes_as (J.tree judge.new) walker.new)) }
+    ensures owned { AreOwnOutcomes (J.is_type judge.new) walker.new }
+    ensures keeps { Keeps (J.headers judge.old) (J.headers judge.new) (J.names judge.old) (J.names judge.new)
+        (J.outcomes judge.old) (J.outcomes judge.new) (J.is_spent judge.old) (J.is_spent judge.new)
+        (J.world judge.old) (J.world judge.new) (J.is_type judge.old) (J.is_type judge.new)
+        (J.tree judge.old) (J.tree judge.new) }
 {
     let inner = inner_parts(alloc, node)?;
     let mut outcomes = Vec::new(alloc);
@@ -119,7 +134,55 @@ fn walk<J: Judge>(
         outcomes.push(walk(alloc, judge, inner[place], walker)?)?;
     }
     outcomes.reverse();
-    let made = step(alloc, judge, node, &outcomes)?;
+    step_and_keep(alloc, judge, node, &outcomes, walker)
+}
+
+// The outcome of a node from those of its inner parts; the table then has it too.
+fn step_and_keep<J: Judge>(
+    alloc: Global,
+    judge: &mut J,
+    node: &Node,
+    outcomes: &[Outcome],
+    walker: &mut Walker,
+) -> Result<Outcome, NoMemory>
+    requires there { AreThere (J.names judge.old) }
+    requires parts { AllByRecursion (IsOwnOutcome (J.is_type judge.old)) outcomes.now }
+    requires own { AreOwnOutcomes (J.is_type judge.old) walker.old }
+    ensures outcome { IfOk result (λ found. outcome_as (J.tree judge.new) found
+        ≡ outcome_by_parts (meaning_by (J.names judge.old)) (J.headers judge.old) (tree_of node.now)
+        (map (outcome_as (J.tree judge.old)) outcomes.now)) }
+    ensures own { IfOk result (IsOwnOutcome (J.is_type judge.new)) }
+    ensures entered { IfOk result (λ found. (n : ℕ) → outcomes_as (J.tree judge.new) walker.new n
+        ≡ (if id_of (tree_of node.now) == n then Some (outcome_as (J.tree judge.new) found)
+        else outcomes_as (J.tree judge.old) walker.old n)) }
+    ensures err { OnErr result ((n : ℕ) → outcomes_as (J.tree judge.new) walker.new n
+        ≡ outcomes_as (J.tree judge.old) walker.old n) }
+    ensures owned { AreOwnOutcomes (J.is_type judge.new) walker.new }
+    ensures keeps { Keeps (J.headers judge.old) (J.headers judge.new) (J.names judge.old) (J.names judge.new)
+        (J.outcomes judge.old) (J.outcomes judge.new) (J.is_spent judge.old) (J.is_spent judge.new)
+        (J.world judge.old) (J.world judge.new) (J.is_type judge.old) (J.is_type judge.new)
+        (J.tree judge.old) (J.tree judge.new) }
+{
+    let made = step(alloc, judge, node, outcomes)?;
+    keep(judge, node, made, walker)
+}
+
+// Puts the outcome of a node into the table, and hands it on.
+fn keep<J: Judge>(
+    judge: &J,
+    node: &Node,
+    made: Outcome,
+    walker: &mut Walker,
+) -> Result<Outcome, NoMemory>
+    requires made { IsOwnOutcome (J.is_type judge.now) made }
+    requires own { AreOwnOutcomes (J.is_type judge.now) walker.old }
+    ensures outcome { IfOk result (λ found. found ≡ made) }
+    ensures entered { IfOk result (λ found. (n : ℕ) → outcomes_as (J.tree judge.now) walker.new n
+        ≡ (if id_of (tree_of node.now) == n then Some (outcome_as (J.tree judge.now) found)
+        else outcomes_as (J.tree judge.now) walker.old n)) }
+    ensures err { OnErr result ((n : ℕ) → outcome_in walker.new n ≡ outcome_in walker.old n) }
+    ensures owned { AreOwnOutcomes (J.is_type judge.now) walker.new }
+{
     walker.table.insert(node.id(), made.clone()?)?;
     Ok(made)
 }
@@ -131,17 +194,19 @@ fn step<J: Judge>(
     node: &Node,
     outcomes: &[Outcome],
 ) -> Result<Outcome, NoMemory>
-    requires { AreThere (J.names judge.old) }
-    ensures outcome { IfOk result (λ found. outcome_view found
+    requires there { AreThere (J.names judge.old) }
+    requires own { AllByRecursion (IsOwnOutcome (J.is_type judge.old)) outcomes.now }
+    ensures outcome { IfOk result (λ found. outcome_as (J.tree judge.new) found
         ≡ outcome_by_parts (meaning_by (J.names judge.old)) (J.headers judge.old) (tree_of node.now)
-        (map outcome_view outcomes.now)) }
-    ensures same { J.headers judge.new ≡ J.headers judge.old }
-    ensures names { J.names judge.new ≡ J.names judge.old }
-    ensures world { J.world judge.new ≡ J.world judge.old }
-    ensures types { KeepsTypes (J.is_type judge.old) (J.is_type judge.new) (J.tree judge.old) (J.tree judge.new) }
+        (map (outcome_as (J.tree judge.old)) outcomes.now)) }
+    ensures own { IfOk result (IsOwnOutcome (J.is_type judge.new)) }
+    ensures keeps { Keeps (J.headers judge.old) (J.headers judge.new) (J.names judge.old) (J.names judge.new)
+        (J.outcomes judge.old) (J.outcomes judge.new) (J.is_spent judge.old) (J.is_spent judge.new)
+        (J.world judge.old) (J.world judge.new) (J.is_type judge.old) (J.is_type judge.new)
+        (J.tree judge.old) (J.tree judge.new) }
 {
     match node.kind() {
-        NodeKind::IntLit => literal(alloc, node.text()),
+        NodeKind::IntLit => literal(alloc, judge, node.text()),
         NodeKind::Name => {
             let meaning = meaning(judge, node.id());
             name(alloc, judge, meaning)
@@ -153,8 +218,8 @@ fn step<J: Judge>(
             }
             None => Ok(Outcome::Nothing),
         },
-        NodeKind::ParenExpr => parentheses_by_parts(outcomes),
-        NodeKind::AddExpr => sum_by_parts(alloc, outcomes),
+        NodeKind::ParenExpr => parentheses_by_parts(judge, outcomes),
+        NodeKind::AddExpr => sum_by_parts(alloc, judge, outcomes),
         _ => Ok(Outcome::Nothing),
     }
 }
@@ -165,12 +230,13 @@ fn selector_by_parts<J: Judge>(
     meaning: Meaning,
     outcomes: &[Outcome],
 ) -> Result<Outcome, NoMemory>
-    ensures outcome { IfOk result (λ found. outcome_view found
-        ≡ selector_by_parts (J.headers judge.old) meaning (map outcome_view outcomes.now)) }
-    ensures same { J.headers judge.new ≡ J.headers judge.old }
-    ensures names { J.names judge.new ≡ J.names judge.old }
-    ensures world { J.world judge.new ≡ J.world judge.old }
-    ensures types { KeepsTypes (J.is_type judge.old) (J.is_type judge.new) (J.tree judge.old) (J.tree judge.new) }
+    ensures outcome { IfOk result (λ found. outcome_as (J.tree judge.new) found
+        ≡ selector_by_parts (J.headers judge.old) meaning (map (outcome_as (J.tree judge.old)) outcomes.now)) }
+    ensures own { IfOk result (IsOwnOutcome (J.is_type judge.new)) }
+    ensures keeps { Keeps (J.headers judge.old) (J.headers judge.new) (J.names judge.old) (J.names judge.new)
+        (J.outcomes judge.old) (J.outcomes judge.new) (J.is_spent judge.old) (J.is_spent judge.new)
+        (J.world judge.old) (J.world judge.new) (J.is_type judge.old) (J.is_type judge.new)
+        (J.tree judge.old) (J.tree judge.new) }
 {
     match only(outcomes) {
         Some(operand) => selector(alloc, judge, meaning, operand),
@@ -178,22 +244,34 @@ fn selector_by_parts<J: Judge>(
     }
 }
 
-fn parentheses_by_parts(outcomes: &[Outcome]) -> Result<Outcome, NoMemory>
-    ensures { IfOk result (λ found. (headers : walk.Headers)
-        → outcome_view found ≡ parentheses_by_parts headers (map outcome_view outcomes.now)) }
+fn parentheses_by_parts<J: Judge>(judge: &J, outcomes: &[Outcome]) -> Result<Outcome, NoMemory>
+    requires { AllByRecursion (IsOwnOutcome (J.is_type judge.now)) outcomes.now }
+    ensures outcome { IfOk result (λ found. (headers : walk.Headers) → outcome_as (J.tree judge.now) found
+        ≡ parentheses_by_parts headers (map (outcome_as (J.tree judge.now)) outcomes.now)) }
+    ensures own { IfOk result (IsOwnOutcome (J.is_type judge.now)) }
 {
     match only(outcomes) {
-        Some(part) => parentheses(part),
+        Some(part) => parentheses(judge, part),
         None => Ok(Outcome::Nothing),
     }
 }
 
-fn sum_by_parts(alloc: Global, outcomes: &[Outcome]) -> Result<Outcome, NoMemory>
-    ensures { IfOk result (λ found. (headers : walk.Headers)
-        → outcome_view found ≡ sum_by_parts headers (map outcome_view outcomes.now)) }
+fn sum_by_parts<J: Judge>(
+    alloc: Global,
+    judge: &mut J,
+    outcomes: &[Outcome],
+) -> Result<Outcome, NoMemory>
+    requires { AllByRecursion (IsOwnOutcome (J.is_type judge.old)) outcomes.now }
+    ensures outcome { IfOk result (λ found. (headers : walk.Headers) → outcome_as (J.tree judge.new) found
+        ≡ sum_by_parts headers (map (outcome_as (J.tree judge.old)) outcomes.now)) }
+    ensures own { IfOk result (IsOwnOutcome (J.is_type judge.new)) }
+    ensures keeps { Keeps (J.headers judge.old) (J.headers judge.new) (J.names judge.old) (J.names judge.new)
+        (J.outcomes judge.old) (J.outcomes judge.new) (J.is_spent judge.old) (J.is_spent judge.new)
+        (J.world judge.old) (J.world judge.new) (J.is_type judge.old) (J.is_type judge.new)
+        (J.tree judge.old) (J.tree judge.new) }
 {
     match both(outcomes) {
-        Some((left, right)) => sum(alloc, left, right),
+        Some((left, right)) => sum(alloc, judge, left, right),
         None => Ok(Outcome::Nothing),
     }
 }

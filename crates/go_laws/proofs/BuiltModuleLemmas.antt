@@ -1,7 +1,8 @@
--- In a module that is loaded without a broken rule, the values of declarations are made of what is built.
+-- In a module that is loaded without a broken rule, declarations are of constants, and their values are made of what is
+-- built.
 use Rattle.std.proofs.Common.{◌≡◌, ℕ, zero, suc, ◌+◌, List, [], ◌∷◌, ◌++◌, Some, Contains, map, sym, ap, subst}
 use Rattle.std.specs.Prelude.{slice_get}
-use Rattle.std.specs.List.{filter_map, flat_map}
+use Rattle.std.specs.List.{filter_map}
 use Rattle.std.proofs.lemmas.Option.{none-some, same_Some}
 use Rattle.go_base.specs.declared.rule.Broken.{Broken}
 use Rattle.go_graph.specs.Graph.{row_at}
@@ -11,7 +12,7 @@ use Rattle.go_text.specs.Files.{IsFileOf}
 use Rattle.go_parse_s.proofs.LawLemmas.{one_file_lem}
 use Rattle.go_module.specs.Modules.Module.{AreTrees, FileData, ModuleData, PackageData, files_from, first_number, in_order, package_at}
 use Rattle.go_module.specs.Modules.Texts.{SourceText}
-use Rattle.go_module.specs.Names.Declarations.{Spec, specs_from}
+use Rattle.go_module.specs.Names.Declarations.{Spec, specs_from, specs_of}
 use Rattle.go_module.specs.Order.{IsListOf}
 use Rattle.go_module.specs.Places.{placed_in}
 use Rattle.go_module.proofs.BrokenListLemmas.{none_found}
@@ -20,9 +21,9 @@ use Rattle.go_mod.specs.Folders.{Folder}
 use Rattle.go_load.specs.Loading.{IsModule, TextsBreakFrom}
 use Rattle.go_load.specs.Sources.{AreBrokenWith, NumbersOn, SourceBreaks, broken_path, by_form, no_tree, too_long, whole, broken}
 use Rattle.go_load.proofs.FrontLemmas.{result_at}
-use Rattle.go_laws.specs.BuiltTrees.{IsBuilt, ValuesAreBuilt}
-use Rattle.go_laws.specs.Complete.{values_in}
-use Rattle.go_laws.proofs.BuiltTreeLemmas.{Sound, file_built, form_sound}
+use Rattle.go_laws.specs.BuiltTrees.{ValuesAreBuilt}
+use Rattle.go_laws.proofs.BuiltTreeLemmas.{IsConstSpec, Sound, file_const, form_sound, values_built}
+use Rattle.go_laws.proofs.Constants.{DeclareConstants}
 use Rattle.go_laws.proofs.FileLemmas.{file_of_spec}
 use Rattle.go_model.proofs.FlatLemmas.{flat_cases}
 use Rattle.go_laws.proofs.ListLemmas.{found_from, left_is_empty, map_is_empty, right_is_empty}
@@ -69,24 +70,36 @@ files_sound number first (text ∷ texts) (tree ∷ trees) next breaks are (suc 
 
 -- PACKAGES
 
--- the values of a package stand in its files, which are among those of the module
-package_built : (files : List FileData) → ((i : ℕ) (f : FileData) → slice_get files i ≡ Some f → IsSoundFile f.tree) → (row : List ℕ) (t : Tree)
-    → Contains (flat_map (λ (d : Spec). d.values) (specs_from 0 (filter_map (slice_get files) row))) t → IsBuilt t
-package_built files sound row t h =
-    let spec = flat_cases (λ (d : Spec). d.values) (specs_from 0 (filter_map (slice_get files) row)) t h in
-    let from = file_of_spec 0 (filter_map (slice_get files) row) spec.0 spec.1 in
+-- a spec of a package stands in one of its files, which are among those of the module
+package_const : (files : List FileData) → ((i : ℕ) (f : FileData) → slice_get files i ≡ Some f → IsSoundFile f.tree) → (row : List ℕ) (d : Spec)
+    → Contains (specs_from 0 (filter_map (slice_get files) row)) d → (file : ℕ) × IsConstSpec file d
+package_const files sound row d h =
+    let from = file_of_spec 0 (filter_map (slice_get files) row) d h in
     let place = found_from (slice_get files) row from.1 from.2 in
     let own = sound place.0 from.1 place.2 in
-    file_built from.0 from.1.tree own.kind own.sound spec.0 from.3 t spec.2
+    (from.0, file_const from.0 from.1.tree own.kind own.sound d from.3)
 
-pub values_are_built : (own stubs : Folder) (m : ModuleData) → IsModule own stubs m → ValuesAreBuilt m
-values_are_built own stubs m is =
+-- each spec of each package is of constants, and breaks no rule by its form
+abbrev AreConstSpecs : ModuleData → Type 0
+AreConstSpecs m = (k : ℕ) (p : PackageData) → slice_get m.packages k ≡ Some p → (d : Spec) → Contains (specs_of p) d → (file : ℕ) × IsConstSpec file d
+
+specs_are_const : (own stubs : Folder) (m : ModuleData) → IsModule own stubs m → AreConstSpecs m
+specs_are_const own stubs m is =
     let loaded = is.loaded in
     let made = loaded.is_module in
     let files = files_from 0 loaded.texts loaded.trees in
     let list = in_order loaded.table made.order in
     let sound : (i : ℕ) (f : FileData) → slice_get files i ≡ Some f → IsSoundFile f.tree =
     files_sound 0 first_number loaded.texts loaded.trees is.sound.0 is.sound.1 loaded.parts.are_trees in
-    subst ValuesAreBuilt (sym made.module_is) (λ n p at t h.
+    subst AreConstSpecs (sym made.module_is) (λ n p at d h.
     (let z = result_at (package_at files loaded.heads loaded.table list) list n p at in
-    package_built files sound (row_at loaded.table.files z.0) t (subst (λ (q : PackageData). Contains (values_in q) t) (sym z.2) h)))
+    package_const files sound (row_at loaded.table.files z.0) d (subst (λ (q : PackageData). Contains (specs_of q) d) (sym z.2) h)))
+
+pub specs_are_constants : (own stubs : Folder) (m : ModuleData) → IsModule own stubs m → DeclareConstants m
+specs_are_constants own stubs m is k p at d h = ap (λ (x : Spec). x.kind) (sym (specs_are_const own stubs m is k p at d h).1.is)
+
+pub values_are_built : (own stubs : Folder) (m : ModuleData) → IsModule own stubs m → ValuesAreBuilt m
+values_are_built own stubs m is k p at t h =
+    let spec = flat_cases (λ (d : Spec). d.values) (specs_of p) t h in
+    let const = specs_are_const own stubs m is k p at spec.0 spec.1 in
+    values_built const.0 spec.0 const.1 t spec.2

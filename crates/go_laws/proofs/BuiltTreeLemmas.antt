@@ -1,4 +1,4 @@
--- Where the form of a file breaks no rule, the values of its declarations are made of what is built.
+-- Where the form of a file breaks no rule, its declarations are of constants, and their values are made of what is built.
 use Rattle.std.proofs.Common.{◌≡◌, ℕ, true, false, Bool, List, [], ◌∷◌, ◌++◌, ◌⊎◌, inl, inr, Contains, map, refl, sym, subst}
 use Rattle.std.specs.Prelude.{if◌then◌else◌}
 use Rattle.std.specs.List.{flat_map, list_all}
@@ -9,7 +9,7 @@ use Rattle.go_tree.specs.declared.node_kind.NodeKind.TheVariants as k
 use Rattle.go_tree.specs.Tree.{Tree, Trees, branch, kind_of, list_of, more_trees, no_trees, parts_of, start_of}
 use Rattle.go_tree.specs.Grammar.Trees.TypeTrees.{is_name}
 use Rattle.go_module.specs.Broken.{broken_at, told}
-use Rattle.go_module.specs.Names.Declarations.{Spec as SpecData, behind_names, const_spec, specs_in, specs_in_file, values_behind}
+use Rattle.go_module.specs.Names.Declarations.{Spec as SpecData, behind_names, const_spec, specs_in, specs_in_file, type_spec, values_behind, var_spec}
 use Rattle.go_module.specs.Rules.{unbuilt_form}
 use Rattle.go_module.proofs.MemberLemmas.{cons_cases, contains_head, contains_none, contains_tail}
 use Rattle.go_form.specs.AtNode.{broken_at_node, broken_declarations, broken_parameters, unsupported_forms}
@@ -21,8 +21,8 @@ use Rattle.go_form.specs.Whole.{broken_forms, written, written_among}
 use Rattle.go_laws.specs.BuiltTrees.{IsBuilt, IsIdentifier, identifier, integer, name, parentheses, selector, sum}
 use Rattle.go_model.proofs.FlatLemmas.{flat_cases, map_cases}
 use Rattle.go_laws.proofs.ListLemmas.{left_is_empty, map_is_empty, none_of_each, right_is_empty}
-use Rattle.go_laws.proofs.TreeShapes.{AllShaped, Is, Named, Operand, Shaped, Spec, is_of, kinds_in}
-use Rattle.go_laws.proofs.WholeShapeLemmas.{spec_kind}
+use Rattle.go_laws.proofs.TreeShapes.{AllShaped, Is, Named, Operand, Shaped, Spec, Variable, is_of, kinds_in}
+use Rattle.go_laws.proofs.WholeShapeLemmas.{spec_kind, variable_kind}
 
 -- TREES THAT BREAK NO RULE BY THEIR FORM
 
@@ -88,6 +88,7 @@ identifier_is : (t : Tree) → is_of Named (kind_of t) ≡ true → Shaped t →
 identifier_is (branch id from to k.Name text no_trees) h s = identifier id from to text
 identifier_is (branch id from to k.Name text (more_trees t ts)) h s = absurd (let never : false ≡ true = s.0 in cc)
 identifier_is (branch id from to k.ConstSpec text ts) h s = absurd (let never : false ≡ true = h in cc)
+identifier_is (branch id from to k.VarSpec text ts) h s = absurd (let never : false ≡ true = h in cc)
 identifier_is (branch id from to k.File text ts) h s = absurd (let never : false ≡ true = h in cc)
 identifier_is (branch id from to k.ImportDecl text ts) h s = absurd (let never : false ≡ true = h in cc)
 identifier_is (branch id from to k.ImportGroup text ts) h s = absurd (let never : false ≡ true = h in cc)
@@ -134,6 +135,7 @@ built (branch id from to k.AddExpr text (more_trees x (more_trees y (more_trees 
 built (branch id from to k.FloatLit text ts) i s =
     absurd (let never : from ∷ [] ≡ [] = s.no_floats (branch id from to k.FloatLit text ts) (contains_head (branch id from to k.FloatLit text ts) (written_among ts) (branch id from to k.FloatLit text ts) refl) in cc)
 built (branch id from to k.ConstSpec text ts) i s = absurd (let never : false ≡ true = i in cc)
+built (branch id from to k.VarSpec text ts) i s = absurd (let never : false ≡ true = i in cc)
 built (branch id from to k.File text ts) i s = absurd (let never : false ≡ true = i in cc)
 built (branch id from to k.ImportDecl text ts) i s = absurd (let never : false ≡ true = i in cc)
 built (branch id from to k.ImportGroup text ts) i s = absurd (let never : false ≡ true = i in cc)
@@ -174,7 +176,7 @@ typed_list : (b : Bool) (xs ys : List ℕ) (at from : ℕ) → (if b then xs ++ 
 typed_list true xs ys at from e = let never : at ∷ ys ≡ [] = right_is_empty xs (at ∷ ys) e in cc
 typed_list false xs ys at from e = cc
 
--- the values of a spec, and those of all specs of a declaration, are built
+-- the values of a constant spec are built
 spec_built : (file : ℕ) (spec : Tree) → kind_of spec ≡ k.ConstSpec → Sound spec → (t : Tree) → Contains (const_spec file spec).values t → IsBuilt t
 spec_built file (branch id from to k.ConstSpec text no_trees) e s t h = absurd (let never : from ∷ [] ≡ [] = s.no_unbuilt in cc)
 spec_built file (branch id from to k.ConstSpec text (more_trees names no_trees)) e s t h = absurd (let never : from ∷ [] ≡ [] = s.no_unbuilt in cc)
@@ -193,26 +195,63 @@ spec_built file (branch id from to k.ConstSpec text (more_trees names (more_tree
 spec_built file (branch id from to k.ConstSpec text (more_trees names (more_trees type (more_trees list (more_trees x xs))))) e s t h = absurd (let never : from ∷ [] ≡ [] = s.no_unbuilt in cc)
 spec_built file (branch id from to _ text ts) e s t h = absurd (cc e)
 
-specs_built : (file : ℕ) (parts : Trees) → list_all (is_of Spec) (kinds_in parts) ≡ true → AllSound parts → (d : SpecData) → Contains (map (const_spec file) (list_of parts)) d → (t : Tree) → Contains d.values t → IsBuilt t
-specs_built file parts q a d h t i =
+-- a spec of variables, of a type or of an alias is not built
+unbuilt_variable : (t : Tree) → kind_of t ≡ k.VarSpec → unbuilt_in t ≡ [] → ⊥
+unbuilt_variable (branch id from to k.VarSpec text parts) e none = let never : from ∷ [] ≡ [] = none in cc
+unbuilt_variable (branch id from to _ text parts) e none = cc
+
+unbuilt_type : (file : ℕ) (t : Tree) (d : SpecData) → Contains (type_spec file t) d → unbuilt_in t ≡ [] → ⊥
+unbuilt_type file (branch id from to k.TypeSpec text parts) d h none = let never : from ∷ [] ≡ [] = none in cc
+unbuilt_type file (branch id from to k.AliasSpec text parts) d h none = let never : from ∷ [] ≡ [] = none in cc
+unbuilt_type file (branch id from to _ text parts) d h none = contains_none d h
+
+-- so the specs of a declaration that breaks no rule are of constants
+pub record IsConstSpec (file : ℕ) (d : SpecData) : Type 0 where
+  pub node : Tree
+  pub kind : kind_of node ≡ k.ConstSpec
+  pub sound : Sound node
+  pub is : const_spec file node ≡ d
+
+const_specs : (file : ℕ) (parts : Trees) → list_all (is_of Spec) (kinds_in parts) ≡ true → AllSound parts → (d : SpecData) → Contains (map (const_spec file) (list_of parts)) d → IsConstSpec file d
+const_specs file parts q a d h =
     let z = map_cases (const_spec file) (list_of parts) d h in
-    let kind = spec_kind (kind_of z.0) (each_is parts (is_of Spec) q z.0 z.1) in
-    spec_built file z.0 kind (each_sound parts a z.0 z.1) t (subst (λ (x : SpecData). Contains x.values t) (sym z.2) i)
+    record { node = z.0; kind = spec_kind (kind_of z.0) (each_is parts (is_of Spec) q z.0 z.1); sound = each_sound parts a z.0 z.1; is = z.2 }
 
-declaration_built : (file : ℕ) (t : Tree) → Sound t → (d : SpecData) → Contains (specs_in file t) d → (v : Tree) → Contains d.values v → IsBuilt v
-declaration_built file (branch id from to k.ConstDecl text parts) s d h v i =
-    specs_built file parts s.shaped.0 (parts_sound (branch id from to k.ConstDecl text parts) parts s.shaped.1 s.no_unbuilt s.no_floats) d h v i
-declaration_built file (branch id from to k.ConstGroup text parts) s d h v i =
-    specs_built file parts s.shaped.0 (parts_sound (branch id from to k.ConstGroup text parts) parts s.shaped.1 s.no_unbuilt s.no_floats) d h v i
-declaration_built file (branch id from to _ text parts) s d h v i = absurd (contains_none d h)
+no_variables : (file : ℕ) (parts : Trees) → list_all (is_of Variable) (kinds_in parts) ≡ true → AllSound parts → (d : SpecData) → Contains (map (var_spec file) (list_of parts)) d → ⊥
+no_variables file parts q a d h =
+    let z = map_cases (var_spec file) (list_of parts) d h in
+    unbuilt_variable z.0 (variable_kind (kind_of z.0) (each_is parts (is_of Variable) q z.0 z.1)) (each_sound parts a z.0 z.1).no_unbuilt
 
--- the values of the declarations of a file
-pub file_built : (file : ℕ) (tree : Tree) → kind_of tree ≡ k.File → Sound tree → (d : SpecData) → Contains (specs_in_file file tree) d → (v : Tree) → Contains d.values v → IsBuilt v
-file_built file (branch id from to k.File text parts) e s d h v i =
+no_types : (file : ℕ) (parts : Trees) → AllSound parts → (d : SpecData) → Contains (flat_map (type_spec file) (list_of parts)) d → ⊥
+no_types file parts a d h =
+    let z = flat_cases (type_spec file) (list_of parts) d h in
+    unbuilt_type file z.0 d z.2 (each_sound parts a z.0 z.1).no_unbuilt
+
+declared_const : (file : ℕ) (t : Tree) → Sound t → (d : SpecData) → Contains (specs_in file t) d → IsConstSpec file d
+declared_const file (branch id from to k.ConstDecl text parts) s d h =
+    const_specs file parts s.shaped.0 (parts_sound (branch id from to k.ConstDecl text parts) parts s.shaped.1 s.no_unbuilt s.no_floats) d h
+declared_const file (branch id from to k.ConstGroup text parts) s d h =
+    const_specs file parts s.shaped.0 (parts_sound (branch id from to k.ConstGroup text parts) parts s.shaped.1 s.no_unbuilt s.no_floats) d h
+declared_const file (branch id from to k.VarDecl text parts) s d h =
+    absurd (no_variables file parts s.shaped.0 (parts_sound (branch id from to k.VarDecl text parts) parts s.shaped.1 s.no_unbuilt s.no_floats) d h)
+declared_const file (branch id from to k.VarGroup text parts) s d h =
+    absurd (no_variables file parts s.shaped.0 (parts_sound (branch id from to k.VarGroup text parts) parts s.shaped.1 s.no_unbuilt s.no_floats) d h)
+declared_const file (branch id from to k.TypeDecl text parts) s d h =
+    absurd (no_types file parts (parts_sound (branch id from to k.TypeDecl text parts) parts s.shaped.1 s.no_unbuilt s.no_floats) d h)
+declared_const file (branch id from to k.TypeGroup text parts) s d h =
+    absurd (no_types file parts (parts_sound (branch id from to k.TypeGroup text parts) parts s.shaped.1 s.no_unbuilt s.no_floats) d h)
+declared_const file (branch id from to _ text parts) s d h = absurd (contains_none d h)
+
+-- those of a file, and their values
+pub file_const : (file : ℕ) (tree : Tree) → kind_of tree ≡ k.File → Sound tree → (d : SpecData) → Contains (specs_in_file file tree) d → IsConstSpec file d
+file_const file (branch id from to k.File text parts) e s d h =
     let inner = parts_sound (branch id from to k.File text parts) parts s.shaped.1 s.no_unbuilt s.no_floats in
     let z = flat_cases (specs_in file) (list_of parts) d h in
-    declaration_built file z.0 (each_sound parts inner z.0 z.1) d z.2 v i
-file_built file (branch id from to _ text parts) e s d h v i = absurd (cc e)
+    declared_const file z.0 (each_sound parts inner z.0 z.1) d z.2
+file_const file (branch id from to _ text parts) e s d h = absurd (cc e)
+
+pub values_built : (file : ℕ) (d : SpecData) → IsConstSpec file d → (v : Tree) → Contains d.values v → IsBuilt v
+values_built file d is v h = spec_built file is.node is.kind is.sound v (subst (λ (x : SpecData). Contains x.values v) (sym is.is) h)
 
 -- WHAT BREAKS NO RULE BY ITS FORM
 

@@ -12,10 +12,11 @@ use Rattle.go_module.specs.Broken.{broken_at, told_if}
 use Rattle.go_module.proofs.BrokenListLemmas.{none_found}
 use Rattle.go_module.proofs.MemberLemmas.{cons_cases, contains_head, contains_none, contains_tail}
 use Rattle.go_module.specs.Modules.Module.{ModuleData, PackageData}
-use Rattle.go_module.specs.Names.Declarations.{Declaration, Spec, declarations_in, declarations_of, declared_in, number_of, pairs, rests_on, specs_of, with_list}
+use Rattle.go_module.specs.Names.Declarations.{Declaration, Spec, by_values, declarations_in, declarations_of, declared_in, number_of, pairs, rests_on, specs_of, with_list}
 use Rattle.go_module.specs.Names.Occurrences.{nodes_in}
 use Rattle.go_module.specs.Places.{with_number}
 use Rattle.go_module.specs.declared.declaration.Built.TheVariants.{Pair}
+use Rattle.go_module.specs.declared.object.ObjKind.TheVariants.{Const}
 use Rattle.go_model.specs.declared.meaning.Meaning.{Meaning}
 use Rattle.go_model.specs.declared.meaning.Meaning.TheVariants.{Declared}
 use Rattle.go_model.specs.declared.outcome.Spot.{Spot}
@@ -30,7 +31,7 @@ use Rattle.go_model.specs.Values.Headers.{Follows, Justified, Known, headers_of}
 use Rattle.go_model.specs.Values.Meaning.{meaning_in}
 use Rattle.go_model.specs.Values.Quests.{IsPart}
 use Rattle.go_model.specs.Values.Records.{bound_value, header_over, record_of}
-use Rattle.go_model.specs.Values.Rules.{are_unequal, broken_cycles, broken_in, broken_in_files, broken_node, broken_spec, broken_values, cyclic_at, unequal_at, unequal_sides}
+use Rattle.go_model.specs.Values.Rules.{are_unequal, broken_cycles, broken_in, broken_in_files, broken_node, broken_spec, broken_values, cyclic_at, unequal_at, unequal_by_kind, unequal_sides}
 use Rattle.go_model.specs.Values.Waiting.{Chain, Waits as WaitsFor, awaited_by_nodes, more, one}
 use Rattle.go_model.proofs.ExactWaitLemmas.{outcome_exactly}
 use Rattle.go_model.proofs.HeaderLemmas.{both_justified, closed_under, header_over-part, headers_of-here, kept, later_part, stays}
@@ -38,6 +39,7 @@ use Rattle.go_model.proofs.OutcomeLemmas.{outcome_stays}
 use Rattle.go_laws.specs.Complete.{IsComplete, asked_in, values_in}
 use Rattle.go_laws.proofs.Asked.{AreAsked}
 use Rattle.go_laws.proofs.AwaitedLemmas.{awaited_means}
+use Rattle.go_laws.proofs.Constants.{AreConstants, constants_by_values}
 use Rattle.go_laws.proofs.AskedLemmas.{IsGood, IsUnbroken, asked_are_nodes, each_good}
 use Rattle.go_laws.proofs.DenotedLemmas.{declared_by_number}
 use Rattle.go_laws.proofs.Denoting.{ImportsHaveHeaders}
@@ -67,6 +69,7 @@ declared_names (x ∷ xs) n d e =
 pub record IsPair (spec : Spec) (values : List Tree) (d : Declaration) : Type 0 where
   pub value : Tree
   pub among : Contains values value
+  pub kind : d.kind ≡ spec.kind
   pub values_are : d.values ≡ value ∷ []
   pub built : d.built ≡ Pair
 
@@ -79,12 +82,14 @@ pair_is spec (name ∷ names) (value ∷ values) d h = by_cases (cons_cases _ (p
     by_cases (inl same) rest = record {
       value = value;
       among = contains_head value values value refl;
+      kind = ap (λ (x : Declaration). x.kind) (sym same);
       values_are = ap (λ (x : Declaration). x.values) (sym same);
       built = ap (λ (x : Declaration). x.built) (sym same);
     }
     by_cases (inr there) rest = let found = rest there in record {
       value = found.value;
       among = contains_tail value values found.value found.among;
+      kind = found.kind;
       values_are = found.values_are;
       built = found.built;
     }
@@ -98,7 +103,7 @@ self_asked means (branch id from to kind text parts) = contains_head (branch id 
 some_spots : (means : ℕ → Meaning) (headers : Headers) (t : Tree) (rule : Rule) (spots : List Spot) → outcome means headers t ≡ Broken rule spots → spots ≢ []
 some_spots means headers (branch id from to kind text parts) rule spots e = (((outcome_exactly means headers id from to kind text parts).broken rule spots).0 e).some
 
-module _ (before : Headers) (means : ℕ → Meaning) (specs : List Spec) (headers : Headers) (cyclic : ℕ → Bool)
+module _ (before : Headers) (means : ℕ → Meaning) (specs : List Spec) (constants : AreConstants specs) (headers : Headers) (cyclic : ℕ → Bool)
     (has : HasHeaders before means (declarations_in specs) headers cyclic)
     (no_cycles : broken_cycles cyclic (declarations_in specs) ≡ [])
     (no_broken : flat_map (broken_spec means headers) specs ≡ [])
@@ -256,13 +261,17 @@ module _ (before : Headers) (means : ℕ → Meaning) (specs : List Spec) (heade
   next n l =
       let is = declared_names all n l.declaration l.declared in
       let from = flat_cases declared_in specs l.declaration is.among in
-      by_sides from.0 from.1 (length from.0.names == length from.0.values) refl from.2
+      let values = subst (λ ds. Contains ds l.declaration) (constants_by_values from.0 (constants from.0 from.1)) from.2 in
+      by_sides from.0 from.1 (length from.0.names == length from.0.values) refl values
     where
       paired : (spec : Spec) → Contains specs spec → IsPair spec spec.values l.declaration → Next n
       paired spec is p = by_outcome (good spec is p.value p.among p.value (self_asked means p.value))
         where
-          bound : bound_value l.declaration.built l.declaration.values ≡ Some p.value
-          bound = (λ i. bound_value (p.built i) (p.values_are i))
+          constant : l.declaration.kind ≡ Const
+          constant = p.kind ∙ constants spec is
+
+          bound : bound_value l.declaration.kind l.declaration.built l.declaration.values ≡ Some p.value
+          bound = (λ i. bound_value (constant i) (p.built i) (p.values_are i))
 
           by_outcome : IsGood means headers (outcome means headers p.value) → Next n
           by_outcome (inl found) =
@@ -279,10 +288,11 @@ module _ (before : Headers) (means : ℕ → Meaning) (specs : List Spec) (heade
               let broken : are_unequal means headers spec.names spec.values ≡ true = (λ i. not (unequal i) && recorded i) in
               let told = broken_at spec.file (start_of spec.node) unequal_sides in
               let none = left_is_empty (unequal_at means headers spec) _ (none_of_each (broken_spec means headers) specs no_broken spec is) in
-              absurd (let never : told ∷ [] ≡ [] = ap (λ b. told_if b told) (sym broken) ∙ none in cc)
+              let of_constants : told_if (are_unequal means headers spec.names spec.values) told ≡ [] = ap (λ kind. unequal_by_kind (outcome means headers) kind spec) (sym (constants spec is)) ∙ none in
+              absurd (let never : told ∷ [] ≡ [] = ap (λ b. told_if b told) (sym broken) ∙ of_constants in cc)
           by_records (inr w) = next_by n l.declaration l.declared w.tree (subst (λ vs. Contains vs w.tree) (sym values) w.among) w.number w.waits
 
-      by_sides : (spec : Spec) → Contains specs spec → (b : Bool) → (length spec.names == length spec.values) ≡ b → Contains (declared_in spec) l.declaration → Next n
+      by_sides : (spec : Spec) → Contains specs spec → (b : Bool) → (length spec.names == length spec.values) ≡ b → Contains (by_values spec) l.declaration → Next n
       by_sides spec is true e h = paired spec is (pair_is spec spec.names spec.values l.declaration (subst (λ c. Contains (if c then pairs spec spec.names spec.values else map (with_list spec) spec.names) l.declaration) e h))
       by_sides spec is false e h =
           let from = map_cases (with_list spec) spec.names l.declaration (subst (λ c. Contains (if c then pairs spec spec.names spec.values else map (with_list spec) spec.names) l.declaration) e h) in
@@ -322,17 +332,17 @@ module _ (before : Headers) (means : ℕ → Meaning) (specs : List Spec) (heade
       by_outcome (inl found) = subst (λ (x : OutcomeData RecData). IsSome (record_in x)) (sym found.1) refl
       by_outcome (inr waits) = absurd (none_lacks waits.0 (waits_lack s waits.0 waits.1))
 
--- an accepted package of which something is asked at each node that is asked for a record is complete
+-- an accepted package of constants, of which something is asked at each node that is asked for a record, is complete
 pub complete_where_asked : (m : ModuleData) (k : ℕ) (p : PackageData) (before after : Headers) (lines : List LineData) (names : List NamedData)
-    → IsVerdict m k p before (accepted lines names) after → ImportsHaveHeaders m p before → HaveIntegers before → AreAsked (meaning_in m k p) (values_in p)
+    → IsVerdict m k p before (accepted lines names) after → AreConstants (specs_of p) → ImportsHaveHeaders m p before → HaveIntegers before → AreAsked (meaning_in m k p) (values_in p)
     → IsComplete (meaning_in m k p) after p
-complete_where_asked m k p before after lines names (sound headers _ breaks _) imports integers asked =
+complete_where_asked m k p before after lines names (sound headers _ breaks _) constants imports integers asked =
     let means = meaning_in m k p in
     let none = map_is_empty (with_number p.files) (broken_in_files means headers breaks.cyclic p) (none_found (broken_values means headers breaks.cyclic p) breaks.is_list) in
     let no_cycles = left_is_empty (broken_cycles breaks.cyclic (declarations_of p)) (flat_map (broken_spec means headers) (specs_of p)) none in
     let no_broken = right_is_empty (broken_cycles breaks.cyclic (declarations_of p)) (flat_map (broken_spec means headers) (specs_of p)) none in
     let named = meant_known m k p before imports in
     record {
-      declared = each_declared before means (specs_of p) headers breaks.cyclic breaks.has_headers no_cycles no_broken named integers asked;
-      recorded = each_recorded before means (specs_of p) headers breaks.cyclic breaks.has_headers no_cycles no_broken named integers asked;
+      declared = each_declared before means (specs_of p) constants headers breaks.cyclic breaks.has_headers no_cycles no_broken named integers asked;
+      recorded = each_recorded before means (specs_of p) constants headers breaks.cyclic breaks.has_headers no_cycles no_broken named integers asked;
     }

@@ -30,6 +30,7 @@ use Rattle.go_module.specs.Names.Regions.{is_held, regions_of, resolution}
 use Rattle.go_module.specs.Names.Rules.BlockRules.{is_main_name, missing_main_at, repeated, reserved}
 use Rattle.go_module.specs.Names.Rules.BrokenNames.{broken_block, broken_files, broken_imports, broken_in_files, broken_names}
 use Rattle.go_module.specs.Names.Rules.ImportRules.{conflicting, unused}
+use Rattle.go_module.specs.Names.Rules.MemberRules.{broken_in_spec}
 use Rattle.go_module.specs.Names.Rules.OccurrenceRules.{blank_at, blank_value, broken_occurrence, broken_occurrences, complex_at, denoted_package, misplaced_at, misplaced_package, missing_at, missing_in, missing_member, undeclared_at, undeclared_name}
 use Rattle.go_module.specs.Names.Tables.{Member, member_of, members_at, occurrences_from, uses_at, uses_of}
 use Rattle.go_module.specs.Scopes.{same_object}
@@ -40,6 +41,7 @@ use Rattle.go_model.specs.Values.Meaning.{denoted_meaning, kind_meaning, meaning
 use Rattle.go_laws.specs.BuiltTrees.{IsBuilt}
 use Rattle.go_laws.specs.Complete.{asked_in, values_in}
 use Rattle.go_laws.specs.NodeNumbers.{NodeNumbersAscend, numbers_in_files}
+use Rattle.go_laws.proofs.Constants.{DeclareConstants}
 use Rattle.go_laws.proofs.DenotedLemmas.{IsImported, block_no_package, exported_declared, file_imported, universal}
 use Rattle.go_laws.proofs.FileLemmas.{AtFile, at_file, spec_file}
 use Rattle.go_model.proofs.FlatLemmas.{flat_cases, flat_contains, map_contains}
@@ -72,7 +74,7 @@ never_other false o d (inr c) e =
     cc
 
 module _ (m : ModuleData) (k : ℕ) (p : PackageData)
-    (up : NodeNumbersAscend m) (here : slice_get m.packages k ≡ Some p) (stand : ImportsStandBefore m)
+    (constants : DeclareConstants m) (up : NodeNumbersAscend m) (here : slice_get m.packages k ≡ Some p) (stand : ImportsStandBefore m)
     (sound : broken_names (known_in m) k p ≡ []) where
   abbrev regions : List Region
   regions = regions_of (known_in m) k p
@@ -116,19 +118,27 @@ module _ (m : ModuleData) (k : ℕ) (p : PackageData)
     abbrev occurring : List Occurrence
     occurring = occurrences_in_file file.number file.file.tree
 
-    behind_main : reserved is_main own ++ (broken_imports (known_in m) regions block file.number file.file file.imports ++ broken_occurrences (known_in m) regions occurring) ≡ []
-    behind_main = right_is_empty (missing_main_at is_main file.number file.file) (reserved is_main own ++ (broken_imports (known_in m) regions block file.number file.file file.imports ++ broken_occurrences (known_in m) regions occurring)) file.sound
+    abbrev by_occurrences : List Broken
+    by_occurrences = broken_occurrences (known_in m) regions occurring ++ flat_map broken_in_spec (specs_in_file file.number file.file.tree)
 
-    behind_reserved : broken_imports (known_in m) regions block file.number file.file file.imports ++ broken_occurrences (known_in m) regions occurring ≡ []
-    behind_reserved = right_is_empty (reserved is_main own) (broken_imports (known_in m) regions block file.number file.file file.imports ++ broken_occurrences (known_in m) regions occurring) behind_main
+    abbrev by_imports : List Broken
+    by_imports = broken_imports (known_in m) regions block file.number file.file file.imports
+
+    behind_main : reserved is_main own ++ (by_imports ++ by_occurrences) ≡ []
+    behind_main = right_is_empty (missing_main_at is_main file.number file.file) (reserved is_main own ++ (by_imports ++ by_occurrences)) file.sound
+
+    behind_reserved : by_imports ++ by_occurrences ≡ []
+    behind_reserved = right_is_empty (reserved is_main own) (by_imports ++ by_occurrences) behind_main
 
     file_once : repeated own ≡ []
     file_once =
         left_is_empty (repeated own) (conflicting block own (flat_map import_of file.imports) ++ unused regions own occurring (flat_map import_of file.imports))
-        (left_is_empty (broken_imports (known_in m) regions block file.number file.file file.imports) (broken_occurrences (known_in m) regions occurring) behind_reserved)
+        (left_is_empty by_imports by_occurrences behind_reserved)
 
     each_sound : (x : Occurrence) → Contains occurring x → broken_occurrence (known_in m) regions x ≡ []
-    each_sound = none_of_each (broken_occurrence (known_in m) regions) occurring (right_is_empty (broken_imports (known_in m) regions block file.number file.file file.imports) (broken_occurrences (known_in m) regions occurring) behind_reserved)
+    each_sound =
+        none_of_each (broken_occurrence (known_in m) regions) occurring
+        (left_is_empty (broken_occurrences (known_in m) regions occurring) (flat_map broken_in_spec (specs_in_file file.number file.file.tree)) (right_is_empty by_imports by_occurrences behind_reserved))
 
     -- what a region has is fine where it is no package; one that it is, is imported
     record IsGood (r : Region) : Type 0 where
@@ -148,14 +158,14 @@ module _ (m : ModuleData) (k : ℕ) (p : PackageData)
     }
     imported_good r h is (inr dot) =
         let declared = (exported_declared m is.place).exports r.object dot.1 in
-        no_package r (inr (export_const m k p up here stand is.place is.among r.object declared (file_entry m k p r h))) dot.0
+        no_package r (inr (export_const m k p constants here up stand is.place is.among r.object declared (file_entry m k p r h))) dot.0
 
     good : (r : Region) → Stands block own r → IsGood r
     good r (inl in_file) =
         let h = flat_contains (file_block (known_in m)) (imports_of k p) file.imports r file.listed in_file in
         let is = file_imported (known_in m) k p r h in
         imported_good r h is is.denoted
-    good r (inr (inl in_block)) = no_package r (inr (block_const m k p r in_block)) (block_no_package k p r in_block)
+    good r (inr (inl in_block)) = no_package r (inr (block_const m k p constants here r in_block)) (block_no_package k p r in_block)
     good r (inr (inr in_universe)) = let is = universal r in_universe in no_package r (inl (lt-ltb r.object.at.0 first_number is.below)) is.no_package
 
     module _ (x : Occurrence) (among : Contains occurring x) (placed : x.file ≡ file.number) where
@@ -216,7 +226,7 @@ module _ (m : ModuleData) (k : ℕ) (p : PackageData)
 
         member_fine : Contains p.imports q → IsFine (object_id o)
         member_fine imported =
-            inr (export_const m k p up here stand q imported o ((exported_declared m q).exported s.name o found)
+            inr (export_const m k p constants here up stand q imported o ((exported_declared m q).exported s.name o found)
             (member_entry m k p member (flat_contains (members_at (known_in m) regions) (occurrences_from 0 p.files) x member (file.occurs x among) member_here)))
 
       -- by itself it denotes no package
@@ -262,11 +272,11 @@ module _ (m : ModuleData) (k : ℕ) (p : PackageData)
 
 -- So an identifier that is asked for a record (not the name of a package before a `.`) does not mean nothing: it
 -- denotes a universe name, or a constant of the package or of one that it imports.
-pub names_denote : (m : ModuleData) (k : ℕ) (p : PackageData) → NodeNumbersAscend m → slice_get m.packages k ≡ Some p → ImportsStandBefore m
+pub names_denote : (m : ModuleData) (k : ℕ) (p : PackageData) → DeclareConstants m → NodeNumbersAscend m → slice_get m.packages k ≡ Some p → ImportsStandBefore m
     → broken_names (known_in m) k p ≡ []
     → ((t : Tree) → Contains (values_in p) t → IsBuilt t)
     → (t : Tree) → Contains (values_in p) t → (s : Tree) → Contains (asked_in (meaning_in m k p) t) s
     → (id from to : ℕ) (text : List ℕ) (parts : Trees) → s ≡ branch id from to Name text parts
     → meaning_in m k p id ≡ Other → ⊥
-names_denote m k p up at stand sound built t among s asked id from to text parts is e =
-    asked_fine m k p up at stand sound t among (built t among) s asked (ap kind_of is) (ap (λ (r : Tree). meaning_in m k p (id_of r)) is ∙ e)
+names_denote m k p constants up at stand sound built t among s asked id from to text parts is e =
+    asked_fine m k p constants up at stand sound t among (built t among) s asked (ap kind_of is) (ap (λ (r : Tree). meaning_in m k p (id_of r)) is ∙ e)

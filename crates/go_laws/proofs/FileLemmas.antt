@@ -1,31 +1,77 @@
 -- The file in which a spec of a package stands, with its imports, where the package breaks no rule on names.
-use Rattle.std.proofs.Common.{◌≡◌, ℕ, suc, ◌+◌, Bool, Some, List, [], ◌∷◌, ◌⊎◌, inl, inr, length, Contains, refl, sym, ap, arith}
+use Rattle.std.proofs.Common.{◌≡◌, ℕ, suc, ◌+◌, Bool, Some, List, [], ◌∷◌, ◌⊎◌, inl, inr, length, map, Contains, refl, subst, arith}
 use Rattle.std.specs.Prelude.{drop, slice_get, take}
+use Rattle.std.specs.List.{flat_map}
 use Rattle.std.proofs.lemmas.List.Elements.{Contains-append_cases, Contains-append_left, Contains-append_right}
-use Rattle.go_tree.specs.declared.node_kind.NodeKind.TheVariants.{ConstDecl, ConstGroup}
+use Rattle.go_tree.specs.declared.node_kind.NodeKind.TheVariants.{AliasSpec, ConstDecl, ConstGroup, TypeDecl, TypeGroup, TypeSpec, VarDecl, VarGroup}
 use Rattle.go_tree.specs.Tree.{Tree, branch, list_of, parts_of}
 use Rattle.go_module.specs.declared.block.Occurrence.{Occurrence}
 use Rattle.go_module.specs.declared.block.Region.{Region}
+use Rattle.go_module.specs.declared.object.ObjKind.{ObjKind}
+use Rattle.go_module.specs.declared.object.ObjKind.TheVariants.{Alias, Defined}
 use Rattle.go_module.specs.Modules.Heads.{import_specs}
 use Rattle.go_module.specs.Modules.Module.{FileData}
-use Rattle.go_module.specs.Names.Declarations.{Spec, const_spec, specs_from, specs_in, specs_in_file}
+use Rattle.go_module.specs.Names.Declarations.{Spec, const_spec, specs_from, specs_in, specs_in_file, type_spec, type_spec_as, var_spec}
 use Rattle.go_module.specs.Names.Imports.{Importing, PackageNames, imports_from, imports_in}
 use Rattle.go_module.specs.Names.Occurrences.{occurrences_in_file}
 use Rattle.go_module.specs.Names.Rules.BrokenNames.{broken_file, broken_files}
 use Rattle.go_module.specs.Names.Tables.{occurrences_from}
 use Rattle.go_module.proofs.MemberLemmas.{contains_head, contains_none, contains_tail}
-use Rattle.go_model.proofs.FlatLemmas.{flat_cases, map_cases}
+use Rattle.go_model.proofs.FlatLemmas.{flat_cases, map_cases, only_is}
 use Rattle.go_laws.proofs.ListLemmas.{left_is_empty, right_is_empty}
 
--- the specs of a declaration are its parts
-pub spec_is : (file : ℕ) (declaration : Tree) (spec : Spec) → Contains (specs_in file declaration) spec → (node : Tree) × Contains (list_of (parts_of declaration)) node × (const_spec file node ≡ spec)
-spec_is file (branch id from to ConstDecl text parts) spec h = map_cases (const_spec file) (list_of parts) spec h
-spec_is file (branch id from to ConstGroup text parts) spec h = map_cases (const_spec file) (list_of parts) spec h
+-- a spec of a node: of constants, of variables, of a type or of an alias
+pub data IsSpecOf (file : ℕ) (node : Tree) : Spec → Type 0 where
+  of_constants : IsSpecOf file node (const_spec file node)
+  of_variables : IsSpecOf file node (var_spec file node)
+  of_type : (kind : ObjKind) → IsSpecOf file node (type_spec_as kind file node (parts_of node))
+
+-- it is one of these nodes
+pub record HasNode (file : ℕ) (nodes : List Tree) (spec : Spec) : Type 0 where
+  pub node : Tree
+  pub among : Contains nodes node
+  pub is : IsSpecOf file node spec
+
+type_spec_is : (file : ℕ) (node : Tree) (spec : Spec) → Contains (type_spec file node) spec → IsSpecOf file node spec
+type_spec_is file (branch id from to TypeSpec text parts) spec h =
+    let node = branch id from to TypeSpec text parts in
+    subst (IsSpecOf file node) (only_is (type_spec_as Defined file node parts) spec h) (of_type Defined)
+type_spec_is file (branch id from to AliasSpec text parts) spec h =
+    let node = branch id from to AliasSpec text parts in
+    subst (IsSpecOf file node) (only_is (type_spec_as Alias file node parts) spec h) (of_type Alias)
+type_spec_is file (branch id from to kind text parts) spec h = absurd (contains_none spec h)
+
+spec_of_each : (file : ℕ) (make : Tree → Spec) → ((node : Tree) → IsSpecOf file node (make node)) → (nodes : List Tree) (spec : Spec) → Contains (map make nodes) spec → HasNode file nodes spec
+spec_of_each file make each nodes spec h =
+    let from = map_cases make nodes spec h in
+    record { node = from.0; among = from.1; is = subst (IsSpecOf file from.0) from.2 (each from.0) }
+
+type_of_each : (file : ℕ) (nodes : List Tree) (spec : Spec) → Contains (flat_map (type_spec file) nodes) spec → HasNode file nodes spec
+type_of_each file nodes spec h =
+    let from = flat_cases (type_spec file) nodes spec h in
+    record { node = from.0; among = from.1; is = type_spec_is file from.0 spec from.2 }
+
+-- the specs of a declaration are of its parts
+pub spec_is : (file : ℕ) (declaration : Tree) (spec : Spec) → Contains (specs_in file declaration) spec → HasNode file (list_of (parts_of declaration)) spec
+spec_is file (branch id from to ConstDecl text parts) spec h = spec_of_each file (const_spec file) (λ node. of_constants) (list_of parts) spec h
+spec_is file (branch id from to ConstGroup text parts) spec h = spec_of_each file (const_spec file) (λ node. of_constants) (list_of parts) spec h
+spec_is file (branch id from to VarDecl text parts) spec h = spec_of_each file (var_spec file) (λ node. of_variables) (list_of parts) spec h
+spec_is file (branch id from to VarGroup text parts) spec h = spec_of_each file (var_spec file) (λ node. of_variables) (list_of parts) spec h
+spec_is file (branch id from to TypeDecl text parts) spec h = type_of_each file (list_of parts) spec h
+spec_is file (branch id from to TypeGroup text parts) spec h = type_of_each file (list_of parts) spec h
 spec_is file (branch id from to kind text parts) spec h = absurd (contains_none spec h)
 
 -- a spec has the place of its file
+file_is : (file : ℕ) (node : Tree) (spec : Spec) → IsSpecOf file node spec → spec.file ≡ file
+file_is file node spec of_constants = refl
+file_is file node spec of_variables = refl
+file_is file node spec (of_type kind) = refl
+
 pub spec_file : (file : ℕ) (tree : Tree) (spec : Spec) → Contains (specs_in_file file tree) spec → spec.file ≡ file
-spec_file file tree spec h = let from = flat_cases (specs_in file) (list_of (parts_of tree)) spec h in ap (λ (s : Spec). s.file) (sym (spec_is file from.0 spec from.2).2)
+spec_file file tree spec h =
+    let from = flat_cases (specs_in file) (list_of (parts_of tree)) spec h in
+    let node = spec_is file from.0 spec from.2 in
+    file_is file node.node spec node.is
 
 -- a spec of a package stands in one of its files
 pub file_of_spec : (first : ℕ) (files : List FileData) (spec : Spec) → Contains (specs_from first files) spec → (number : ℕ) × (file : FileData) × Contains files file × Contains (specs_in_file number file.tree) spec

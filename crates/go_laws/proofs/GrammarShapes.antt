@@ -5,7 +5,7 @@ use Rattle.go_tree.specs.declared.production.Production.{Production}
 use Rattle.go_tree.specs.declared.production.Production.TheVariants as p
 use Rattle.go_tree.specs.Grammar.Trees.Sentence.{production}
 use Rattle.go_tree.proofs.ByProduction.{by_test}
-use Rattle.go_laws.proofs.TreeShapes.{Named, Operand, Spec, Anything}
+use Rattle.go_laws.proofs.TreeShapes.{Named, Operand, Spec, Variable, Anything}
 use Rattle.go_laws.proofs.PartShapes.{Effect, Adds, Turns, Fills, any_parts, content, entry, flow, has_effect}
 
 abbrev pub effects : Production → Effect
@@ -16,10 +16,12 @@ effects p.FuncRest = Fills (any_parts ∷ []) any_parts
 effects p.Name = Adds [] Named
 effects p.Decl = Adds [] Anything
 effects p.ConstSpec = Adds [] Spec
+effects p.VarSpec = Adds [] Variable
 effects p.Idents = Adds [] Anything
 effects (p.Exprs w) = Adds [] Anything
 effects p.TypeSpecBracket = Adds (any_parts ∷ any_parts ∷ []) Operand
 effects (p.More items.ConstSpecs) = Fills (content [] Spec ∷ []) (content [] Spec)
+effects (p.More items.VarSpecs) = Fills (content [] Variable ∷ []) (content [] Variable)
 effects (p.More l) = Fills (any_parts ∷ []) any_parts
 effects p.TypeArgs = Turns [] Operand Operand
 effects p.ParamAfterName = Adds (content (Anything ∷ []) Anything ∷ []) Operand

@@ -184,7 +184,7 @@ module _ (means : ℕ → Meaning) where
       by_pair : (p.0 ≡ d) ⊎ (p.0 ≡ d → ⊥) → HaveIntegers (headers_of before list) → IsInteger h
       by_pair (inl here) rest =
           let same : p.1 ≡ h = (let both : Some p.1 ≡ Some h = sym (headers_of-here before p list d here) ∙ e in cc) in
-          subst IsInteger same (by_value (headers_of before list) rest (bound_value j.1.declaration.built j.1.declaration.values) p.1 j.1.tells)
+          subst IsInteger same (by_value (headers_of before list) rest (bound_value j.1.declaration.kind j.1.declaration.built j.1.declaration.values) p.1 j.1.tells)
       by_pair (inr ne) rest = rest d h (sym (headers_of-there before p list d ne) ∙ e)
 
   -- so is each that is known behind integers

@@ -31,7 +31,8 @@ use Rattle.go_model.proofs.FlatLemmas.{filter_within, find_within, flat_cases, m
 use Rattle.go_model.proofs.ThereLemmas.{object_self}
 use Rattle.go_laws.specs.NodeNumbers.{NodeNumbersAscend, numbers_in_files}
 use Rattle.go_laws.proofs.DenotedLemmas.{IsDeclaredAt, IsImported, block_declared, block_no_package, exported_declared, file_imported, universal}
-use Rattle.go_laws.proofs.NameNodeLemmas.{is_constant}
+use Rattle.go_laws.proofs.Constants.{DeclareConstants}
+use Rattle.go_laws.proofs.NameNodeLemmas.{is_constant, name_there}
 
 -- TABLES THAT PAIRS ARE PUT INTO: by a key of the last pairs one of these is found
 
@@ -209,48 +210,51 @@ module _ (m : ModuleData) (k : ℕ) (p : PackageData) where
   there : (d : ObjId) (o : Object) → Contains entries (d, o) → (x : Object) × (lookup (same_object d) (objects_table m k p) ≡ Some x)
   there d o h = some_there (lookup (same_object d) (objects_table m k p)) (present_in same_object object_self [] entries d o h)
 
-  declared_const : (home : PackageData) (q : ℕ) (d : Declaration) (o : Object) → Contains (declarations_of home) d → declared_object q d ≡ o → o.kind ≡ Const
-  declared_const home q d o among is = ap (λ (x : Object). x.kind) (sym is) ∙ (is_constant home d among).kind
+  -- in a module of constants
+  module _ (constants : DeclareConstants m) (at : slice_get m.packages k ≡ Some p) where
+    declared_const : (home : PackageData) (i : ℕ) (d : Declaration) (o : Object) → slice_get m.packages i ≡ Some home → Contains (declarations_of home) d → declared_object i d ≡ o → o.kind ≡ Const
+    declared_const home i d o there among is = ap (λ (x : Object). x.kind) (sym is) ∙ is_constant home (constants i home there) d among
 
-  -- a declaration of the package: its block stands last
-  pub block_const : (r : Region) → Contains (package_block k p) r → IsConst (object_id r.object)
-  block_const r h =
-      let front = region_entries (outer_regions (known_in m) k p) in
-      let block = region_entries (package_block k p) in
-      let own = map_contains (λ (x : Region). (object_id x.object, x.object)) (package_block k p) r h in
-      let behind : Contains (member_entries ++ block) (object_id r.object, r.object) = Contains-append_right member_entries block (object_id r.object, r.object) own in
-      let found = there (object_id r.object) r.object (Contains-append_right front (member_entries ++ block) (object_id r.object, r.object) behind) in
-      let last = behind_found same_object object_is object_self [] front (member_entries ++ block) (object_id r.object) r.object found.0 behind found.1 in
-      record { object = found.0; found = found.1; kind = by_cases (object_id r.object) found.0 (Contains-append_cases member_entries block (object_id r.object, found.0) last) }
-    where
-      by_cases : (d : ObjId) (o : Object) → Contains member_entries (d, o) ⊎ Contains (region_entries (package_block k p)) (d, o) → o.kind ≡ Const
-      by_cases d o (inl here) =
-          let made = map_cases (λ (member : Member). (object_id member.object, member.object)) (members_of (known_in m) k p) (d, o) here in
-          let from = flat_cases (members_at (known_in m) regions) (occurrences_from 0 p.files) made.0 made.1 in
-          let is = (member_by m (denoted_package regions from.0) from.0.selected made.0 from.2).declared in
-          ap (λ (e : ObjId × Object). e.1.kind) (sym made.2) ∙ declared_const is.home _ is.declaration made.0.object is.among is.is
-      by_cases d o (inr last) =
-          let made = map_cases (λ (x : Region). (object_id x.object, x.object)) (package_block k p) (d, o) last in
-          let own = block_declared k p made.0 made.1 in
-          ap (λ (e : ObjId × Object). e.1.kind) (sym made.2) ∙ declared_const p k own.declaration made.0.object own.among (ap (λ (s : Region). s.object) own.is)
-
-  -- what an imported package exports: no node of this package has its number
-  module _ (up : NodeNumbersAscend m) (at : slice_get m.packages k ≡ Some p) (stand : ImportsStandBefore m) where
-    pub export_const : (q : ℕ) → Contains p.imports q → (o : Object) → IsDeclaredAt m q o → Contains entries (object_id o, o) → IsConst (object_id o)
-    export_const q among o is h =
-        let found = there (object_id o) o h in
-        let entry = table_origin (object_id o) found.0 found.1 in
-        record { object = found.0; found = found.1; kind = by_origin found.0 (ap (λ (d : ObjId). d.0) entry.number) entry.origin }
+    -- a declaration of the package: its block stands last
+    pub block_const : (r : Region) → Contains (package_block k p) r → IsConst (object_id r.object)
+    block_const r h =
+        let front = region_entries (outer_regions (known_in m) k p) in
+        let block = region_entries (package_block k p) in
+        let own = map_contains (λ (x : Region). (object_id x.object, x.object)) (package_block k p) r h in
+        let behind : Contains (member_entries ++ block) (object_id r.object, r.object) = Contains-append_right member_entries block (object_id r.object, r.object) own in
+        let found = there (object_id r.object) r.object (Contains-append_right front (member_entries ++ block) (object_id r.object, r.object) behind) in
+        let last = behind_found same_object object_is object_self [] front (member_entries ++ block) (object_id r.object) r.object found.0 behind found.1 in
+        record { object = found.0; found = found.1; kind = by_cases (object_id r.object) found.0 (Contains-append_cases member_entries block (object_id r.object, found.0) last) }
       where
-        own : Contains (numbers_in_files is.home.files) o.at.0
-        own = subst (λ (x : Object). Contains (numbers_in_files is.home.files) x.at.0) is.is (is_constant is.home is.declaration is.among).there
+        by_cases : (d : ObjId) (o : Object) → Contains member_entries (d, o) ⊎ Contains (region_entries (package_block k p)) (d, o) → o.kind ≡ Const
+        by_cases d o (inl here) =
+            let made = map_cases (λ (member : Member). (object_id member.object, member.object)) (members_of (known_in m) k p) (d, o) here in
+            let from = flat_cases (members_at (known_in m) regions) (occurrences_from 0 p.files) made.0 made.1 in
+            let member = member_by m (denoted_package regions from.0) from.0.selected made.0 from.2 in
+            let is = member.declared in
+            ap (λ (e : ObjId × Object). e.1.kind) (sym made.2) ∙ declared_const is.home member.home is.declaration made.0.object is.at is.among is.is
+        by_cases d o (inr last) =
+            let made = map_cases (λ (x : Region). (object_id x.object, x.object)) (package_block k p) (d, o) last in
+            let own = block_declared k p made.0 made.1 in
+            ap (λ (e : ObjId × Object). e.1.kind) (sym made.2) ∙ declared_const p k own.declaration made.0.object at own.among (ap (λ (s : Region). s.object) own.is)
 
-        not_here : q ≡ k → ⊥
-        not_here same = let first = stand.before k p at q among in omega (arith, first, same)
+    -- what an imported package exports: no node of this package has its number
+    module _ (up : NodeNumbersAscend m) (stand : ImportsStandBefore m) where
+      pub export_const : (q : ℕ) → Contains p.imports q → (o : Object) → IsDeclaredAt m q o → Contains entries (object_id o, o) → IsConst (object_id o)
+      export_const q among o is h =
+          let found = there (object_id o) o h in
+          let entry = table_origin (object_id o) found.0 found.1 in
+          record { object = found.0; found = found.1; kind = by_origin found.0 (ap (λ (d : ObjId). d.0) entry.number) entry.origin }
+        where
+          own : Contains (numbers_in_files is.home.files) o.at.0
+          own = subst (λ (x : Object). Contains (numbers_in_files is.home.files) x.at.0) is.is (name_there is.home is.declaration is.among)
 
-        by_origin : (x : Object) → x.at.0 ≡ o.at.0 → Origin m k p x → x.kind ≡ Const
-        by_origin x same (of_universe below) = absurd (let first = up.from_first q is.home is.at o.at.0 own in omega (arith, below, first, same))
-        by_origin x same (of_import kind here) =
-            absurd (up.apart q k is.home p not_here is.at at o.at.0 own (subst (λ n. Contains (numbers_in_files p.files) n) same here))
-        by_origin x same (of_export i imported declared) = declared_const declared.home i declared.declaration x declared.among declared.is
-        by_origin x same (of_block d declared made) = declared_const p k d x declared made
+          not_here : q ≡ k → ⊥
+          not_here same = let first = stand.before k p at q among in omega (arith, first, same)
+
+          by_origin : (x : Object) → x.at.0 ≡ o.at.0 → Origin m k p x → x.kind ≡ Const
+          by_origin x same (of_universe below) = absurd (let first = up.from_first q is.home is.at o.at.0 own in omega (arith, below, first, same))
+          by_origin x same (of_import kind here) =
+              absurd (up.apart q k is.home p not_here is.at at o.at.0 own (subst (λ n. Contains (numbers_in_files p.files) n) same here))
+          by_origin x same (of_export i imported declared) = declared_const declared.home i declared.declaration x declared.at declared.among declared.is
+          by_origin x same (of_block d declared made) = declared_const p k d x at declared made

@@ -1,5 +1,6 @@
 pub mod Asked
 pub mod Denoting
+pub mod Constants
 pub mod ListLemmas
 pub mod IntegerLemmas
 pub mod AskedLemmas

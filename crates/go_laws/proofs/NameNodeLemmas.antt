@@ -6,17 +6,20 @@ use Rattle.std.proofs.lemmas.List.Elements.{Contains-append_left, Contains-appen
 use Rattle.go_tree.specs.declared.node_kind.NodeKind.TheVariants.{ImportDecl, ImportGroup}
 use Rattle.go_tree.specs.Tree.{Tree, branch, id_of, list_of, more_trees, no_trees, parts_of}
 use Rattle.go_module.specs.declared.declaration.Built.TheVariants.{Pair}
-use Rattle.go_module.specs.declared.object.ObjKind.TheVariants.{Const}
+use Rattle.go_module.specs.declared.object.ObjKind.{ObjKind}
+use Rattle.go_module.specs.declared.object.ObjKind.TheVariants.{Const, Var}
 use Rattle.go_module.specs.Modules.Heads.{import_specs, specs_in as imports_in_tree}
 use Rattle.go_module.specs.Modules.Module.{FileData, PackageData}
-use Rattle.go_module.specs.Names.Declarations.{Declaration, Spec, const_spec, declarations_of, declared_in, pairs, specs_in, specs_of, with_list}
+use Rattle.go_module.specs.Names.Declarations.{Declaration, Spec, by_itself, by_values, declarations_of, declared_by_kind, declared_in, pairs, specs_in, specs_of, with_list}
 use Rattle.go_module.specs.Names.Imports.{Importing, imports_from, imports_in}
 use Rattle.go_module.specs.NodeParts.{first_part}
 use Rattle.go_module.proofs.MemberLemmas.{cons_cases, contains_head, contains_none, contains_tail}
 use Rattle.go_model.proofs.FlatLemmas.{flat_cases, flat_contains, map_cases, map_contains}
 use Rattle.go_laws.specs.NodeNumbers.{nodes_by_end, nodes_in_files, numbers_in_files}
-use Rattle.go_laws.proofs.FileLemmas.{file_of_spec, spec_is}
+use Rattle.go_laws.proofs.Constants.{AreConstants}
+use Rattle.go_laws.proofs.FileLemmas.{IsSpecOf, file_of_spec, of_constants, of_type, of_variables, spec_is}
 use Rattle.go_laws.proofs.NodeFileLemmas.{IsUnder, part_under, self_by_end}
+use Rattle.go_laws.proofs.PickedLemmas.{picked_contains, picked_first}
 
 -- DECLARATIONS
 
@@ -37,42 +40,59 @@ of_pairs spec (name ∷ names) (value ∷ values) d h = by_cases (cons_cases _ (
     }
     by_cases (inr there) later = let is = later there in record { kind = is.kind; name = contains_tail name names d.name is.name }
 
-of_spec : (spec : Spec) (d : Declaration) → Contains (declared_in spec) d → IsOfSpec spec spec.names d
-of_spec spec d h = by_sides (length spec.names == length spec.values) h
+of_each : (spec : Spec) (make : Tree → Declaration) → ((name : Tree) → (make name).kind ≡ spec.kind) → ((name : Tree) → (make name).name ≡ name)
+    → (d : Declaration) → Contains (map make spec.names) d → IsOfSpec spec spec.names d
+of_each spec make kinds names d h =
+    let from = map_cases make spec.names d h in
+    record {
+      kind = ap (λ (x : Declaration). x.kind) (sym from.2) ∙ kinds from.0;
+      name = subst (Contains spec.names) (sym (names from.0) ∙ ap (λ (x : Declaration). x.name) from.2) from.1;
+    }
+
+of_values : (spec : Spec) (d : Declaration) → Contains (by_values spec) d → IsOfSpec spec spec.names d
+of_values spec d h = by_sides (length spec.names == length spec.values) h
   where
     by_sides : (b : Bool) → Contains (if b then pairs spec spec.names spec.values else map (with_list spec) spec.names) d → IsOfSpec spec spec.names d
     by_sides true i = of_pairs spec spec.names spec.values d i
-    by_sides false i =
-        let from = map_cases (with_list spec) spec.names d i in
-        record {
-          kind = ap (λ (x : Declaration). x.kind) (sym from.2);
-          name = subst (λ (x : Declaration). Contains spec.names x.name) from.2 from.1;
-        }
+    by_sides false i = of_each spec (with_list spec) (λ name. refl) (λ name. refl) d i
+
+of_kind : (kind : ObjKind) (types : List Tree) (spec : Spec) (d : Declaration) → Contains (declared_by_kind kind types spec) d → IsOfSpec spec spec.names d
+of_kind Const types spec d h = of_values spec d h
+of_kind Var [] spec d h = of_values spec d h
+of_kind Var (type ∷ types) spec d h = of_each spec (by_itself spec) (λ name. refl) (λ name. refl) d h
+of_kind kind types spec d h = of_each spec (by_itself spec) (λ name. refl) (λ name. refl) d h
+
+of_spec : (spec : Spec) (d : Declaration) → Contains (declared_in spec) d → IsOfSpec spec spec.names d
+of_spec spec d h = of_kind spec.kind spec.types spec d h
 
 first_under : (top t : Tree) → IsUnder top t → IsUnder top (first_part t)
 first_under top (branch id from to kind text no_trees) under = under
 first_under top (branch id from to kind text (more_trees first parts)) under =
     part_under top (branch id from to kind text (more_trees first parts)) first under (contains_head first (list_of parts) first refl)
 
--- a declaration of a package is of a constant, and its name is a node of the package
-pub record IsConstant (p : PackageData) (d : Declaration) : Type 0 where
-  pub kind : d.kind ≡ Const
-  pub there : Contains (numbers_in_files p.files) (id_of d.name)
+-- the names of a spec are under its node
+names_under : (top node : Tree) → IsUnder top node → (file : ℕ) (spec : Spec) → IsSpecOf file node spec → (name : Tree) → Contains spec.names name → IsUnder top name
+names_under top node under file spec of_constants name h = part_under top (first_part node) name (first_under top node under) h
+names_under top node under file spec of_variables name h = part_under top (first_part node) name (first_under top node under) h
+names_under top node under file spec (of_type kind) name h =
+    part_under top node name under (picked_contains name (picked_first (λ (t : Tree). t) (list_of (parts_of node))) h)
 
-pub is_constant : (p : PackageData) (d : Declaration) → Contains (declarations_of p) d → IsConstant p d
-is_constant p d h =
+-- the name of a declaration of a package is a node of the package
+pub name_there : (p : PackageData) (d : Declaration) → Contains (declarations_of p) d → Contains (numbers_in_files p.files) (id_of d.name)
+name_there p d h =
     let own = flat_cases declared_in (specs_of p) d h in
     let one = of_spec own.0 d own.2 in
     let file = file_of_spec 0 p.files own.0 own.1 in
-    let declaration = flat_cases (specs_in file.0) (list_of (parts_of file.1.tree)) own.0 file.3 in
+    let top = file.1.tree in
+    let declaration = flat_cases (specs_in file.0) (list_of (parts_of top)) own.0 file.3 in
     let node = spec_is file.0 declaration.0 own.0 declaration.2 in
-    let under = part_under file.1.tree declaration.0 node.0 (part_under file.1.tree file.1.tree declaration.0 (λ s i. i) declaration.1) node.1 in
-    let name : Contains (const_spec file.0 node.0).names d.name = subst (λ (s : Spec). Contains s.names d.name) (sym node.2) one.name in
-    let inside = part_under file.1.tree (first_part node.0) d.name (first_under file.1.tree node.0 under) name d.name (self_by_end d.name) in
-    record {
-      kind = one.kind ∙ ap (λ (s : Spec). s.kind) (sym node.2);
-      there = map_contains id_of (nodes_in_files p.files) d.name (flat_contains (λ (f : FileData). nodes_by_end f.tree) p.files file.1 d.name file.2 inside);
-    }
+    let under = part_under top declaration.0 node.node (part_under top top declaration.0 (λ s i. i) declaration.1) node.among in
+    let inside = names_under top node.node under file.0 own.0 node.is d.name one.name d.name (self_by_end d.name) in
+    map_contains id_of (nodes_in_files p.files) d.name (flat_contains (λ (f : FileData). nodes_by_end f.tree) p.files file.1 d.name file.2 inside)
+
+-- and where all specs are of constants, so is the declaration
+pub is_constant : (p : PackageData) → AreConstants (specs_of p) → (d : Declaration) → Contains (declarations_of p) d → d.kind ≡ Const
+is_constant p constants d h = let own = flat_cases declared_in (specs_of p) d h in (of_spec own.0 d own.2).kind ∙ constants own.0 own.1
 
 -- IMPORTS
 

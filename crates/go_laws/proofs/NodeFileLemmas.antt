@@ -1,10 +1,10 @@
 -- Each node of an expression of a package is a node of the file in which the expression stands.
 use Rattle.std.proofs.Common.{◌≡◌, ℕ, List, [], ◌∷◌, ◌++◌, ◌⊎◌, inl, inr, Contains, refl, sym, subst, ⊎_elim}
 use Rattle.std.proofs.lemmas.List.Elements.{Contains-append_cases, Contains-append_left, Contains-append_right, Contains-push}
-use Rattle.go_tree.specs.declared.node_kind.NodeKind.TheVariants.{ConstCopy}
+use Rattle.go_tree.specs.declared.node_kind.NodeKind.TheVariants.{ConstCopy, ExprList}
 use Rattle.go_tree.specs.Tree.{Tree, Trees, branch, list_of, more_trees, no_trees, parts_of}
 use Rattle.go_module.specs.Modules.Module.{FileData, ModuleData, PackageData}
-use Rattle.go_module.specs.Names.Declarations.{Spec, behind_names, const_spec, specs_in, specs_in_file, specs_of, types_behind, values_behind}
+use Rattle.go_module.specs.Names.Declarations.{Spec, behind_names, list_behind, specs_in, specs_in_file, specs_of, type_before, types_behind, values_behind}
 use Rattle.go_module.specs.Names.Inner.{inner_by, inner_of}
 use Rattle.go_module.specs.Names.Occurrences.{found_in, nodes_in, nodes_in_parts, nodes_of_each}
 use Rattle.go_model.specs.Outcomes.Walked.{NodesAreNumbered, nodes_of}
@@ -12,8 +12,9 @@ use Rattle.go_module.specs.NodeParts.{all_but_first}
 use Rattle.go_module.proofs.MemberLemmas.{cons_cases, contains_head, contains_none, contains_tail}
 use Rattle.go_laws.specs.Complete.{values_in}
 use Rattle.go_laws.specs.NodeNumbers.{NodeNumbersAscend, nodes_by_end, nodes_by_end_among}
-use Rattle.go_laws.proofs.FileLemmas.{file_of_spec, spec_is}
+use Rattle.go_laws.proofs.FileLemmas.{IsSpecOf, file_of_spec, of_constants, of_type, of_variables, spec_is}
 use Rattle.go_model.proofs.FlatLemmas.{flat_cases, only_is}
+use Rattle.go_laws.proofs.ListLemmas.{in_front}
 use Rattle.go_laws.proofs.NodeNumberLemmas.{one_node}
 use Rattle.go_laws.proofs.PickedLemmas.{picked_contains, picked_inner}
 
@@ -81,26 +82,51 @@ module _ (top : Tree) where
   types_under (t ∷ (l ∷ [])) under x h = under x (subst (λ (u : Tree). Contains (t ∷ (l ∷ [])) u) (only_is t x h) (contains_head t (l ∷ []) t refl))
   types_under (t ∷ (l ∷ (u ∷ us))) under x h = absurd (contains_none x h)
 
+  -- so those of variables
+  type_before_under : (xs : List Tree) → AllUnder xs → AllUnder (type_before xs)
+  type_before_under [] under x h = absurd (contains_none x h)
+  type_before_under (branch id from to ExprList text parts ∷ []) under x h = absurd (contains_none x h)
+  type_before_under (branch id from to kind text parts ∷ []) under x h = under x h
+  type_before_under (t ∷ (u ∷ us)) under x h = under x (contains_head t (u ∷ us) x (only_is t x h))
+
+  list_behind_under : (xs : List Tree) → AllUnder xs → AllUnder (list_behind xs)
+  list_behind_under [] under x h = absurd (contains_none x h)
+  list_behind_under (branch id from to ExprList text parts ∷ []) under x h =
+      let l = branch id from to ExprList text parts in
+      part_under top l x (under l (contains_head l [] l refl)) h
+  list_behind_under (branch id from to kind text parts ∷ []) under x h = absurd (contains_none x h)
+  list_behind_under (t ∷ (l ∷ [])) under x h = part_under top l x (under l (contains_tail t (l ∷ []) l (contains_head l [] l refl))) h
+  list_behind_under (t ∷ (l ∷ (u ∷ us))) under x h = absurd (contains_none x h)
+
 rest_there : (ts : Trees) (x : Tree) → Contains (all_but_first ts) x → Contains (list_of ts) x
 rest_there no_trees x h = h
 rest_there (more_trees t ts) x h = contains_tail t (list_of ts) x h
 
-spec_under : (top spec : Tree) → IsUnder top spec → (file : ℕ) (t : Tree) → Contains ((const_spec file spec).types ++ (const_spec file spec).values) t → IsUnder top t
-spec_under top spec under file t h =
-    let behind = all_but_first (parts_of spec) in
-    let all = behind_under top behind (λ x there. part_under top spec x under (rest_there (parts_of spec) x there)) in
-    ⊎_elim
-    (λ (type : Contains (types_behind (behind_names behind)) t). types_under top (behind_names behind) all t type)
-    (λ (value : Contains (values_behind (behind_names behind)) t). values_under top (behind_names behind) all t value)
-    (Contains-append_cases (types_behind (behind_names behind)) (values_behind (behind_names behind)) t h)
+both_under : (top : Tree) (types values : List Tree) → AllUnder top types → AllUnder top values → AllUnder top (types ++ values)
+both_under top types values type value x h =
+    ⊎_elim (λ (here : Contains types x). type x here) (λ (there : Contains values x). value x there) (Contains-append_cases types values x h)
+
+behind_first_under : (top node : Tree) → IsUnder top node → AllUnder top (all_but_first (parts_of node))
+behind_first_under top node under x h = part_under top node x under (rest_there (parts_of node) x h)
+
+spec_under : (top node : Tree) → IsUnder top node → (file : ℕ) (spec : Spec) → IsSpecOf file node spec → AllUnder top (spec.types ++ spec.values)
+spec_under top node under file spec of_constants =
+    let behind = behind_names (all_but_first (parts_of node)) in
+    let all = behind_under top (all_but_first (parts_of node)) (behind_first_under top node under) in
+    both_under top (types_behind behind) (values_behind behind) (types_under top behind all) (values_under top behind all)
+spec_under top node under file spec of_variables =
+    let behind = all_but_first (parts_of node) in
+    let all = behind_first_under top node under in
+    both_under top (type_before behind) (list_behind behind) (type_before_under top behind all) (list_behind_under top behind all)
+spec_under top node under file spec (of_type kind) = λ x h. behind_first_under top node under x (in_front (all_but_first (parts_of node)) x h)
 
 -- the type and the expressions of a spec of a file are under its tree
 in_file : (file : ℕ) (tree : Tree) (spec : Spec) → Contains (specs_in_file file tree) spec → (t : Tree) → Contains (spec.types ++ spec.values) t → IsUnder tree t
 in_file file tree spec h t part =
     let declaration = flat_cases (specs_in file) (list_of (parts_of tree)) spec h in
     let node = spec_is file declaration.0 spec declaration.2 in
-    let under = part_under tree declaration.0 node.0 (part_under tree tree declaration.0 (λ s i. i) declaration.1) node.1 in
-    spec_under tree node.0 under file t (subst (λ (x : Spec). Contains (x.types ++ x.values) t) (sym node.2) part)
+    let under = part_under tree declaration.0 node.node (part_under tree tree declaration.0 (λ s i. i) declaration.1) node.among in
+    spec_under tree node.node under file spec node.is t part
 
 -- the file of an expression of a package
 pub record IsInFile (files : List FileData) (t : Tree) : Type 0 where

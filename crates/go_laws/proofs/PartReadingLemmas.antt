@@ -5,7 +5,7 @@ use Rattle.go_tree.specs.Tree.{Tree}
 use Rattle.go_tree.specs.Grammar.RightSide.{RightSide, Do, Call, Nothing, Seq, Or, Many, When}
 use Rattle.go_tree.specs.Grammar.Trees.Reading.{OpenNode, Reads, State}
 use Rattle.go_tree.proofs.BalanceLemmas.{ReadsIn, at_end_in, does_in, calls_in, nothing_in, in_turn_in, left_in, right_in, done_in, again_in, chosen_in, passed_by_in, counted, Both_parts, parts_of_reading, takes_steps}
-use Rattle.go_laws.proofs.TreeShapes.{Sort, Never, Named, Operand, Spec, Anything, Fine, within}
+use Rattle.go_laws.proofs.TreeShapes.{Sort, Never, Named, Operand, Spec, Variable, Anything, Fine, within}
 use Rattle.go_laws.proofs.PartShapes.{Adds, Content, Effect, Fills, Shape, Turns, behind, content, covers, ends_with, entry, flow, flow_call, has_effect, innermost_of, is_empty, no_parts, one_filled, one_new, opened, pushed, stack, take_needed, turned, with_innermost}
 use Rattle.go_laws.proofs.PartShapeLemmas.{Holds, covers_holds, fine_within, holds_pushed, no_part, one_part}
 use Rattle.go_laws.proofs.PartActLemmas.{HaveContents, OnTop, act_on, innermost, newest, opened_on, same_shape, standing, with_parts}
@@ -188,4 +188,5 @@ module _ (N : Type 0) (P : N → RightSide N) (bytes : List ℕ) where
         one_itself Named = refl
         one_itself Operand = refl
         one_itself Spec = refl
+        one_itself Variable = refl
         one_itself Anything = refl

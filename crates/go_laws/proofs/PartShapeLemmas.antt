@@ -6,7 +6,7 @@ use Rattle.std.proofs.lemmas.Grind.{reverse_onto}
 use Rattle.go_tree.specs.declared.node_kind.NodeKind.{NodeKind}
 use Rattle.go_tree.specs.declared.node_kind.NodeKind.TheVariants as k
 use Rattle.go_tree.specs.Tree.{Tree, kind_of, trees_of}
-use Rattle.go_laws.proofs.TreeShapes.{Sort, Never, Named, Operand, Spec, Anything, AllShaped, Fine, Shaped, has_shape, is_of, kinds_in, sort_of, within}
+use Rattle.go_laws.proofs.TreeShapes.{Sort, Never, Named, Operand, Spec, Variable, Anything, AllShaped, Fine, Shaped, has_shape, is_of, kinds_in, sort_of, within}
 use Rattle.go_laws.proofs.PartShapes.{Content, all_are, are_two, content, covers, is_empty, is_one, join, join_contents, may_close, pushed, sort_of_all}
 
 -- SORTS
@@ -16,6 +16,7 @@ within_itself Never = refl
 within_itself Named = refl
 within_itself Operand = refl
 within_itself Spec = refl
+within_itself Variable = refl
 within_itself Anything = refl
 
 within_any : (c : Sort) → within c Anything ≡ true
@@ -23,46 +24,32 @@ within_any Never = refl
 within_any Named = refl
 within_any Operand = refl
 within_any Spec = refl
+within_any Variable = refl
 within_any Anything = refl
 
 within_chain : (a b c : Sort) → within a b ≡ true → within b c ≡ true → within a c ≡ true
 within_chain Never b c p q = refl
-within_chain Named Never c p q = cc
 within_chain Named Named c p q = q
-within_chain Named Operand Never p q = cc
-within_chain Named Operand Named p q = cc
 within_chain Named Operand Operand p q = refl
-within_chain Named Operand Spec p q = cc
 within_chain Named Operand Anything p q = refl
-within_chain Named Spec c p q = cc
-within_chain Named Anything Never p q = cc
-within_chain Named Anything Named p q = refl
-within_chain Named Anything Operand p q = refl
-within_chain Named Anything Spec p q = cc
+within_chain Named Operand c p q = cc
 within_chain Named Anything Anything p q = refl
-within_chain Operand Never c p q = cc
-within_chain Operand Named c p q = cc
+within_chain Named Anything c p q = cc
+within_chain Named b c p q = cc
 within_chain Operand Operand c p q = q
-within_chain Operand Spec c p q = cc
-within_chain Operand Anything Never p q = cc
-within_chain Operand Anything Named p q = cc
-within_chain Operand Anything Operand p q = refl
-within_chain Operand Anything Spec p q = cc
 within_chain Operand Anything Anything p q = refl
-within_chain Spec Never c p q = cc
-within_chain Spec Named c p q = cc
-within_chain Spec Operand c p q = cc
+within_chain Operand Anything c p q = cc
+within_chain Operand b c p q = cc
 within_chain Spec Spec c p q = q
-within_chain Spec Anything Never p q = cc
-within_chain Spec Anything Named p q = cc
-within_chain Spec Anything Operand p q = cc
-within_chain Spec Anything Spec p q = refl
 within_chain Spec Anything Anything p q = refl
-within_chain Anything Never c p q = cc
-within_chain Anything Named c p q = cc
-within_chain Anything Operand c p q = cc
-within_chain Anything Spec c p q = cc
+within_chain Spec Anything c p q = cc
+within_chain Spec b c p q = cc
+within_chain Variable Variable c p q = q
+within_chain Variable Anything Anything p q = refl
+within_chain Variable Anything c p q = cc
+within_chain Variable b c p q = cc
 within_chain Anything Anything c p q = q
+within_chain Anything b c p q = cc
 
 within_left : (c d : Sort) → within c (join c d) ≡ true
 within_left c d = by_first (within c d) refl (within d c)
@@ -92,6 +79,7 @@ never_fine t f = by_sort (sort_of (kind_of t)) refl f.is
         some_sort : (kind : NodeKind) → sort_of kind ≡ Never → ⊥
         some_sort k.Name e = cc
         some_sort k.ConstSpec e = cc
+        some_sort k.VarSpec e = cc
         some_sort k.File e = cc
         some_sort k.ImportDecl e = cc
         some_sort k.ImportGroup e = cc
@@ -107,6 +95,7 @@ never_fine t f = by_sort (sort_of (kind_of t)) refl f.is
     by_sort Named e h = cc
     by_sort Operand e h = cc
     by_sort Spec e h = cc
+    by_sort Variable e h = cc
     by_sort Anything e h = cc
 
 -- CONTENTS
@@ -214,6 +203,8 @@ closed_shape k.AddExpr u xs h a =
 closed_shape k.ExprList u xs h a = kinds_reversed Operand xs (all_parts Operand u xs h a)
 closed_shape k.ConstDecl u xs h a = kinds_reversed Spec xs (all_parts Spec u xs h a)
 closed_shape k.ConstGroup u xs h a = kinds_reversed Spec xs (all_parts Spec u xs h a)
+closed_shape k.VarDecl u xs h a = kinds_reversed Variable xs (all_parts Variable u xs h a)
+closed_shape k.VarGroup u xs h a = kinds_reversed Variable xs (all_parts Variable u xs h a)
 closed_shape _ u xs h a = refl
 
 shaped_behind : (xs : List Tree) (t : Tree) → AllShaped (trees_of xs) → Shaped t → AllShaped (trees_of (xs ++ t ∷ []))

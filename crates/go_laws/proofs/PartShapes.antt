@@ -3,7 +3,7 @@ use Rattle.std.proofs.Common.{Bool, true, false, cond, ◌&&◌, List, [], ◌�
 use Rattle.go_tree.specs.declared.node_kind.NodeKind.{NodeKind}
 use Rattle.go_tree.specs.declared.node_kind.NodeKind.TheVariants as k
 use Rattle.go_tree.specs.Grammar.RightSide.{RightSide, Do, Call, Nothing, Seq, Or, Many, When, Act, Pass, Open, Reopen, Adopt, CheckType, Close}
-use Rattle.go_laws.proofs.TreeShapes.{Sort, Never, Named, Operand, Spec, Anything, sort_of, within}
+use Rattle.go_laws.proofs.TreeShapes.{Sort, Never, Named, Operand, Spec, Variable, Anything, sort_of, within}
 
 abbrev pub join : Sort → Sort → Sort
 join c d = cond (within c d) d (cond (within d c) c Anything)
@@ -63,6 +63,8 @@ may_close k.AddExpr u = are_two Operand Operand u
 may_close k.ExprList u = all_are Operand u
 may_close k.ConstDecl u = all_are Spec u
 may_close k.ConstGroup u = all_are Spec u
+may_close k.VarDecl u = all_are Variable u
+may_close k.VarGroup u = all_are Variable u
 may_close kind u = true
 
 -- the open nodes that a reading has to do with, the innermost first; and the node round them, with what is known of its

@@ -68,7 +68,7 @@ picked_filter test (x ∷ xs) = by_test (test x) (picked_filter test xs)
 
 -- the parts of a node in which identifiers occur are picked from its parts
 module _ {X : Type 0} (tree : X → Tree) where
-  picked_first : (xs : List X) → Picked (first_alone tree xs) xs
+  pub picked_first : (xs : List X) → Picked (first_alone tree xs) xs
   picked_first [] = none
   picked_first (x ∷ xs) = keep none
 

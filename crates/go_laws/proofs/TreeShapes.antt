@@ -14,11 +14,14 @@ pub data Sort : Type 0 where
   Operand : Sort
   -- a constant spec
   Spec : Sort
+  -- a spec of variables
+  Variable : Sort
   Anything : Sort
 
 abbrev pub sort_of : NodeKind → Sort
 sort_of k.Name = Named
 sort_of k.ConstSpec = Spec
+sort_of k.VarSpec = Variable
 sort_of k.File = Anything
 sort_of k.ImportDecl = Anything
 sort_of k.ImportGroup = Anything
@@ -34,26 +37,21 @@ sort_of _ = Operand
 
 abbrev pub within : Sort → Sort → Bool
 within Never d = true
-within Named Never = false
 within Named Named = true
 within Named Operand = true
-within Named Spec = false
 within Named Anything = true
-within Operand Never = false
-within Operand Named = false
+within Named d = false
 within Operand Operand = true
-within Operand Spec = false
 within Operand Anything = true
-within Spec Never = false
-within Spec Named = false
-within Spec Operand = false
+within Operand d = false
 within Spec Spec = true
 within Spec Anything = true
-within Anything Never = false
-within Anything Named = false
-within Anything Operand = false
-within Anything Spec = false
+within Spec d = false
+within Variable Variable = true
+within Variable Anything = true
+within Variable d = false
 within Anything Anything = true
+within Anything d = false
 
 abbrev pub is_of : Sort → NodeKind → Bool
 is_of c kind = within (sort_of kind) c
@@ -85,6 +83,8 @@ has_shape k.AddExpr (x ∷ (y ∷ (z ∷ zs))) = false
 has_shape k.ExprList xs = list_all (is_of Operand) xs
 has_shape k.ConstDecl xs = list_all (is_of Spec) xs
 has_shape k.ConstGroup xs = list_all (is_of Spec) xs
+has_shape k.VarDecl xs = list_all (is_of Variable) xs
+has_shape k.VarGroup xs = list_all (is_of Variable) xs
 has_shape kind xs = true
 
 -- so have all nodes of a tree

@@ -5,18 +5,20 @@ use Rattle.std.specs.List.{AllPairs, flat_map}
 use Rattle.std.specs.Map.{lookup}
 use Rattle.std.specs.Option.{option_map_or, IfSome}
 use Rattle.std.proofs.lemmas.Grind.{flat_map-append}
-use Rattle.std.proofs.lemmas.List.{map-append}
+use Rattle.std.proofs.lemmas.List.{append-nil, map-append}
 use Rattle.go_base.specs.declared.ids.ObjId.{ObjId}
 use Rattle.go_tree.specs.declared.node.NodeId.{NodeId}
 use Rattle.go_tree.specs.declared.node_kind.NodeKind.{NodeKind}
-use Rattle.go_tree.specs.declared.node_kind.NodeKind.TheVariants.{Name, SelectorExpr, ConstDecl, ConstGroup, ConstCopy}
+use Rattle.go_tree.specs.declared.node_kind.NodeKind.TheVariants.{AliasSpec, ConstCopy, ConstDecl, ConstGroup, ExprList, Name, SelectorExpr, TypeDecl, TypeGroup, TypeSpec, VarDecl, VarGroup}
 use Rattle.go_tree.specs.Tree.{Tree, branch, Trees, no_trees, more_trees, id_of, list_of}
 use Rattle.go_module.specs.declared.block.Occurrence.{Occurrence}
 use Rattle.go_module.specs.declared.block.Region.{Region}
 use Rattle.go_module.specs.declared.block.Selected.{Selected}
 use Rattle.go_module.specs.declared.object.Object.{Object}
+use Rattle.go_module.specs.declared.object.ObjKind.{ObjKind}
+use Rattle.go_module.specs.declared.object.ObjKind.TheVariants.{Alias, Defined}
 use Rattle.go_module.specs.Modules.Module.{FileData, ModuleData, PackageData}
-use Rattle.go_module.specs.Names.Declarations.{behind_names, const_spec, specs_in, types_behind, values_behind}
+use Rattle.go_module.specs.Names.Declarations.{Spec, behind_names, const_spec, list_behind, specs_in, type_before, type_spec, type_spec_as, types_behind, values_behind, var_spec}
 use Rattle.go_module.specs.Names.Imports.{PackageNames, known_in}
 use Rattle.go_module.specs.Names.Inner.{inner_of}
 use Rattle.go_module.specs.Names.Occurrences.{found_in, names_in, names_in_parts, names_of_each, occurrences_in_file, with_selected}
@@ -108,31 +110,69 @@ module _ (file : ℕ) (told_at : Option ℕ) where
   names_numbers (more_trees (branch id from to ConstCopy text parts) (more_trees b ts)) = behind_numbers (more_trees (branch id from to ConstCopy text parts) (more_trees b ts))
   names_numbers (more_trees (branch id from to kind text parts) ts) = behind_numbers (more_trees (branch id from to kind text parts) ts)
 
-spec_numbers : (file : ℕ) (spec : Tree) → Picked (numbers_in (names_in_parts (const_spec file spec))) (ends spec)
-spec_numbers file (branch id from to kind text no_trees) = none
-spec_numbers file (branch id from to kind text (more_trees names rest)) =
+  -- what stands behind the names of variables
+  variables_numbers : (ts : Trees) → Picked (numbers_in (flat_map (names_in file told_at) (type_before (list_of ts) ++ list_behind (list_of ts)))) (ends_among ts)
+  variables_numbers no_trees = none
+  variables_numbers (more_trees (branch id from to ExprList text parts) no_trees) = in_list id parts
+  variables_numbers (more_trees (branch id from to kind text parts) no_trees) =
+      both_numbers (names_in file told_at (branch id from to kind text parts)) [] (ends (branch id from to kind text parts)) [] (tree_numbers (branch id from to kind text parts)) none
+  variables_numbers (more_trees type (more_trees (branch id from to kind text parts) no_trees)) =
+      both_numbers (names_in file told_at type) (flat_map (names_in file told_at) (list_of parts)) (ends type) ((ends_among parts ++ id ∷ []) ++ []) (tree_numbers type) (in_list id parts)
+  variables_numbers (more_trees type (more_trees b (more_trees c ts))) =
+      both_numbers (names_in file told_at type) [] (ends type) (ends_among (more_trees b (more_trees c ts))) (tree_numbers type) none
+
+-- of a spec
+const_numbers : (file : ℕ) (spec : Tree) → Picked (numbers_in (names_in_parts (const_spec file spec))) (ends spec)
+const_numbers file (branch id from to kind text no_trees) = none
+const_numbers file (branch id from to kind text (more_trees names rest)) =
     let spec = const_spec file (branch id from to kind text (more_trees names rest)) in
     picked_front (id ∷ []) (picked_behind (ends names) (names_numbers file spec.told_at rest))
 
-specs_numbers : (file : ℕ) (specs : Trees) → Picked (numbers_in (flat_map names_in_parts (map (const_spec file) (list_of specs)))) (ends_among specs)
-specs_numbers file no_trees = none
-specs_numbers file (more_trees spec specs) =
-    both_numbers (names_in_parts (const_spec file spec)) (flat_map names_in_parts (map (const_spec file) (list_of specs))) (ends spec) (ends_among specs) (spec_numbers file spec) (specs_numbers file specs)
+var_numbers : (file : ℕ) (spec : Tree) → Picked (numbers_in (names_in_parts (var_spec file spec))) (ends spec)
+var_numbers file (branch id from to kind text no_trees) = none
+var_numbers file (branch id from to kind text (more_trees names rest)) = picked_front (id ∷ []) (picked_behind (ends names) (variables_numbers file None rest))
+
+typed_numbers : (kind : ObjKind) (file : ℕ) (node : Tree) (parts : Trees) → Picked (numbers_in (names_in_parts (type_spec_as kind file node parts))) (ends_among parts)
+typed_numbers kind file node no_trees = none
+typed_numbers kind file node (more_trees name rest) =
+    picked_behind (ends name) (subst (λ (xs : List Tree). Picked (numbers_in (flat_map (names_in file None) xs)) (ends_among rest)) (sym (append-nil (list_of rest))) (list_numbers file None rest))
+
+one_spec_numbers : (spec : Spec) (ns : List ℕ) → Picked (numbers_in (names_in_parts spec)) ns → Picked (numbers_in (flat_map names_in_parts (spec ∷ []))) ns
+one_spec_numbers spec ns p = subst (λ (os : List Occurrence). Picked (numbers_in os) ns) (sym (append-nil (names_in_parts spec))) p
+
+type_numbers : (file : ℕ) (t : Tree) → Picked (numbers_in (flat_map names_in_parts (type_spec file t))) (ends t)
+type_numbers file (branch id from to TypeSpec text parts) =
+    let node = branch id from to TypeSpec text parts in
+    one_spec_numbers (type_spec_as Defined file node parts) (ends node) (picked_front (id ∷ []) (typed_numbers Defined file node parts))
+type_numbers file (branch id from to AliasSpec text parts) =
+    let node = branch id from to AliasSpec text parts in
+    one_spec_numbers (type_spec_as Alias file node parts) (ends node) (picked_front (id ∷ []) (typed_numbers Alias file node parts))
+type_numbers file (branch id from to kind text parts) = none
+
+-- of one spec for each node, and of several
+each_numbers : (make : Tree → Spec) → ((t : Tree) → Picked (numbers_in (names_in_parts (make t))) (ends t)) → (nodes : Trees) → Picked (numbers_in (flat_map names_in_parts (map make (list_of nodes)))) (ends_among nodes)
+each_numbers make each no_trees = none
+each_numbers make each (more_trees t nodes) =
+    both_numbers (names_in_parts (make t)) (flat_map names_in_parts (map make (list_of nodes))) (ends t) (ends_among nodes) (each t) (each_numbers make each nodes)
+
+all_numbers : (make : Tree → List Spec) → ((t : Tree) → Picked (numbers_in (flat_map names_in_parts (make t))) (ends t)) → (nodes : Trees) → Picked (numbers_in (flat_map names_in_parts (flat_map make (list_of nodes)))) (ends_among nodes)
+all_numbers make each no_trees = none
+all_numbers make each (more_trees t nodes) =
+    let rest = flat_map make (list_of nodes) in
+    subst (λ (os : List Occurrence). Picked (numbers_in os) (ends t ++ ends_among nodes)) (sym (flat_map-append names_in_parts (make t) rest))
+    (both_numbers (flat_map names_in_parts (make t)) (flat_map names_in_parts rest) (ends t) (ends_among nodes) (each t) (all_numbers make each nodes))
 
 declaration_numbers : (file : ℕ) (d : Tree) → Picked (numbers_in (flat_map names_in_parts (specs_in file d))) (ends d)
-declaration_numbers file (branch id from to ConstDecl text parts) = picked_front (id ∷ []) (specs_numbers file parts)
-declaration_numbers file (branch id from to ConstGroup text parts) = picked_front (id ∷ []) (specs_numbers file parts)
+declaration_numbers file (branch id from to ConstDecl text parts) = picked_front (id ∷ []) (each_numbers (const_spec file) (const_numbers file) parts)
+declaration_numbers file (branch id from to ConstGroup text parts) = picked_front (id ∷ []) (each_numbers (const_spec file) (const_numbers file) parts)
+declaration_numbers file (branch id from to VarDecl text parts) = picked_front (id ∷ []) (each_numbers (var_spec file) (var_numbers file) parts)
+declaration_numbers file (branch id from to VarGroup text parts) = picked_front (id ∷ []) (each_numbers (var_spec file) (var_numbers file) parts)
+declaration_numbers file (branch id from to TypeDecl text parts) = picked_front (id ∷ []) (all_numbers (type_spec file) (type_numbers file) parts)
+declaration_numbers file (branch id from to TypeGroup text parts) = picked_front (id ∷ []) (all_numbers (type_spec file) (type_numbers file) parts)
 declaration_numbers file (branch id from to kind text parts) = none
 
-declarations_numbers : (file : ℕ) (ds : Trees) → Picked (numbers_in (flat_map names_in_parts (flat_map (specs_in file) (list_of ds)))) (ends_among ds)
-declarations_numbers file no_trees = none
-declarations_numbers file (more_trees d ds) =
-    let rest = flat_map (specs_in file) (list_of ds) in
-    subst (λ (os : List Occurrence). Picked (numbers_in os) (ends d ++ ends_among ds)) (sym (flat_map-append names_in_parts (specs_in file d) rest))
-    (both_numbers (flat_map names_in_parts (specs_in file d)) (flat_map names_in_parts rest) (ends d) (ends_among ds) (declaration_numbers file d) (declarations_numbers file ds))
-
 file_numbers : (file : ℕ) (t : Tree) → Picked (numbers_in (occurrences_in_file file t)) (ends t)
-file_numbers file (branch id from to kind text parts) = picked_front (id ∷ []) (declarations_numbers file parts)
+file_numbers file (branch id from to kind text parts) = picked_front (id ∷ []) (all_numbers (specs_in file) (declaration_numbers file) parts)
 
 files_numbers : (file : ℕ) (files : List FileData) → Picked (numbers_in (occurrences_from file files)) (numbers_in_files files)
 files_numbers file [] = none

@@ -16,7 +16,7 @@ use Rattle.go_tree.proofs.GrammarBalance.{file_node}
 use Rattle.go_text.specs.Copies.{all_with_copies, completed, copy_if_any, is_group, list_behind, specs_with_copies, with_copies}
 use Rattle.go_text.specs.Files.{IsFileOf}
 use Rattle.go_text.specs.Numbers.{all_numbered, numbered}
-use Rattle.go_laws.proofs.TreeShapes.{AllShaped, Anything, Shaped, Spec, has_shape, is_of, kinds_in}
+use Rattle.go_laws.proofs.TreeShapes.{AllShaped, Anything, Shaped, Spec, Variable, has_shape, is_of, kinds_in}
 use Rattle.go_laws.proofs.PartReadingLemmas.{tree_fine}
 use Rattle.go_laws.proofs.GrammarShapes.{effects, effects_checked}
 
@@ -67,6 +67,7 @@ copy_shaped (more_trees t ts) a = ((refl, a), tt)
 
 pub spec_kind : (kind : NodeKind) → is_of Spec kind ≡ true → kind ≡ k.ConstSpec
 spec_kind k.ConstSpec h = refl
+spec_kind k.VarSpec h = cc
 spec_kind k.Name h = cc
 spec_kind k.File h = cc
 spec_kind k.ImportDecl h = cc
@@ -80,6 +81,23 @@ spec_kind k.TypeGroup h = cc
 spec_kind k.IdentList h = cc
 spec_kind k.ExprList h = cc
 spec_kind _ h = cc
+
+pub variable_kind : (kind : NodeKind) → is_of Variable kind ≡ true → kind ≡ k.VarSpec
+variable_kind k.VarSpec h = refl
+variable_kind k.ConstSpec h = cc
+variable_kind k.Name h = cc
+variable_kind k.File h = cc
+variable_kind k.ImportDecl h = cc
+variable_kind k.ImportGroup h = cc
+variable_kind k.ConstDecl h = cc
+variable_kind k.ConstGroup h = cc
+variable_kind k.VarDecl h = cc
+variable_kind k.VarGroup h = cc
+variable_kind k.TypeDecl h = cc
+variable_kind k.TypeGroup h = cc
+variable_kind k.IdentList h = cc
+variable_kind k.ExprList h = cc
+variable_kind _ h = cc
 
 group_kind : (kind : NodeKind) → is_group kind ≡ true → kind ≡ k.ConstGroup
 group_kind k.ConstGroup h = refl

@@ -48,21 +48,26 @@ is_same_node a b e = let at : a.0 ≡ b.0 = ap (λ (n : NodeId). n.0) e in grind
 pub found_behind : {V : Type 0} (q : ObjId) (es : List (ObjId × V)) (k : ObjId) (v : V) → lookup (same_object q) (insert_entry same_object es k v) ≡ cond (same_object q k) (Some v) (lookup (same_object q) es)
 found_behind q es k v = found_among same_object same_is is_same q es k v
 
--- and what is made of it, by the number
-chosen : {V W : Type 0} (f : V → W) (b c : Bool) (v : V) (rest : Option V) → b ≡ c → option_map f (cond b (Some v) rest) ≡ (if c then Some (f v) else option_map f rest)
-chosen f b true v rest e = ap (λ x. option_map f (cond x (Some v) rest)) e
-chosen f b false v rest e = ap (λ x. option_map f (cond x (Some v) rest)) e
+-- and by the number
+by_test : {V : Type 0} (b c : Bool) (v : V) (rest : Option V) → b ≡ c → cond b (Some v) rest ≡ (if c then Some v else rest)
+by_test b true v rest e = ap (λ x. cond x (Some v) rest) e
+by_test b false v rest e = ap (λ x. cond x (Some v) rest) e
 
-pub mapped_behind : {V W : Type 0} (f : V → W) (es : List (ObjId × V)) (k : ObjId) (v : V) (e : ℕ)
-    → option_map f (lookup (same_object (record { 0 = e })) (insert_entry same_object es k v)) ≡ (if k.0 == e then Some (f v) else option_map f (lookup (same_object (record { 0 = e })) es))
-mapped_behind f es k v e =
+pub entry_behind : {V : Type 0} (es : List (ObjId × V)) (k : ObjId) (v : V) (e : ℕ)
+    → lookup (same_object (record { 0 = e })) (insert_entry same_object es k v) ≡ (if k.0 == e then Some v else lookup (same_object (record { 0 = e })) es)
+entry_behind es k v e =
     let q : ObjId = record { 0 = e } in
     let same : same_object q k ≡ (k.0 == e) = grind (arith, nat_tests) in
-    ap (option_map f) (found_behind q es k v) ∙ chosen f (same_object q k) (k.0 == e) v (lookup (same_object q) es) same
+    found_behind q es k v ∙ by_test (same_object q k) (k.0 == e) v (lookup (same_object q) es) same
 
-pub mapped_behind_node : {V W : Type 0} (f : V → W) (es : List (NodeId × V)) (k : NodeId) (v : V) (e : ℕ)
-    → option_map f (lookup (same_node (record { 0 = e })) (insert_entry same_node es k v)) ≡ (if k.0 == e then Some (f v) else option_map f (lookup (same_node (record { 0 = e })) es))
-mapped_behind_node f es k v e =
+pub entry_behind_node : {V : Type 0} (es : List (NodeId × V)) (k : NodeId) (v : V) (e : ℕ)
+    → lookup (same_node (record { 0 = e })) (insert_entry same_node es k v) ≡ (if k.0 == e then Some v else lookup (same_node (record { 0 = e })) es)
+entry_behind_node es k v e =
     let q : NodeId = record { 0 = e } in
     let same : same_node q k ≡ (k.0 == e) = grind (arith, nat_tests) in
-    ap (option_map f) (found_among same_node same_node_is is_same_node q es k v) ∙ chosen f (same_node q k) (k.0 == e) v (lookup (same_node q) es) same
+    found_among same_node same_node_is is_same_node q es k v ∙ by_test (same_node q k) (k.0 == e) v (lookup (same_node q) es) same
+
+-- what is made of one of two
+pub chosen : {V W : Type 0} (f : V → W) (b : Bool) (v : V) (rest : Option V) → option_map f (if b then Some v else rest) ≡ (if b then Some (f v) else option_map f rest)
+chosen f true v rest = refl
+chosen f false v rest = refl

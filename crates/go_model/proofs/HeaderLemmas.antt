@@ -36,8 +36,8 @@ value-part means known more part (Some t) r e = record_of-part means known more 
 
 pub header_over-part : (means : ℕ → Meaning) (known more : Headers) → IsPart known more → (d : Declaration) (h : HeaderData) → header_over means known d ≡ Some h → header_over means more d ≡ Some h
 header_over-part means known more part d h e =
-    told-part (option_and_then (record_of means known) (bound_value d.built d.values)) (option_and_then (record_of means more) (bound_value d.built d.values))
-    (value-part means known more part (bound_value d.built d.values)) h e
+    told-part (option_and_then (record_of means known) (bound_value d.kind d.built d.values)) (option_and_then (record_of means more) (bound_value d.kind d.built d.values))
+    (value-part means known more part (bound_value d.kind d.built d.values)) h e
 
 -- what a longer list has for a declaration
 pub headers_of-here : (before : Headers) (p : ℕ × HeaderData) (list : List (ℕ × HeaderData)) (d : ℕ) → p.0 ≡ d → headers_of before (p ∷ list) d ≡ Some p.1

@@ -5,9 +5,11 @@ pub mod ExactLemmas
 pub mod ExactWaitLemmas
 pub mod FlatLemmas
 pub mod HeaderLemmas
+pub mod HeadersViewLemmas
 pub mod LineOrderLemmas
 pub mod OneReportLemmas
 pub mod OutlineLemmas
+pub mod OwnDataLemmas
 pub mod OwnLemmas
 pub mod OutcomeLemmas
 pub mod QuestLemmas

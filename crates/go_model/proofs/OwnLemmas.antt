@@ -1,5 +1,5 @@
 -- What calls one after another leave as it was.
-use Rattle.std.proofs.Common.{◌≡◌, Bool, List, [], ◌∷◌, refl, ◌∙◌}
+use Rattle.std.proofs.Common.{Bool, List, [], ◌∷◌, refl, ◌∙◌}
 use Rattle.std.specs.List.{AllByRecursion}
 use Rattle.go_term.specs.declared.shape.ElemShape.{ElemShape}
 use Rattle.go_term.specs.declared.shape.ElemShape.TheVariants as E

@@ -1,12 +1,13 @@
 // Maps of headers that can be asked (Go specification, "Declarations and scope").
-ghost use Rattle.std.specs.Prelude.{◌≡◌, Bool, false, IfOk};
+ghost use Rattle.std.specs.Prelude.{◌≡◌, Bool, false, IfOk, IfSome};
 ghost use Rattle.std.specs.Option.{option_map};
-ghost use Rattle.go_model.specs.Outcomes.Records.{header_view};
+ghost use Rattle.go_model.specs.Outcomes.Records.{header_as};
 ghost use Rattle.go_model.specs.Outcomes.Walk as walk;
 ghost use Rattle.go_model.specs.Outcomes.Walked.{Outcomes};
-ghost use Rattle.go_model.specs.Types.Own.{KeepsTypes};
+ghost use Rattle.go_model.specs.Types.Own.{IsOwnHeader, KeepsTypes};
 ghost use Rattle.go_model.specs.Values.Meaning.{Naming};
 ghost use Rattle.go_term.specs.Types.{TypeData};
+ghost use Rattle.go_term.specs.View.{type_of};
 ghost use Rattle.go_term.specs.declared.term.Term.{Term};
 
 use crate::header::Header;
@@ -42,10 +43,11 @@ pub trait Ask {
     /// What a type of its own stands for.
     ghost tree: { Self → Term → TypeData };
 
-    /// The header of a declaration, None exactly where the map has none. An error is want of memory. The map, the
-    /// names, the outcomes, its types, and what else stays are as before, also on an error.
+    /// The header of a declaration, None exactly where the map has none; its types are of the map's own. An error is want
+    /// of memory. The map, the names, the outcomes, its types, and what else stays are as before, also on an error.
     fn ask(&mut self, d: ObjId) -> Result<Option<Header>, NoMemory>
-        ensures answer { IfOk result (λ header. option_map header_view header ≡ headers self.old d.0) }
+        ensures answer { IfOk result (λ header. option_map (header_as (tree self.new)) header ≡ headers self.old d.0) }
+        ensures own { IfOk result (λ header. IfSome header (IsOwnHeader (is_type self.new))) }
         ensures same { headers self.new ≡ headers self.old }
         ensures names { names self.new ≡ names self.old }
         ensures outcomes { outcomes self.new ≡ outcomes self.old }
@@ -53,4 +55,11 @@ pub trait Ask {
         ensures spent { is_spent self.new ≡ is_spent self.old }
         ensures world { world self.new ≡ world self.old }
         ensures types { KeepsTypes (is_type self.old) (is_type self.new) (tree self.old) (tree self.new) };
+
+    /// A type once more is its own, and stands for what the type stands for.
+    ghost copies: { (asked : Self) (t copy : Term) → type_of copy ≡ type_of t → is_type asked t
+        → is_type asked copy × (tree asked copy ≡ tree asked t) };
+
+    /// As long as types are terms, a type of its own stands for the term that it is.
+    ghost plain: { (asked : Self) (t : Term) → is_type asked t → tree asked t ≡ type_of t };
 }

@@ -1,12 +1,12 @@
 // Walks over expressions (Go specification, "Expressions").
-ghost use Rattle.std.specs.Prelude.{◌≡◌, ℕ, false, IfOk, OnErr, OnOk};
+ghost use Rattle.std.specs.Prelude.{◌≡◌, ℕ, false, IfOk, IfSome, OnErr, OnOk};
 ghost use Rattle.std.specs.Option.{option_map};
 ghost use Rattle.go_tree.specs.Tree.{tree_of};
 ghost use Rattle.go_module.specs.Names.Occurrences.{nodes_in};
-ghost use Rattle.go_model.specs.Outcomes.View.{outcome_view};
+ghost use Rattle.go_model.specs.Outcomes.View.{outcome_as};
 ghost use Rattle.go_model.specs.Outcomes.Walk as walk;
 ghost use Rattle.go_model.specs.Outcomes.Walked.{ArePartly, walked_over};
-ghost use Rattle.go_model.specs.Types.Own.{KeepsTypes};
+ghost use Rattle.go_model.specs.Types.Own.{IsOwnOutcome, KeepsTypes};
 ghost use Rattle.go_model.specs.Values.Meaning.{AreThere, meaning_by};
 
 use crate::ask::Ask;
@@ -18,14 +18,16 @@ use std::alloc::Global;
 
 /// Who walks over expressions and types, and keeps the outcomes of their nodes.
 pub trait ExprWalk: Ask {
-    /// The outcome of a node over the headers, which stay, as the names and its types do, also on an error. It asks that each object
-    /// that is denoted is there. The walk reaches the node and all nodes in it, the name of a package before a `.` too.
-    /// `want` is the type of the variable or the result to which the value is given; nothing is built yet that looks at
-    /// it. An error is want of memory; some of these nodes may have their outcomes then.
+    /// The outcome of a node over the headers, which stay, as the names and its types do, also on an error. It asks that
+    /// each object that is denoted is there. The walk reaches the node and all nodes in it, the name of a package before a
+    /// `.` too. `want` is the type of the variable or the result to which the value is given, one of its own; nothing is built
+    /// yet that looks at it. An error is want of memory; some of these nodes may have their outcomes then.
     fn walk(&mut self, alloc: Global, node: &Node, want: Option<Ty>) -> Result<Outcome, NoMemory>
-        requires { AreThere (Self.names self.old) }
-        ensures outcome { IfOk result (λ found. outcome_view found
+        requires there { AreThere (Self.names self.old) }
+        requires wanted { IfSome want (Self.is_type self.old) }
+        ensures outcome { IfOk result (λ found. outcome_as (Self.tree self.new) found
             ≡ walk.outcome (meaning_by (Self.names self.old)) (Self.headers self.old) (tree_of node.now)) }
+        ensures own { IfOk result (IsOwnOutcome (Self.is_type self.new)) }
         ensures reached { OnOk result ((n : ℕ) → Self.outcomes self.new n
             ≡ walked_over (meaning_by (Self.names self.old)) (Self.headers self.old) (nodes_in (tree_of node.now))
             (Self.outcomes self.old) n) }
@@ -41,5 +43,7 @@ pub trait ExprWalk: Ask {
 
     /// The outcome of a node in the last walk that reached it, None exactly where none did.
     fn outcome(&self, id: NodeId) -> Option<&Outcome>
-        ensures { option_map (λ found. outcome_view found.now) result ≡ Self.outcomes self.now id.0 };
+        ensures outcome { option_map (λ found. outcome_as (Self.tree self.now) found.now) result
+            ≡ Self.outcomes self.now id.0 }
+        ensures own { IfSome result (λ found. IsOwnOutcome (Self.is_type self.now) found.now) };
 }

@@ -1,10 +1,8 @@
 // Maps of headers (Go specification, "Declarations and scope").
-ghost use Rattle.std.specs.Prelude.{◌≡◌, ℕ, [], ◌∷◌, None, false, OnErr, OnOk};
+ghost use Rattle.std.specs.Prelude.{◌≡◌, ◌==◌, ℕ, None, Some, false, if◌then◌else◌, refl, OnErr, OnOk};
 ghost use Rattle.std.specs.Option.{option_map};
-ghost use Rattle.go_model.specs.Outcomes.Records.{header_view};
 ghost use Rattle.go_model.specs.Outcomes.Walked.{no_outcomes};
-ghost use Rattle.go_model.specs.Values.Headers.{headers_of};
-ghost use Rattle.go_model.specs.Values.HeadersView.{headers_view};
+ghost use Rattle.go_model.specs.Values.HeadersView.{header_in, headers_view};
 ghost use Rattle.go_model.specs.Values.Meaning.{no_names};
 ghost use Rattle.go_term.specs.View.{type_of};
 
@@ -25,7 +23,7 @@ pub struct Headers {
 impl Headers {
     /// No header.
     pub fn new(alloc: Global) -> Headers
-        ensures { (d : ℕ) → headers_view result d ≡ None }
+        ensures { (d : ℕ) → header_in result d ≡ None }
     {
         Headers {
             table: IndexMap::with_hasher(alloc, NumberHasher::new()),
@@ -34,17 +32,17 @@ impl Headers {
 
     /// The header of a declaration, None exactly where it has none.
     pub fn get(&self, d: ObjId) -> Option<&Header>
-        ensures { option_map (λ header. header_view header.now) result ≡ headers_view self.now d.0 }
+        ensures { option_map (λ header. header.now) result ≡ header_in self.now d.0 }
     {
         self.table.get(&d)
     }
 
     /// Adds the header of a declaration that has none. An error is want of memory, and leaves the headers as they were.
     pub fn add(&mut self, d: ObjId, header: Header) -> Result<(), NoMemory>
-        requires { headers_view self.old d.0 ≡ None }
-        ensures added { OnOk result ((e : ℕ) → headers_view self.new e
-            ≡ headers_of (headers_view self.old) ((d.0, header_view header) ∷ []) e) }
-        ensures err { OnErr result ((e : ℕ) → headers_view self.new e ≡ headers_view self.old e) }
+        requires { header_in self.old d.0 ≡ None }
+        ensures added { OnOk result ((e : ℕ) → header_in self.new e
+            ≡ (if d.0 == e then Some header else header_in self.old e)) }
+        ensures err { OnErr result ((e : ℕ) → header_in self.new e ≡ header_in self.old e) }
     {
         self.table.insert(d, header)?;
         Ok(())
@@ -71,6 +69,10 @@ impl Ask for Headers {
     ghost is_type = { λ _ _. Unit {0} };
 
     ghost tree = { λ _ t. type_of t };
+
+    ghost copies = { λ _ _ _ same _. (tt, same) };
+
+    ghost plain = { λ _ _ _. refl };
 
     fn ask(&mut self, d: ObjId) -> Result<Option<Header>, NoMemory> {
         match self.table.get(&d) {

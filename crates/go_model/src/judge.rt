@@ -5,9 +5,9 @@ ghost use Rattle.go_term.specs.Shapes.{IsCause, shape_tree};
 ghost use Rattle.go_term.specs.Size.{size_fault};
 ghost use Rattle.go_term.specs.Substitution.{subst};
 ghost use Rattle.go_term.specs.declared.fault.TermFault.TheVariants as fault;
-ghost use Rattle.go_model.specs.Outcomes.Records.{header_view};
+ghost use Rattle.go_model.specs.Outcomes.Records.{header_as};
 ghost use Rattle.go_model.specs.Types.Forms.{IsOwnForm, answer_as, form_as, underlying_over};
-ghost use Rattle.go_model.specs.Types.Own.{AreOwn, Keeps, KeepsTypes};
+ghost use Rattle.go_model.specs.Types.Own.{AreOwn, IsOwnHeader, Keeps, KeepsTypes};
 ghost use Rattle.go_model.specs.Types.TypeIdentity.{identical};
 ghost use Rattle.go_model.specs.Values.Headers.{headers_of};
 ghost use Rattle.go_model.specs.Values.Quests.{run};
@@ -25,7 +25,8 @@ use std::alloc::Global;
 
 /// What is known of identifiers and objects (Go specification, "Declarations and scope"), and of types: they are read
 /// and made by `see`, `make` and `subst` alone. An error is want of memory where nothing else is said; each call leaves
-/// the headers, the names, the outcomes, its types, and what else stays as they were, also on an error.
+/// the headers, the names, the outcomes, the types that it had, whether it is spent, and what else stays as they were,
+/// also on an error.
 pub trait Forms: Ask {
     /// The object that an identifier of the package denotes, by its node, None exactly where it denotes none.
     fn resolve(&self, id: NodeId) -> Option<ObjId>
@@ -106,8 +107,8 @@ pub trait Forms: Ask {
 /// Which types are identical (Go specification, "Type identity").
 pub trait Same: Forms {
     /// Whether two types are identical, Unknown with the first header that the answer lacks. No where more than 32 names
-    /// that interfaces embed would have to be opened on one path. An error is want of memory; the call leaves what calls
-    /// of `Forms` leave.
+    /// would have to be opened on one path: names that interfaces embed, and underlying types of their terms. An error is
+    /// want of memory, also past as many steps as are taken for one answer; the call leaves what calls of `Forms` leave.
     fn identical(&mut self, alloc: Global, a: &Ty, b: &Ty) -> Result<Answer, NoMemory>
         requires first { Self.is_type self.old a.now }
         requires second { Self.is_type self.old b.now }
@@ -132,12 +133,14 @@ pub trait Judge: Sets {}
 
 /// A judge that walks over expressions and is told headers.
 pub trait Rules: Judge + ExprWalk {
-    /// Adds the header of a declaration that has none. The names, the outcomes, its types, and what else stays are as
-    /// before. An error is want of memory, and leaves the headers as they were; behind it each call that can answer it does.
+    /// Adds the header of a declaration that has none; its types must be of its own. The names, the outcomes, its types, and
+    /// what else stays are as before. An error is want of memory, and leaves the headers as they were; behind it each call
+    /// that can answer it does.
     fn learn(&mut self, d: ObjId, header: &Header) -> Result<(), NoMemory>
-        requires { Self.headers self.old d.0 ≡ None }
+        requires vacant { Self.headers self.old d.0 ≡ None }
+        requires own { IsOwnHeader (Self.is_type self.old) header.now }
         ensures learned { OnOk result ((e : ℕ) → Self.headers self.new e
-            ≡ headers_of (Self.headers self.old) ((d.0, header_view header.now) ∷ []) e) }
+            ≡ headers_of (Self.headers self.old) ((d.0, header_as (Self.tree self.old) header.now) ∷ []) e) }
         ensures err { OnErr result ((e : ℕ) → Self.headers self.new e ≡ Self.headers self.old e) }
         ensures names { Self.names self.new ≡ Self.names self.old }
         ensures unspent { OnOk result (Self.is_spent self.old ≡ false) }

@@ -11,6 +11,8 @@ pub enum ObjKind {
     Defined,
     /// another name of a type ("Alias declarations")
     Alias,
+    /// a variable ("Variable declarations")
+    Var,
     /// a package, by the name of an import ("Import declarations")
     Package,
     /// a built-in function ("Built-in functions")

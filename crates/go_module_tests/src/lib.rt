@@ -18,3 +18,5 @@ mod reading_tests;
 mod scope_tests;
 #[cfg(test)]
 mod source_tests;
+#[cfg(test)]
+mod type_scope_tests;

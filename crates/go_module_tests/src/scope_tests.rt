@@ -77,7 +77,7 @@ fn file(alloc: Global, bytes: &[u8], constants: Vec<Node>) -> Result<SourceFile,
 }
 
 // The module of one package that has this file.
-fn module_of(alloc: Global, file: SourceFile) -> Result<Module, Fail>
+pub(crate) fn module_of(alloc: Global, file: SourceFile) -> Result<Module, Fail>
     ensures { IfOk result (λ made. AreBefore (module_view made) 0 []) }
 {
     let own = Package {
@@ -101,7 +101,7 @@ fn two_constants(alloc: Global, value: &str) -> Result<SourceFile, Fail> {
     file(alloc, SOURCE, vec![in alloc; first, second]?)
 }
 
-fn name(alloc: Global, text: &str) -> Result<Name, AllocError> {
+pub(crate) fn name(alloc: Global, text: &str) -> Result<Name, AllocError> {
     Ok(Name::new(String::from_str(alloc, text)?))
 }
 

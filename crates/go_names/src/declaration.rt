@@ -1,4 +1,5 @@
-// The declarations of a package (Go specification, "Declarations and scope", "Constant declarations").
+// The declarations of a package (Go specification, "Declarations and scope", "Constant declarations", "Variable
+// declarations", "Type declarations").
 ghost use Rattle.std.specs.Prelude.{◌≡◌, ◌++◌, IfOk, OnOk, length, map};
 ghost use Rattle.go_tree.specs.Tree.{tree_of};
 ghost use Rattle.go_module.specs.Names.Declarations as rule;
@@ -76,11 +77,41 @@ fn push_declared<'a>(spec: &Spec<'a>, list: &mut Vec<Declaration<'a>>) -> Result
     ensures { OnOk result (declarations_view list.new.items
         ≡ declarations_view list.old.items ++ rule.declared_in (spec_view spec.now)) }
 {
+    match spec.kind {
+        ObjKind::Const => push_by_values(spec, list),
+        ObjKind::Var if spec.types.is_empty() => push_by_values(spec, list),
+        _ => push_by_itself(spec, list),
+    }
+}
+
+// Pushes the declarations of constants, or of variables without a type.
+fn push_by_values<'a>(spec: &Spec<'a>, list: &mut Vec<Declaration<'a>>) -> Result<(), NoMemory>
+    ensures { OnOk result (declarations_view list.new.items
+        ≡ declarations_view list.old.items ++ rule.by_values (spec_view spec.now)) }
+{
     if spec.names.len() == spec.values.len() {
         push_pairs(spec, spec.names, spec.values, list)
     } else {
         push_with_list(spec, list)
     }
+}
+
+// Pushes a declaration for each name, by the type alone.
+fn push_by_itself<'a>(spec: &Spec<'a>, list: &mut Vec<Declaration<'a>>) -> Result<(), NoMemory>
+    ensures { OnOk result (declarations_view list.new.items ≡ declarations_view list.old.items
+        ++ map (rule.by_itself (spec_view spec.now)) (map tree_of spec.now.names.now)) }
+{
+    for name in spec.names {
+        list.push(Declaration {
+            file: spec.file,
+            kind: spec.kind,
+            name,
+            types: spec.types,
+            values: &[],
+            built: Built::Itself,
+        })?;
+    }
+    Ok(())
 }
 
 // Pushes a declaration for each of these names, with the value at its place.

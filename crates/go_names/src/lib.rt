@@ -2,13 +2,14 @@
 //!
 //! `specs_of` lists the specs of a package, file by file, and `declarations_of` their declarations; imports aside, no
 //! other call matches on kinds of declarations. `inner_parts` gives the parts of a node in which identifiers occur and
-//! nodes stand that can have records; `names_in_specs` lists the identifiers that occur. `is_exported` and
+//! nodes stand that can have records, `nodes_in` lists these nodes; `names_in_specs` lists the identifiers that occur. `is_exported` and
 //! `is_blank_identifier` tell names apart by their text.
 #![tactic(auto)]
 
 mod declaration;
 mod imports;
 mod inner;
+mod nodes;
 mod occurrences;
 mod spec;
 #[cfg(test)]
@@ -18,6 +19,7 @@ mod words;
 pub use declaration::{Declaration, declarations_in, declarations_of};
 pub use imports::import_specs;
 pub use inner::inner_parts;
+pub use nodes::nodes_in;
 pub use occurrences::names_in_specs;
 pub use spec::{Spec, specs_in_file, specs_of};
 pub use words::{is_blank_identifier, is_exported, is_word, name_of};

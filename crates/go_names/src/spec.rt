@@ -1,8 +1,11 @@
-// The specs of a package (Go specification, "Declarations and scope", "Constant declarations").
+// The specs of a package (Go specification, "Declarations and scope", "Constant declarations", "Variable declarations",
+// "Type declarations").
 ghost use Rattle.std.specs.Prelude.{◌≡◌, ◌++◌, IfOk, OnOk, map};
-ghost use Rattle.go_tree.specs.Tree.{tree_of};
+ghost use Rattle.std.specs.List.{flat_map};
+ghost use Rattle.go_tree.specs.Tree.{parts_of, tree_of};
 ghost use Rattle.go_module.specs.Modules.Module.{file_view};
 ghost use Rattle.go_module.specs.Names.Declarations as rule;
+ghost use Rattle.go_module.specs.Names.Inner.{first_alone};
 ghost use Rattle.go_names.specs.Views.{spec_view, specs_by_file, specs_view};
 
 use go_base::NoMemory;
@@ -64,6 +67,10 @@ fn push_specs<'a>(
     match declaration.kind() {
         NodeKind::ConstDecl => push_const_specs(file, part_list(declaration), specs),
         NodeKind::ConstGroup => push_const_specs(file, part_list(declaration), specs),
+        NodeKind::VarDecl => push_var_specs(file, part_list(declaration), specs),
+        NodeKind::VarGroup => push_var_specs(file, part_list(declaration), specs),
+        NodeKind::TypeDecl => push_type_specs(file, part_list(declaration), specs),
+        NodeKind::TypeGroup => push_type_specs(file, part_list(declaration), specs),
         _ => Ok(()),
     }
 }
@@ -95,6 +102,124 @@ fn const_spec<'a>(file: usize, node: &'a Node) -> Spec<'a>
         types: types_behind(behind),
         values: values_behind(behind),
         told_at: told_for(node, written),
+    }
+}
+
+fn push_var_specs<'a>(
+    file: usize,
+    nodes: &'a [Node],
+    specs: &mut Vec<Spec<'a>>,
+) -> Result<(), NoMemory>
+    ensures { OnOk result (specs_view specs.new.items
+        ≡ specs_view specs.old.items ++ map (rule.var_spec file) (map tree_of nodes.now)) }
+{
+    for node in nodes {
+        specs.push(var_spec(file, node))?;
+    }
+    Ok(())
+}
+
+fn var_spec<'a>(file: usize, node: &'a Node) -> Spec<'a>
+    ensures { spec_view result ≡ rule.var_spec file (tree_of node.now) }
+{
+    let behind = all_but_first(node);
+    Spec {
+        file,
+        kind: ObjKind::Var,
+        node,
+        names: part_list(first_part(node)),
+        types: type_before(behind),
+        values: list_behind(behind),
+        told_at: None,
+    }
+}
+
+// The type behind the names of variables, where one stands.
+fn type_before(parts: &[Node]) -> &[Node]
+    ensures { map tree_of result.now ≡ rule.type_before (map tree_of parts.now) }
+{
+    match parts {
+        [part] => {
+            if part.is(NodeKind::ExprList) {
+                &[]
+            } else {
+                parts
+            }
+        }
+        [_, ..] => &parts[..1],
+        [] => &[],
+    }
+}
+
+// The expressions behind the names of variables, behind a type or alone.
+fn list_behind(parts: &[Node]) -> &[Node]
+    ensures { map tree_of result.now ≡ rule.list_behind (map tree_of parts.now) }
+{
+    match parts {
+        [part] => {
+            if part.is(NodeKind::ExprList) {
+                part_list(part)
+            } else {
+                &[]
+            }
+        }
+        [_, list] => part_list(list),
+        _ => &[],
+    }
+}
+
+fn push_type_specs<'a>(
+    file: usize,
+    nodes: &'a [Node],
+    specs: &mut Vec<Spec<'a>>,
+) -> Result<(), NoMemory>
+    ensures { OnOk result (specs_view specs.new.items
+        ≡ specs_view specs.old.items ++ flat_map (rule.type_spec file) (map tree_of nodes.now)) }
+{
+    for node in nodes {
+        push_type_spec(file, node, specs)?;
+    }
+    Ok(())
+}
+
+// Pushes the spec of a type, or of an alias; one with type parameters is not built yet.
+fn push_type_spec<'a>(
+    file: usize,
+    node: &'a Node,
+    specs: &mut Vec<Spec<'a>>,
+) -> Result<(), NoMemory>
+    ensures { OnOk result (specs_view specs.new.items
+        ≡ specs_view specs.old.items ++ rule.type_spec file (tree_of node.now)) }
+{
+    match node.kind() {
+        NodeKind::TypeSpec => specs.push(type_spec_as(ObjKind::Defined, file, node))?,
+        NodeKind::AliasSpec => specs.push(type_spec_as(ObjKind::Alias, file, node))?,
+        _ => {}
+    }
+    Ok(())
+}
+
+fn type_spec_as<'a>(kind: ObjKind, file: usize, node: &'a Node) -> Spec<'a>
+    ensures { spec_view result ≡ rule.type_spec_as kind file (tree_of node.now) (parts_of (tree_of node.now)) }
+{
+    Spec {
+        file,
+        kind,
+        node,
+        names: first_alone(part_list(node)),
+        types: all_but_first(node),
+        values: &[],
+        told_at: None,
+    }
+}
+
+// The first of these parts.
+fn first_alone(parts: &[Node]) -> &[Node]
+    ensures { map tree_of result.now ≡ first_alone (λ t. t) (map tree_of parts.now) }
+{
+    match parts {
+        [_, ..] => &parts[..1],
+        [] => &[],
     }
 }
 

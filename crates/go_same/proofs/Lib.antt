@@ -1,9 +1,11 @@
+pub mod AlikeLemmas
 pub mod AskLemmas
 pub mod CollectLemmas
 pub mod DepthLemmas
 pub mod EitherLemmas
 pub mod KeepLemmas
 pub mod KeptLemmas
+pub mod KeptPairLemmas
 pub mod LayerLemmas
 pub mod MethodLemmas
 pub mod MethodWalkLemmas

@@ -1,7 +1,6 @@
 -- One step of the question whether two types are identical, over a judge that has gone on.
 use Rattle.std.proofs.Common.{◌≡◌, ℕ, suc, Bool, true, false, if◌then◌else◌, Some, List, [], ◌∷◌, length, map, refl, sym, ap, subst, ◌∙◌, arith}
 use Rattle.std.specs.List.{AllByRecursion}
-use Rattle.go_term.specs.Shapes.{shape_tree}
 use Rattle.go_term.specs.Types.{TypeData}
 use Rattle.go_term.specs.declared.shape.Shape.{Shape}
 use Rattle.go_term.specs.declared.term.Term.{Term}
@@ -100,31 +99,27 @@ module _ (go : Bool → ℕ → TypeData → TypeData → Test) (left : ℕ) (sh
       → asked_then (run known (set_of left b)) (λ t. run known (identity.same_as_set go left short s t)) ≡ run known (identity.same_as go left short b (Some s))
   second_asked b s = sym (run-then known (set_of left b) (identity.same_as_set go left short s))
 
--- over a judge that has compared the layers, and then one that has found the first set
-module _ {own own1 own2 : Term → Type 0} {tree tree1 tree2 : Term → TypeData} (before : KeepsTypes own own1 tree tree1) (here : KeepsTypes own1 own2 tree1 tree2)
-    (known known1 known2 : Headers) (same1 : known1 ≡ known) (same2 : known2 ≡ known1) (b : Bounds) (x y : Shape) (x_own : AreOwn own x) (y_own : AreOwn own y) where
-  pub first_moved : (first : FoundSet) → alike (plain (shape_tree tree x)) (plain (shape_tree tree y)) ≡ false
-      → found_as tree2 first ≡ run known1 (set_of b.left (plain (shape_tree tree1 x)))
-      → asked_then (found_as tree2 first) (λ s. run known2 (identity.same_as (identity.same b.levels) b.left b.short (plain (shape_tree tree2 y)) s))
-      ≡ run known (bounded.same_interfaces b (pair_view tree (x, y)))
-  first_moved first other is =
-      let found : found_as tree2 first ≡ run known (set_of b.left (plain (shape_tree tree x))) = is ∙ (λ j. run (same1 j) (set_of b.left (plain (layer_kept before x x_own j)))) in
-      let second : shape_tree tree2 y ≡ shape_tree tree y = layer_kept here y (layer_stays before y y_own) ∙ layer_kept before y y_own in
-      let all : known2 ≡ known = same2 ∙ same1 in
-      (λ j. asked_then (found j) (λ s. run (all j) (identity.same_as (identity.same b.levels) b.left b.short (plain (second j)) s)))
-      ∙ layers_asked (identity.same b.levels) b.left b.short known (pair_view tree (x, y)) other
-
--- over a judge that has found the second set
+-- over a judge that has found a set
 module _ {own own1 : Term → Type 0} {tree tree1 : Term → TypeData} (here : KeepsTypes own own1 tree tree1) (known known1 : Headers) (same1 : known1 ≡ known) (b : Bounds) where
-  pub second_moved : (first second : FoundSet) (s : TypeSet) (y : Shape) → first ≡ F.Is s → IsOwnSet own s
-      → found_as tree1 second ≡ run known (set_of b.left (plain (shape_tree tree y)))
+  -- the first
+  pub first_moved : (first : FoundSet) (t u : Term) → own u → alike (plain (tree t)) (plain (tree u)) ≡ false
+      → found_as tree1 first ≡ run known (set_of b.left (plain (tree t)))
+      → asked_then (found_as tree1 first) (λ s. run known1 (identity.same_as (identity.same b.levels) b.left b.short (plain (tree1 u)) s))
+      ≡ run known (bounded.same_interfaces b (plain (tree t), plain (tree u)))
+  first_moved first t u u_own other told =
+      (λ j. asked_then (told j) (λ s. run (same1 j) (identity.same_as (identity.same b.levels) b.left b.short (plain (here.trees u u_own j)) s)))
+      ∙ layers_asked (identity.same b.levels) b.left b.short known (plain (tree t), plain (tree u)) other
+
+  -- the second
+  pub second_moved : (first second : FoundSet) (s : TypeSet) (u : Term) → first ≡ F.Is s → IsOwnSet own s
+      → found_as tree1 second ≡ run known (set_of b.left (plain (tree u)))
       → asked_then (found_as tree1 second) (λ t. run known1 (identity.same_as_set (identity.same b.levels) b.left b.short (set_view tree1 s) t))
-      ≡ asked_then (found_as tree first) (λ s. run known (identity.same_as (identity.same b.levels) b.left b.short (plain (shape_tree tree y)) s))
-  second_moved first second s y is owned told =
+      ≡ asked_then (found_as tree first) (λ s. run known (identity.same_as (identity.same b.levels) b.left b.short (plain (tree u)) s))
+  second_moved first second s u is owned told =
       let first_set : set_view tree1 s ≡ set_view tree s = set_kept here s owned in
       (λ j. asked_then (told j) (λ t. run (same1 j) (identity.same_as_set (identity.same b.levels) b.left b.short (first_set j) t)))
-      ∙ second_asked (identity.same b.levels) b.left b.short known (plain (shape_tree tree y)) (set_view tree s)
-      ∙ ap (λ (f : FoundSet). asked_then (found_as tree f) (λ s. run known (identity.same_as (identity.same b.levels) b.left b.short (plain (shape_tree tree y)) s))) (sym is)
+      ∙ second_asked (identity.same b.levels) b.left b.short known (plain (tree u)) (set_view tree s)
+      ∙ ap (λ (f : FoundSet). asked_then (found_as tree f) (λ s. run known (identity.same_as (identity.same b.levels) b.left b.short (plain (tree u)) s))) (sym is)
 
 -- TYPES
 

@@ -1,4 +1,5 @@
--- What the type sets of the program stand for, where types stand for these trees.
+-- What the type sets of the program stand for, where types stand for these trees; how many methods and terms they have,
+-- and whether their types are a judge's own.
 use Rattle.std.specs.Prelude.{ℕ, ◌+◌, Bool, true, false, Option, None, Some, List, Vec, length, map}
 use Rattle.std.specs.Global.{Global}
 use Rattle.std.specs.List.{AllByRecursion, sum_by}

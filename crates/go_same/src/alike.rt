@@ -15,7 +15,8 @@ use go_model::Forms;
 use go_term::{Shape, Ty};
 use std::alloc::Global;
 
-/// Whether two types are equal, but for the objects of fields and methods. An error is want of memory.
+/// Whether two types are equal, but for the objects of fields and methods. It takes steps of the budget. An error is
+/// want of memory, also past these.
 #[cycle(alike)]
 pub(crate) fn alike<J: Forms>(
     alloc: Global,

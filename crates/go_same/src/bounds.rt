@@ -1,12 +1,12 @@
 // How far the question whether two types are identical may go (Go specification, "Type identity").
-ghost use Rattle.std.specs.Prelude.{◌≡◌, ◌+◌, IfNone, IfSome, false, nat_le, not};
+ghost use Rattle.std.specs.Prelude.{◌≡◌, ◌+◌, IfNone, IfSome, true, false, nat_le, not};
 ghost use Rattle.go_model.specs.Types.Forms.{answer_as};
 ghost use Rattle.go_model.specs.Values.Quests.{Decided};
 
 use go_model::Answer;
 
-/// How many interfaces may still be met within one another, how many names may still be opened, and whether the answer
-/// is Yes where they run short.
+/// How many interfaces may still be met within one another, how many names may still be opened, and whether the question
+/// is a premise. Where these run short the answer is No, and in a premise Yes of types that fit.
 #[derive(Clone, Copy, Debug)]
 pub(crate) struct Bounds {
     pub levels: u32,
@@ -41,6 +41,13 @@ impl Bounds {
             short: !self.short,
             ..self
         }
+    }
+
+    /// Whether these are the other bounds.
+    pub fn is(self, other: Bounds) -> bool
+        ensures { result ≡ true → self ≡ other }
+    {
+        self.levels == other.levels && self.left == other.left && self.short == other.short
     }
 }
 

@@ -3,29 +3,30 @@
 ghost use Rattle.std.specs.Prelude.{◌≡◌, ◌∷◌, [], true, false, Option, None, Some, IfOk, IfSome, map};
 ghost use Rattle.std.specs.List.{AllByRecursion};
 ghost use Rattle.std.specs.Option.{option_map};
-ghost use Rattle.go_term.specs.Shapes.{elem_tree, shape_tree, union_tree};
+ghost use Rattle.go_term.specs.Shapes.{elem_tree, union_tree};
 ghost use Rattle.go_term.specs.Types.{parts_of};
 ghost use Rattle.go_model.specs.Types.Forms.{IsOwnForm, form_as};
-ghost use Rattle.go_model.specs.Types.Own.{AreOwn, IsOwnElem, Keeps};
+ghost use Rattle.go_model.specs.Types.Own.{IsOwnElem, Keeps};
 ghost use Rattle.go_model.specs.Types.TypeSets as sets;
 ghost use Rattle.go_model.specs.Values.Quests.{run};
 ghost use Rattle.go_same.specs.Collect as spec;
 ghost use Rattle.go_same.specs.Sets.{IsOwnFound, found_as};
 
 use crate::budget::Budget;
-use crate::either::{joined_after, type_of_shape};
+use crate::either::joined_after;
 use crate::join::{join_both, raised_found};
 use crate::kind::{TypeKind, is_interface, is_param, kind_of};
 use crate::set::{FoundSet, is_set};
 use crate::terms::{error_types, every_comparable, every_type, one_method, one_term};
 use go_base::NoMemory;
 use go_model::{Form, Forms};
-use go_term::{ElemShape, Shape, Ty, UnionShape};
+use go_term::{ElemShape, Ty, UnionShape};
 use std::alloc::Global;
 
 /// What an interface has, where at most so many names are opened on the way to each method and term: Absent where that
-/// is too few, or where a name has no underlying type; Unknown with the first header that is lacking. An error is want
-/// of memory, or that a term of a union would have to be copied whose type is too deep or too large to be made.
+/// is too few, or where a name has no underlying type; Unknown with the first header that is lacking. It takes steps of
+/// the budget. An error is want of memory, also past these, or that a term of a union would have to be copied whose type
+/// is too deep or too large to be made.
 #[cycle(collect)]
 pub(crate) fn set_of<J: Forms>(
     alloc: Global,
@@ -75,27 +76,6 @@ fn set_of_kind<J: Forms>(
         TypeKind::Name => named_set(alloc, judge, budget, left, t),
         TypeKind::Other => Ok(FoundSet::Is(one_term(alloc, false, t)?)),
     }
-}
-
-/// What the interface with this layer has.
-pub(crate) fn set_of_layer<J: Forms>(
-    alloc: Global,
-    judge: &mut J,
-    budget: &mut Budget,
-    left: u32,
-    shape: Shape,
-) -> Result<FoundSet, NoMemory>
-    requires { AreOwn (J.is_type judge.old) shape }
-    ensures answer { IfOk result (λ found. found_as (J.tree judge.new) found
-        ≡ run (J.headers judge.old) (sets.set_of left (sets.plain (shape_tree (J.tree judge.old) shape)))) }
-    ensures own { IfOk result (IsOwnFound (J.is_type judge.new)) }
-    ensures keeps { Keeps (J.headers judge.old) (J.headers judge.new) (J.names judge.old) (J.names judge.new)
-        (J.outcomes judge.old) (J.outcomes judge.new) (J.is_spent judge.old) (J.is_spent judge.new)
-        (J.world judge.old) (J.world judge.new) (J.is_type judge.old) (J.is_type judge.new)
-        (J.tree judge.old) (J.tree judge.new) }
-{
-    let t = type_of_shape(alloc, judge, shape)?;
-    set_of(alloc, judge, budget, left, t)
 }
 
 // The elements of an interface, all together.

@@ -1,28 +1,27 @@
-// Whether two types are identical: interfaces by their methods (Go specification, "Type identity").
-ghost use Rattle.std.specs.Prelude.{◌≡◌, false, true, IfOk, map};
+// Whether two types are identical: interfaces by their sets, and these by their methods (Go specification, "Type identity").
+ghost use Rattle.std.specs.Prelude.{◌≡◌, false, IfOk, OnOk, map};
 ghost use Rattle.std.specs.List.{AllByRecursion};
-ghost use Rattle.go_term.specs.Shapes.{shape_tree};
 ghost use Rattle.go_model.specs.Types.Forms.{answer_as};
-ghost use Rattle.go_model.specs.Types.Own.{AreOwn, AreOwnFunc, Keeps};
+ghost use Rattle.go_model.specs.Types.Own.{AreOwnFunc, Keeps};
 ghost use Rattle.go_model.specs.Types.TypeIdentity as identity;
 ghost use Rattle.go_model.specs.Types.TypeIdentity.{and_ask, ask_each};
 ghost use Rattle.go_model.specs.Types.TypeSets.{MethodData, plain};
 ghost use Rattle.go_model.specs.Values.Quests.{Decided, Done, run};
 ghost use Rattle.go_same.specs.Bounded as bounded;
-ghost use Rattle.go_same.specs.Collect.{asked_then};
+ghost use Rattle.go_same.specs.Kept.{AreKept};
 ghost use Rattle.go_same.specs.Layers.{IsOwnPair, pair_view};
 ghost use Rattle.go_same.specs.MethodOrder.{AreByName, AreInRange, named_pairs, views_at};
-ghost use Rattle.go_same.specs.Sets.{IsOwnFound, IsOwnSet, found_as, func_type, method_view, set_view};
+ghost use Rattle.go_same.specs.Sets.{IsOwnSet, func_type, method_view, set_view};
 
-use crate::alike::alike_layers;
-use crate::bounds::{Bounds, answer};
+use crate::bounds::Bounds;
 use crate::budget::Budget;
-use crate::collect::set_of_layer;
+use crate::interfaces::same_interfaces;
 use crate::methods::{pairs_of, sets_fit, sort_methods};
 use crate::outline::{outline, outline_funcs};
-use crate::set::{FoundSet, Method, TypeSet};
+use crate::set::{Method, TypeSet};
 use crate::short::funcs_by_form;
 use crate::within::same_terms;
+use crate::work::Work;
 use go_base::NoMemory;
 use go_model::{Answer, Forms};
 use go_term::{FuncShape, Shape, Ty};
@@ -35,9 +34,9 @@ const MOST_LEVELS: u32 = 33 * 257;
 const MOST_OPENED: u32 = 32;
 
 /// Whether two types are identical (Go specification, "Type identity"), Unknown with the first header that the answer
-/// lacks. No where more than 32 names that interfaces embed would have to be opened on one path. An error is want of
-/// memory, that a type would have to be made once more that is too deep or too large, or that the question would take
-/// more than 4,194,304 steps. What the judge has stays.
+/// lacks. No where more than 32 names would have to be opened on one path: those that interfaces embed, and the
+/// underlying types of terms of unions, each of which counts as one. An error is want of memory, also past 4,194,304
+/// steps, or that a type would have to be made once more that is too deep or too large. What the judge has stays.
 pub fn same<J: Forms>(alloc: Global, judge: &mut J, a: &Ty, b: &Ty) -> Result<Answer, NoMemory>
     requires a_own { J.is_type judge.old a.now }
     requires b_own { J.is_type judge.old b.now }
@@ -49,9 +48,9 @@ pub fn same<J: Forms>(alloc: Global, judge: &mut J, a: &Ty, b: &Ty) -> Result<An
         (J.world judge.old) (J.world judge.new) (J.is_type judge.old) (J.is_type judge.new)
         (J.tree judge.old) (J.tree judge.new) }
 {
-    let mut budget = Budget::new();
+    let mut work = Work::new(alloc);
     let mut pairs = Vec::new(alloc);
-    if !outline(alloc, judge, &mut budget, a, b, &mut pairs)? {
+    if !outline(alloc, judge, &mut work.budget, a, b, &mut pairs)? {
         return Ok(Answer::No);
     }
     let bounds = Bounds {
@@ -59,7 +58,7 @@ pub fn same<J: Forms>(alloc: Global, judge: &mut J, a: &Ty, b: &Ty) -> Result<An
         left: MOST_OPENED,
         short: false,
     };
-    same_pairs(alloc, judge, &mut budget, bounds, pairs)
+    same_pairs(alloc, judge, &mut work, bounds, pairs)
 }
 
 /// Whether interfaces are identical two by two, by their layers.
@@ -67,20 +66,22 @@ pub fn same<J: Forms>(alloc: Global, judge: &mut J, a: &Ty, b: &Ty) -> Result<An
 pub(crate) fn same_pairs<J: Forms>(
     alloc: Global,
     judge: &mut J,
-    budget: &mut Budget,
+    work: &mut Work,
     bounds: Bounds,
     pairs: Vec<(Shape, Shape)>,
 ) -> Result<Answer, NoMemory>
-    requires { AllByRecursion (IsOwnPair (J.is_type judge.old)) pairs.items }
+    requires own { AllByRecursion (IsOwnPair (J.is_type judge.old)) pairs.items }
+    requires kept { AreKept (J.headers judge.old) (J.is_type judge.old) (J.tree judge.old) work.old.kept }
     ensures answer { IfOk result (λ answer. answer_as answer
         ≡ run (J.headers judge.old) (ask_each (bounded.same_interfaces bounds) (map (pair_view (J.tree judge.old)) pairs.items))) }
     ensures keeps { Keeps (J.headers judge.old) (J.headers judge.new) (J.names judge.old) (J.names judge.new)
         (J.outcomes judge.old) (J.outcomes judge.new) (J.is_spent judge.old) (J.is_spent judge.new)
         (J.world judge.old) (J.world judge.new) (J.is_type judge.old) (J.is_type judge.new)
         (J.tree judge.old) (J.tree judge.new) }
+    ensures kept { OnOk result (AreKept (J.headers judge.new) (J.is_type judge.new) (J.tree judge.new) work.new.kept) }
 {
     for (x, y) in pairs {
-        match same_interfaces(alloc, judge, budget, bounds, x, y)? {
+        match same_interfaces(alloc, judge, work, bounds, x, y)? {
             Answer::Yes => {}
             other => return Ok(other),
         }
@@ -88,108 +89,26 @@ pub(crate) fn same_pairs<J: Forms>(
     Ok(Answer::Yes)
 }
 
-// Whether two interfaces are identical, by their layers.
+/// Whether two sets are the same.
 #[cycle(same)]
-fn same_interfaces<J: Forms>(
+pub(crate) fn same_sets<J: Forms>(
     alloc: Global,
     judge: &mut J,
-    budget: &mut Budget,
-    bounds: Bounds,
-    x: Shape,
-    y: Shape,
-) -> Result<Answer, NoMemory>
-    requires x_own { AreOwn (J.is_type judge.old) x }
-    requires y_own { AreOwn (J.is_type judge.old) y }
-    ensures answer { IfOk result (λ answer. answer_as answer
-        ≡ run (J.headers judge.old) (bounded.same_interfaces bounds (pair_view (J.tree judge.old) (x, y)))) }
-    ensures keeps { Keeps (J.headers judge.old) (J.headers judge.new) (J.names judge.old) (J.names judge.new)
-        (J.outcomes judge.old) (J.outcomes judge.new) (J.is_spent judge.old) (J.is_spent judge.new)
-        (J.world judge.old) (J.world judge.new) (J.is_type judge.old) (J.is_type judge.new)
-        (J.tree judge.old) (J.tree judge.new) }
-{
-    if alike_layers(alloc, judge, budget, &x, &y)? {
-        return Ok(Answer::Yes);
-    }
-    budget.spend(1)?;
-    let first = set_of_layer(alloc, judge, budget, bounds.left, x)?;
-    same_as(alloc, judge, budget, bounds, first, y)
-}
-
-// By what the first of two interfaces has.
-#[cycle(same)]
-fn same_as<J: Forms>(
-    alloc: Global,
-    judge: &mut J,
-    budget: &mut Budget,
-    bounds: Bounds,
-    first: FoundSet,
-    y: Shape,
-) -> Result<Answer, NoMemory>
-    requires first_own { IsOwnFound (J.is_type judge.old) first }
-    requires y_own { AreOwn (J.is_type judge.old) y }
-    ensures answer { IfOk result (λ answer. answer_as answer
-        ≡ asked_then (found_as (J.tree judge.old) first) (λ s. run (J.headers judge.old)
-        (identity.same_as (identity.same bounds.levels) bounds.left bounds.short (plain (shape_tree (J.tree judge.old) y)) s))) }
-    ensures keeps { Keeps (J.headers judge.old) (J.headers judge.new) (J.names judge.old) (J.names judge.new)
-        (J.outcomes judge.old) (J.outcomes judge.new) (J.is_spent judge.old) (J.is_spent judge.new)
-        (J.world judge.old) (J.world judge.new) (J.is_type judge.old) (J.is_type judge.new)
-        (J.tree judge.old) (J.tree judge.new) }
-{
-    match first {
-        FoundSet::Is(s) => {
-            let second = set_of_layer(alloc, judge, budget, bounds.left, y)?;
-            same_as_set(alloc, judge, budget, bounds, s, second)
-        }
-        FoundSet::Absent => Ok(answer(bounds.short)),
-        FoundSet::Unknown(d) => Ok(Answer::Unknown(d)),
-    }
-}
-
-// By what the second has too.
-#[cycle(same)]
-fn same_as_set<J: Forms>(
-    alloc: Global,
-    judge: &mut J,
-    budget: &mut Budget,
-    bounds: Bounds,
-    s: TypeSet,
-    second: FoundSet,
-) -> Result<Answer, NoMemory>
-    requires first_own { IsOwnSet (J.is_type judge.old) s }
-    requires second_own { IsOwnFound (J.is_type judge.old) second }
-    ensures answer { IfOk result (λ answer. answer_as answer
-        ≡ asked_then (found_as (J.tree judge.old) second) (λ t. run (J.headers judge.old)
-        (identity.same_as_set (identity.same bounds.levels) bounds.left bounds.short (set_view (J.tree judge.old) s) t))) }
-    ensures keeps { Keeps (J.headers judge.old) (J.headers judge.new) (J.names judge.old) (J.names judge.new)
-        (J.outcomes judge.old) (J.outcomes judge.new) (J.is_spent judge.old) (J.is_spent judge.new)
-        (J.world judge.old) (J.world judge.new) (J.is_type judge.old) (J.is_type judge.new)
-        (J.tree judge.old) (J.tree judge.new) }
-{
-    match second {
-        FoundSet::Is(t) => same_sets(alloc, judge, budget, bounds, s, t),
-        FoundSet::Absent => Ok(answer(bounds.short)),
-        FoundSet::Unknown(d) => Ok(Answer::Unknown(d)),
-    }
-}
-
-// Whether two sets are the same.
-#[cycle(same)]
-fn same_sets<J: Forms>(
-    alloc: Global,
-    judge: &mut J,
-    budget: &mut Budget,
+    work: &mut Work,
     bounds: Bounds,
     s: TypeSet,
     t: TypeSet,
 ) -> Result<Answer, NoMemory>
     requires s_own { IsOwnSet (J.is_type judge.old) s }
     requires t_own { IsOwnSet (J.is_type judge.old) t }
+    requires kept { AreKept (J.headers judge.old) (J.is_type judge.old) (J.tree judge.old) work.old.kept }
     ensures answer { IfOk result (λ answer. answer_as answer
         ≡ run (J.headers judge.old) (bounded.same_sets bounds (set_view (J.tree judge.old) s) (set_view (J.tree judge.old) t))) }
     ensures keeps { Keeps (J.headers judge.old) (J.headers judge.new) (J.names judge.old) (J.names judge.new)
         (J.outcomes judge.old) (J.outcomes judge.new) (J.is_spent judge.old) (J.is_spent judge.new)
         (J.world judge.old) (J.world judge.new) (J.is_type judge.old) (J.is_type judge.new)
         (J.tree judge.old) (J.tree judge.new) }
+    ensures kept { OnOk result (AreKept (J.headers judge.new) (J.is_type judge.new) (J.tree judge.new) work.new.kept) }
 {
     let mut s = s;
     let mut t = t;
@@ -198,7 +117,7 @@ fn same_sets<J: Forms>(
     if !sets_fit(&s, &t) {
         return Ok(Answer::No);
     }
-    same_fitting(alloc, judge, budget, bounds, &s, &t)
+    same_fitting(alloc, judge, work, bounds, &s, &t)
 }
 
 // The same of sets that fit, with their methods by name.
@@ -206,7 +125,7 @@ fn same_sets<J: Forms>(
 fn same_fitting<J: Forms>(
     alloc: Global,
     judge: &mut J,
-    budget: &mut Budget,
+    work: &mut Work,
     bounds: Bounds,
     s: &TypeSet,
     t: &TypeSet,
@@ -215,6 +134,7 @@ fn same_fitting<J: Forms>(
     requires t_own { IsOwnSet (J.is_type judge.old) t.now }
     requires s_sorted { AreByName s.now.methods.items }
     requires t_sorted { AreByName t.now.methods.items }
+    requires kept { AreKept (J.headers judge.old) (J.is_type judge.old) (J.tree judge.old) work.old.kept }
     ensures answer { IfOk result (λ answer. answer_as answer
         ≡ run (J.headers judge.old) (and_ask (bounded.same_methods_all bounds
         (named_pairs (map (method_view (J.tree judge.old)) s.now.methods.items) (map (method_view (J.tree judge.old)) t.now.methods.items)))
@@ -223,10 +143,11 @@ fn same_fitting<J: Forms>(
         (J.outcomes judge.old) (J.outcomes judge.new) (J.is_spent judge.old) (J.is_spent judge.new)
         (J.world judge.old) (J.world judge.new) (J.is_type judge.old) (J.is_type judge.new)
         (J.tree judge.old) (J.tree judge.new) }
+    ensures kept { OnOk result (AreKept (J.headers judge.new) (J.is_type judge.new) (J.tree judge.new) work.new.kept) }
 {
-    let pairs = pairs_of(alloc, budget, &s.methods, &t.methods)?;
-    match same_methods_all(alloc, judge, budget, bounds, &s.methods, &t.methods, &pairs)? {
-        Answer::Yes => same_terms(alloc, judge, budget, bounds, s, t),
+    let pairs = pairs_of(alloc, &mut work.budget, &s.methods, &t.methods)?;
+    match same_methods_all(alloc, judge, work, bounds, &s.methods, &t.methods, &pairs)? {
+        Answer::Yes => same_terms(alloc, judge, work, bounds, s, t),
         other => Ok(other),
     }
 }
@@ -236,7 +157,7 @@ fn same_fitting<J: Forms>(
 fn same_methods_all<J: Forms>(
     alloc: Global,
     judge: &mut J,
-    budget: &mut Budget,
+    work: &mut Work,
     bounds: Bounds,
     ms: &[Method],
     ns: &[Method],
@@ -245,17 +166,19 @@ fn same_methods_all<J: Forms>(
     requires m_own { AllByRecursion (λ m. AreOwnFunc (J.is_type judge.old) m.signature) ms.now }
     requires n_own { AllByRecursion (λ m. AreOwnFunc (J.is_type judge.old) m.signature) ns.now }
     requires in_range { AreInRange ms.now ns.now pairs.now }
+    requires kept { AreKept (J.headers judge.old) (J.is_type judge.old) (J.tree judge.old) work.old.kept }
     ensures answer { IfOk result (λ answer. (other : MethodData) → answer_as answer
         ≡ run (J.headers judge.old) (bounded.same_methods_all bounds (map (views_at (map (method_view (J.tree judge.old)) ms.now) (map (method_view (J.tree judge.old)) ns.now) other) pairs.now))) }
     ensures keeps { Keeps (J.headers judge.old) (J.headers judge.new) (J.names judge.old) (J.names judge.new)
         (J.outcomes judge.old) (J.outcomes judge.new) (J.is_spent judge.old) (J.is_spent judge.new)
         (J.world judge.old) (J.world judge.new) (J.is_type judge.old) (J.is_type judge.new)
         (J.tree judge.old) (J.tree judge.new) }
+    ensures kept { OnOk result (AreKept (J.headers judge.new) (J.is_type judge.new) (J.tree judge.new) work.new.kept) }
 {
-    if !methods_fit(alloc, judge, budget, ms, ns, pairs)? {
+    if !methods_fit(alloc, judge, &mut work.budget, ms, ns, pairs)? {
         return Ok(Answer::No);
     }
-    same_methods(alloc, judge, budget, bounds, ms, ns, pairs)
+    same_methods(alloc, judge, work, bounds, ms, ns, pairs)
 }
 
 // Whether the types of the methods at the places of each pair fit.
@@ -299,7 +222,7 @@ fn methods_fit<J: Forms>(
 fn same_methods<J: Forms>(
     alloc: Global,
     judge: &mut J,
-    budget: &mut Budget,
+    work: &mut Work,
     bounds: Bounds,
     ms: &[Method],
     ns: &[Method],
@@ -308,15 +231,17 @@ fn same_methods<J: Forms>(
     requires m_own { AllByRecursion (λ m. AreOwnFunc (J.is_type judge.old) m.signature) ms.now }
     requires n_own { AllByRecursion (λ m. AreOwnFunc (J.is_type judge.old) m.signature) ns.now }
     requires in_range { AreInRange ms.now ns.now pairs.now }
+    requires kept { AreKept (J.headers judge.old) (J.is_type judge.old) (J.tree judge.old) work.old.kept }
     ensures answer { IfOk result (λ answer. (other : MethodData) → answer_as answer
         ≡ run (J.headers judge.old) (ask_each (bounded.same_methods bounds) (map (views_at (map (method_view (J.tree judge.old)) ms.now) (map (method_view (J.tree judge.old)) ns.now) other) pairs.now))) }
     ensures keeps { Keeps (J.headers judge.old) (J.headers judge.new) (J.names judge.old) (J.names judge.new)
         (J.outcomes judge.old) (J.outcomes judge.new) (J.is_spent judge.old) (J.is_spent judge.new)
         (J.world judge.old) (J.world judge.new) (J.is_type judge.old) (J.is_type judge.new)
         (J.tree judge.old) (J.tree judge.new) }
+    ensures kept { OnOk result (AreKept (J.headers judge.new) (J.is_type judge.new) (J.tree judge.new) work.new.kept) }
 {
     for (i, k) in pairs {
-        match same_method(alloc, judge, budget, bounds, &ms[*i], &ns[*k])? {
+        match same_method(alloc, judge, work, bounds, &ms[*i], &ns[*k])? {
             Answer::Yes => {}
             other => return Ok(other),
         }
@@ -329,23 +254,32 @@ fn same_methods<J: Forms>(
 fn same_method<J: Forms>(
     alloc: Global,
     judge: &mut J,
-    budget: &mut Budget,
+    work: &mut Work,
     bounds: Bounds,
     m: &Method,
     n: &Method,
 ) -> Result<Answer, NoMemory>
     requires m_own { AreOwnFunc (J.is_type judge.old) m.now.signature }
     requires n_own { AreOwnFunc (J.is_type judge.old) n.now.signature }
+    requires kept { AreKept (J.headers judge.old) (J.is_type judge.old) (J.tree judge.old) work.old.kept }
     ensures answer { IfOk result (λ answer. answer_as answer
         ≡ run (J.headers judge.old) (bounded.same_methods bounds (method_view (J.tree judge.old) m.now, method_view (J.tree judge.old) n.now))) }
     ensures keeps { Keeps (J.headers judge.old) (J.headers judge.new) (J.names judge.old) (J.names judge.new)
         (J.outcomes judge.old) (J.outcomes judge.new) (J.is_spent judge.old) (J.is_spent judge.new)
         (J.world judge.old) (J.world judge.new) (J.is_type judge.old) (J.is_type judge.new)
         (J.tree judge.old) (J.tree judge.new) }
+    ensures kept { OnOk result (AreKept (J.headers judge.new) (J.is_type judge.new) (J.tree judge.new) work.new.kept) }
 {
     match bounds.behind(m.opened as u64 + n.opened as u64) {
-        Some(inner) => same_funcs(alloc, judge, budget, inner, &m.signature, &n.signature),
-        None => funcs_by_form(alloc, judge, budget, bounds, &m.signature, &n.signature),
+        Some(inner) => same_funcs(alloc, judge, work, inner, &m.signature, &n.signature),
+        None => funcs_by_form(
+            alloc,
+            judge,
+            &mut work.budget,
+            bounds,
+            &m.signature,
+            &n.signature,
+        ),
     }
 }
 
@@ -354,30 +288,32 @@ fn same_method<J: Forms>(
 fn same_funcs<J: Forms>(
     alloc: Global,
     judge: &mut J,
-    budget: &mut Budget,
+    work: &mut Work,
     bounds: Bounds,
     f: &FuncShape,
     g: &FuncShape,
 ) -> Result<Answer, NoMemory>
     requires f_own { AreOwnFunc (J.is_type judge.old) f.now }
     requires g_own { AreOwnFunc (J.is_type judge.old) g.now }
+    requires kept { AreKept (J.headers judge.old) (J.is_type judge.old) (J.tree judge.old) work.old.kept }
     ensures answer { IfOk result (λ answer. answer_as answer
         ≡ run (J.headers judge.old) (bounded.same bounds (plain (func_type (J.tree judge.old) f.now)) (plain (func_type (J.tree judge.old) g.now)))) }
     ensures keeps { Keeps (J.headers judge.old) (J.headers judge.new) (J.names judge.old) (J.names judge.new)
         (J.outcomes judge.old) (J.outcomes judge.new) (J.is_spent judge.old) (J.is_spent judge.new)
         (J.world judge.old) (J.world judge.new) (J.is_type judge.old) (J.is_type judge.new)
         (J.tree judge.old) (J.tree judge.new) }
+    ensures kept { OnOk result (AreKept (J.headers judge.new) (J.is_type judge.new) (J.tree judge.new) work.new.kept) }
 {
     if bounds.levels == 0 {
-        return funcs_by_form(alloc, judge, budget, bounds, f, g);
+        return funcs_by_form(alloc, judge, &mut work.budget, bounds, f, g);
     }
     let mut pairs = Vec::new(alloc);
-    if !outline_funcs(alloc, judge, budget, f, g, &mut pairs)? {
+    if !outline_funcs(alloc, judge, &mut work.budget, f, g, &mut pairs)? {
         return Ok(Answer::No);
     }
     let inner = Bounds {
         levels: bounds.levels - 1,
         ..bounds
     };
-    same_pairs(alloc, judge, budget, inner, pairs)
+    same_pairs(alloc, judge, work, inner, pairs)
 }

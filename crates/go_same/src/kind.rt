@@ -1,4 +1,5 @@
-// What stands at a type, as far as its type set goes by it (Go specification, "Interface types").
+// What stands at a type, as far as its type set goes by it, and whether it is a name or a type parameter (Go
+// specification, "Interface types", "Type identity").
 ghost use Rattle.std.specs.Prelude.{◌≡◌};
 ghost use Rattle.go_same.specs.Collect as spec;
 

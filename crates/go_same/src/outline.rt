@@ -18,7 +18,8 @@ use go_term::{FuncShape, Shape, Ty};
 use std::alloc::Global;
 
 /// Whether two types fit: they have the same form throughout, whatever interfaces in them have. Where they do, the
-/// layers of the interfaces that stand at the same places are pushed in order. An error is want of memory.
+/// layers of the interfaces that stand at the same places are pushed in order. It takes steps of the budget. An error is
+/// want of memory, also past these.
 #[cycle(outline)]
 pub(crate) fn outline<J: Forms>(
     alloc: Global,
@@ -145,7 +146,7 @@ fn outline_all<J: Forms>(
 }
 
 /// Whether two signatures fit, as the types of functions do. Where they do, the layers of the interfaces that stand at
-/// the same places are pushed in order. An error is want of memory.
+/// the same places are pushed in order. It takes steps of the budget. An error is want of memory, also past these.
 pub(crate) fn outline_funcs<J: Forms>(
     alloc: Global,
     judge: &mut J,

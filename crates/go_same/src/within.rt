@@ -1,5 +1,5 @@
 // Whether the terms of two type sets are the same (Go specification, "General interfaces", "Type identity").
-ghost use Rattle.std.specs.Prelude.{◌≡◌, IfOk, map};
+ghost use Rattle.std.specs.Prelude.{◌≡◌, IfOk, OnOk, map};
 ghost use Rattle.std.specs.List.{AllByRecursion};
 ghost use Rattle.go_model.specs.Types.Forms.{answer_as};
 ghost use Rattle.go_model.specs.Types.Own.{Keeps};
@@ -7,15 +7,16 @@ ghost use Rattle.go_model.specs.Types.TypeIdentity.{ask_any, ask_each};
 ghost use Rattle.go_model.specs.Types.TypeSets.{plain};
 ghost use Rattle.go_model.specs.Values.Quests.{run};
 ghost use Rattle.go_same.specs.Bounded as bounded;
+ghost use Rattle.go_same.specs.Kept.{AreKept};
 ghost use Rattle.go_same.specs.Sets.{IsOwnSet, part_view, set_view};
 
 use crate::bounds::{Bounds, answer};
-use crate::budget::Budget;
 use crate::identity::same_pairs;
 use crate::one_type::same_term;
 use crate::outline::outline;
 use crate::set::{TypeSet, UnionPart};
 use crate::short::types_by_form;
+use crate::work::Work;
 use go_base::NoMemory;
 use go_model::{Answer, Form, Forms};
 use go_term::Ty;
@@ -26,22 +27,24 @@ use std::alloc::Global;
 pub(crate) fn same_terms<J: Forms>(
     alloc: Global,
     judge: &mut J,
-    budget: &mut Budget,
+    work: &mut Work,
     bounds: Bounds,
     s: &TypeSet,
     t: &TypeSet,
 ) -> Result<Answer, NoMemory>
     requires s_own { IsOwnSet (J.is_type judge.old) s.now }
     requires t_own { IsOwnSet (J.is_type judge.old) t.now }
+    requires kept { AreKept (J.headers judge.old) (J.is_type judge.old) (J.tree judge.old) work.old.kept }
     ensures answer { IfOk result (λ answer. answer_as answer
         ≡ run (J.headers judge.old) (bounded.same_terms bounds (set_view (J.tree judge.old) s.now) (set_view (J.tree judge.old) t.now))) }
     ensures keeps { Keeps (J.headers judge.old) (J.headers judge.new) (J.names judge.old) (J.names judge.new)
         (J.outcomes judge.old) (J.outcomes judge.new) (J.is_spent judge.old) (J.is_spent judge.new)
         (J.world judge.old) (J.world judge.new) (J.is_type judge.old) (J.is_type judge.new)
         (J.tree judge.old) (J.tree judge.new) }
+    ensures kept { OnOk result (AreKept (J.headers judge.new) (J.is_type judge.new) (J.tree judge.new) work.new.kept) }
 {
-    match terms_lie(alloc, judge, budget, bounds, s, t)? {
-        Answer::Yes => terms_lie(alloc, judge, budget, bounds, t, s),
+    match terms_lie(alloc, judge, work, bounds, s, t)? {
+        Answer::Yes => terms_lie(alloc, judge, work, bounds, t, s),
         other => Ok(other),
     }
 }
@@ -51,22 +54,24 @@ pub(crate) fn same_terms<J: Forms>(
 fn terms_lie<J: Forms>(
     alloc: Global,
     judge: &mut J,
-    budget: &mut Budget,
+    work: &mut Work,
     bounds: Bounds,
     s: &TypeSet,
     t: &TypeSet,
 ) -> Result<Answer, NoMemory>
     requires s_own { IsOwnSet (J.is_type judge.old) s.now }
     requires t_own { IsOwnSet (J.is_type judge.old) t.now }
+    requires kept { AreKept (J.headers judge.old) (J.is_type judge.old) (J.tree judge.old) work.old.kept }
     ensures answer { IfOk result (λ answer. answer_as answer
         ≡ run (J.headers judge.old) (bounded.terms_lie bounds (set_view (J.tree judge.old) s.now) (set_view (J.tree judge.old) t.now))) }
     ensures keeps { Keeps (J.headers judge.old) (J.headers judge.new) (J.names judge.old) (J.names judge.new)
         (J.outcomes judge.old) (J.outcomes judge.new) (J.is_spent judge.old) (J.is_spent judge.new)
         (J.world judge.old) (J.world judge.new) (J.is_type judge.old) (J.is_type judge.new)
         (J.tree judge.old) (J.tree judge.new) }
+    ensures kept { OnOk result (AreKept (J.headers judge.new) (J.is_type judge.new) (J.tree judge.new) work.new.kept) }
 {
     for u in &s.unions {
-        match union_lies(alloc, judge, budget, bounds, u, s, t)? {
+        match union_lies(alloc, judge, work, bounds, u, s, t)? {
             Answer::Yes => {}
             other => return Ok(other),
         }
@@ -79,7 +84,7 @@ fn terms_lie<J: Forms>(
 fn union_lies<J: Forms>(
     alloc: Global,
     judge: &mut J,
-    budget: &mut Budget,
+    work: &mut Work,
     bounds: Bounds,
     u: &[UnionPart],
     s: &TypeSet,
@@ -88,15 +93,17 @@ fn union_lies<J: Forms>(
     requires u_own { AllByRecursion (λ p. J.is_type judge.old p.ty) u.now }
     requires s_own { IsOwnSet (J.is_type judge.old) s.now }
     requires t_own { IsOwnSet (J.is_type judge.old) t.now }
+    requires kept { AreKept (J.headers judge.old) (J.is_type judge.old) (J.tree judge.old) work.old.kept }
     ensures answer { IfOk result (λ answer. answer_as answer
         ≡ run (J.headers judge.old) (ask_each (bounded.term_lies bounds (set_view (J.tree judge.old) s.now) (set_view (J.tree judge.old) t.now)) (map (part_view (J.tree judge.old)) u.now))) }
     ensures keeps { Keeps (J.headers judge.old) (J.headers judge.new) (J.names judge.old) (J.names judge.new)
         (J.outcomes judge.old) (J.outcomes judge.new) (J.is_spent judge.old) (J.is_spent judge.new)
         (J.world judge.old) (J.world judge.new) (J.is_type judge.old) (J.is_type judge.new)
         (J.tree judge.old) (J.tree judge.new) }
+    ensures kept { OnOk result (AreKept (J.headers judge.new) (J.is_type judge.new) (J.tree judge.new) work.new.kept) }
 {
     for a in u {
-        match term_lies(alloc, judge, budget, bounds, a, s, t)? {
+        match term_lies(alloc, judge, work, bounds, a, s, t)? {
             Answer::Yes => {}
             other => return Ok(other),
         }
@@ -109,7 +116,7 @@ fn union_lies<J: Forms>(
 fn term_lies<J: Forms>(
     alloc: Global,
     judge: &mut J,
-    budget: &mut Budget,
+    work: &mut Work,
     bounds: Bounds,
     a: &UnionPart,
     s: &TypeSet,
@@ -118,15 +125,17 @@ fn term_lies<J: Forms>(
     requires a_own { J.is_type judge.old a.now.ty }
     requires s_own { IsOwnSet (J.is_type judge.old) s.now }
     requires t_own { IsOwnSet (J.is_type judge.old) t.now }
+    requires kept { AreKept (J.headers judge.old) (J.is_type judge.old) (J.tree judge.old) work.old.kept }
     ensures answer { IfOk result (λ answer. answer_as answer
         ≡ run (J.headers judge.old) (bounded.term_lies bounds (set_view (J.tree judge.old) s.now) (set_view (J.tree judge.old) t.now) (part_view (J.tree judge.old) a.now))) }
     ensures keeps { Keeps (J.headers judge.old) (J.headers judge.new) (J.names judge.old) (J.names judge.new)
         (J.outcomes judge.old) (J.outcomes judge.new) (J.is_spent judge.old) (J.is_spent judge.new)
         (J.world judge.old) (J.world judge.new) (J.is_type judge.old) (J.is_type judge.new)
         (J.tree judge.old) (J.tree judge.new) }
+    ensures kept { OnOk result (AreKept (J.headers judge.new) (J.is_type judge.new) (J.tree judge.new) work.new.kept) }
 {
-    match lies_in(alloc, judge, budget, bounds.of_premise(), &s.unions, a)? {
-        Answer::Yes => lies_in(alloc, judge, budget, bounds, &t.unions, a),
+    match lies_in(alloc, judge, work, bounds.of_premise(), &s.unions, a)? {
+        Answer::Yes => lies_in(alloc, judge, work, bounds, &t.unions, a),
         Answer::No => Ok(Answer::Yes),
         other => Ok(other),
     }
@@ -137,22 +146,24 @@ fn term_lies<J: Forms>(
 fn lies_in<J: Forms>(
     alloc: Global,
     judge: &mut J,
-    budget: &mut Budget,
+    work: &mut Work,
     bounds: Bounds,
     unions: &[Vec<UnionPart>],
     a: &UnionPart,
 ) -> Result<Answer, NoMemory>
     requires own { AllByRecursion (λ u. AllByRecursion (λ p. J.is_type judge.old p.ty) u.items) unions.now }
     requires a_own { J.is_type judge.old a.now.ty }
+    requires kept { AreKept (J.headers judge.old) (J.is_type judge.old) (J.tree judge.old) work.old.kept }
     ensures answer { IfOk result (λ answer. answer_as answer
         ≡ run (J.headers judge.old) (bounded.lies_in bounds (map (λ u. map (part_view (J.tree judge.old)) u.items) unions.now) (part_view (J.tree judge.old) a.now))) }
     ensures keeps { Keeps (J.headers judge.old) (J.headers judge.new) (J.names judge.old) (J.names judge.new)
         (J.outcomes judge.old) (J.outcomes judge.new) (J.is_spent judge.old) (J.is_spent judge.new)
         (J.world judge.old) (J.world judge.new) (J.is_type judge.old) (J.is_type judge.new)
         (J.tree judge.old) (J.tree judge.new) }
+    ensures kept { OnOk result (AreKept (J.headers judge.new) (J.is_type judge.new) (J.tree judge.new) work.new.kept) }
 {
     for u in unions {
-        match lies_in_union(alloc, judge, budget, bounds, u, a)? {
+        match lies_in_union(alloc, judge, work, bounds, u, a)? {
             Answer::Yes => {}
             other => return Ok(other),
         }
@@ -165,22 +176,24 @@ fn lies_in<J: Forms>(
 fn lies_in_union<J: Forms>(
     alloc: Global,
     judge: &mut J,
-    budget: &mut Budget,
+    work: &mut Work,
     bounds: Bounds,
     u: &[UnionPart],
     a: &UnionPart,
 ) -> Result<Answer, NoMemory>
     requires own { AllByRecursion (λ p. J.is_type judge.old p.ty) u.now }
     requires a_own { J.is_type judge.old a.now.ty }
+    requires kept { AreKept (J.headers judge.old) (J.is_type judge.old) (J.tree judge.old) work.old.kept }
     ensures answer { IfOk result (λ answer. answer_as answer
         ≡ run (J.headers judge.old) (ask_any (bounded.lies_within bounds (part_view (J.tree judge.old) a.now)) (map (part_view (J.tree judge.old)) u.now))) }
     ensures keeps { Keeps (J.headers judge.old) (J.headers judge.new) (J.names judge.old) (J.names judge.new)
         (J.outcomes judge.old) (J.outcomes judge.new) (J.is_spent judge.old) (J.is_spent judge.new)
         (J.world judge.old) (J.world judge.new) (J.is_type judge.old) (J.is_type judge.new)
         (J.tree judge.old) (J.tree judge.new) }
+    ensures kept { OnOk result (AreKept (J.headers judge.new) (J.is_type judge.new) (J.tree judge.new) work.new.kept) }
 {
     for b in u {
-        match lies_within(alloc, judge, budget, bounds, a, b)? {
+        match lies_within(alloc, judge, work, bounds, a, b)? {
             Answer::No => {}
             other => return Ok(other),
         }
@@ -193,27 +206,29 @@ fn lies_in_union<J: Forms>(
 fn lies_within<J: Forms>(
     alloc: Global,
     judge: &mut J,
-    budget: &mut Budget,
+    work: &mut Work,
     bounds: Bounds,
     a: &UnionPart,
     b: &UnionPart,
 ) -> Result<Answer, NoMemory>
     requires a_own { J.is_type judge.old a.now.ty }
     requires b_own { J.is_type judge.old b.now.ty }
+    requires kept { AreKept (J.headers judge.old) (J.is_type judge.old) (J.tree judge.old) work.old.kept }
     ensures answer { IfOk result (λ answer. answer_as answer
         ≡ run (J.headers judge.old) (bounded.lies_within bounds (part_view (J.tree judge.old) a.now) (part_view (J.tree judge.old) b.now))) }
     ensures keeps { Keeps (J.headers judge.old) (J.headers judge.new) (J.names judge.old) (J.names judge.new)
         (J.outcomes judge.old) (J.outcomes judge.new) (J.is_spent judge.old) (J.is_spent judge.new)
         (J.world judge.old) (J.world judge.new) (J.is_type judge.old) (J.is_type judge.new)
         (J.tree judge.old) (J.tree judge.new) }
+    ensures kept { OnOk result (AreKept (J.headers judge.new) (J.is_type judge.new) (J.tree judge.new) work.new.kept) }
 {
-    budget.spend(1)?;
+    work.budget.spend(1)?;
     let opened = a.opened as u64 + b.opened as u64;
     match (a.tilde, b.tilde) {
         (true, false) => Ok(Answer::No),
-        (false, true) => has_underlying(alloc, judge, budget, bounds, opened + 1, &a.ty, &b.ty),
-        (true, true) => same_behind(alloc, judge, budget, bounds, opened, &a.ty, &b.ty),
-        (false, false) => same_term(alloc, judge, budget, bounds, a, b),
+        (false, true) => has_underlying(alloc, judge, work, bounds, opened + 1, &a.ty, &b.ty),
+        (true, true) => same_behind(alloc, judge, work, bounds, opened, &a.ty, &b.ty),
+        (false, false) => same_term(alloc, judge, work, bounds, a, b),
     }
 }
 
@@ -222,7 +237,7 @@ fn lies_within<J: Forms>(
 pub(crate) fn has_underlying<J: Forms>(
     alloc: Global,
     judge: &mut J,
-    budget: &mut Budget,
+    work: &mut Work,
     bounds: Bounds,
     opened: u64,
     a: &Ty,
@@ -230,15 +245,17 @@ pub(crate) fn has_underlying<J: Forms>(
 ) -> Result<Answer, NoMemory>
     requires a_own { J.is_type judge.old a.now }
     requires b_own { J.is_type judge.old b.now }
+    requires kept { AreKept (J.headers judge.old) (J.is_type judge.old) (J.tree judge.old) work.old.kept }
     ensures answer { IfOk result (λ answer. answer_as answer
         ≡ run (J.headers judge.old) (bounded.has_underlying bounds opened (plain (J.tree judge.old a.now)) (plain (J.tree judge.old b.now)))) }
     ensures keeps { Keeps (J.headers judge.old) (J.headers judge.new) (J.names judge.old) (J.names judge.new)
         (J.outcomes judge.old) (J.outcomes judge.new) (J.is_spent judge.old) (J.is_spent judge.new)
         (J.world judge.old) (J.world judge.new) (J.is_type judge.old) (J.is_type judge.new)
         (J.tree judge.old) (J.tree judge.new) }
+    ensures kept { OnOk result (AreKept (J.headers judge.new) (J.is_type judge.new) (J.tree judge.new) work.new.kept) }
 {
     match judge.underlying(alloc, a)? {
-        Form::Is(u) => same_behind(alloc, judge, budget, bounds, opened, &u, b),
+        Form::Is(u) => same_behind(alloc, judge, work, bounds, opened, &u, b),
         Form::Absent => Ok(answer(bounds.short)),
         Form::Unknown(d) => Ok(Answer::Unknown(d)),
     }
@@ -249,7 +266,7 @@ pub(crate) fn has_underlying<J: Forms>(
 pub(crate) fn same_behind<J: Forms>(
     alloc: Global,
     judge: &mut J,
-    budget: &mut Budget,
+    work: &mut Work,
     bounds: Bounds,
     opened: u64,
     a: &Ty,
@@ -257,16 +274,18 @@ pub(crate) fn same_behind<J: Forms>(
 ) -> Result<Answer, NoMemory>
     requires a_own { J.is_type judge.old a.now }
     requires b_own { J.is_type judge.old b.now }
+    requires kept { AreKept (J.headers judge.old) (J.is_type judge.old) (J.tree judge.old) work.old.kept }
     ensures answer { IfOk result (λ answer. answer_as answer
         ≡ run (J.headers judge.old) (bounded.behind bounds opened (plain (J.tree judge.old a.now)) (plain (J.tree judge.old b.now)))) }
     ensures keeps { Keeps (J.headers judge.old) (J.headers judge.new) (J.names judge.old) (J.names judge.new)
         (J.outcomes judge.old) (J.outcomes judge.new) (J.is_spent judge.old) (J.is_spent judge.new)
         (J.world judge.old) (J.world judge.new) (J.is_type judge.old) (J.is_type judge.new)
         (J.tree judge.old) (J.tree judge.new) }
+    ensures kept { OnOk result (AreKept (J.headers judge.new) (J.is_type judge.new) (J.tree judge.new) work.new.kept) }
 {
     match bounds.behind(opened) {
-        Some(inner) => same_types(alloc, judge, budget, inner, a, b),
-        None => types_by_form(alloc, judge, budget, bounds, a, b),
+        Some(inner) => same_types(alloc, judge, work, inner, a, b),
+        None => types_by_form(alloc, judge, &mut work.budget, bounds, a, b),
     }
 }
 
@@ -275,30 +294,32 @@ pub(crate) fn same_behind<J: Forms>(
 fn same_types<J: Forms>(
     alloc: Global,
     judge: &mut J,
-    budget: &mut Budget,
+    work: &mut Work,
     bounds: Bounds,
     a: &Ty,
     b: &Ty,
 ) -> Result<Answer, NoMemory>
     requires a_own { J.is_type judge.old a.now }
     requires b_own { J.is_type judge.old b.now }
+    requires kept { AreKept (J.headers judge.old) (J.is_type judge.old) (J.tree judge.old) work.old.kept }
     ensures answer { IfOk result (λ answer. answer_as answer
         ≡ run (J.headers judge.old) (bounded.same bounds (plain (J.tree judge.old a.now)) (plain (J.tree judge.old b.now)))) }
     ensures keeps { Keeps (J.headers judge.old) (J.headers judge.new) (J.names judge.old) (J.names judge.new)
         (J.outcomes judge.old) (J.outcomes judge.new) (J.is_spent judge.old) (J.is_spent judge.new)
         (J.world judge.old) (J.world judge.new) (J.is_type judge.old) (J.is_type judge.new)
         (J.tree judge.old) (J.tree judge.new) }
+    ensures kept { OnOk result (AreKept (J.headers judge.new) (J.is_type judge.new) (J.tree judge.new) work.new.kept) }
 {
     if bounds.levels == 0 {
-        return types_by_form(alloc, judge, budget, bounds, a, b);
+        return types_by_form(alloc, judge, &mut work.budget, bounds, a, b);
     }
     let mut pairs = Vec::new(alloc);
-    if !outline(alloc, judge, budget, a, b, &mut pairs)? {
+    if !outline(alloc, judge, &mut work.budget, a, b, &mut pairs)? {
         return Ok(Answer::No);
     }
     let inner = Bounds {
         levels: bounds.levels - 1,
         ..bounds
     };
-    same_pairs(alloc, judge, budget, inner, pairs)
+    same_pairs(alloc, judge, work, inner, pairs)
 }

@@ -6,7 +6,7 @@ use Rattle.std.specs.Option.{option_map, option_map_or, is_none, is_some}
 use Rattle.std.proofs.lemmas.List.{map-append}
 use Rattle.go_tree.specs.declared.node.NodeId.{NodeId}
 use Rattle.go_tree.specs.declared.node_kind.NodeKind.{NodeKind}
-use Rattle.go_tree.specs.declared.node_kind.NodeKind.TheVariants.{Name, SelectorExpr, ConstDecl, ConstGroup}
+use Rattle.go_tree.specs.declared.node_kind.NodeKind.TheVariants.{Name, SelectorExpr, ConstDecl, ConstGroup, VarDecl, VarGroup, TypeDecl, TypeGroup, TypeSpec, AliasSpec}
 use Rattle.go_tree.specs.Tree.{Tree, branch, Trees, no_trees, more_trees, list_of, parts_of}
 use Rattle.go_module.specs.Broken.{broken_at, told_if}
 use Rattle.go_module.specs.declared.block.Import.{Import}
@@ -19,11 +19,12 @@ use Rattle.go_module.specs.Modules.Module.{FileData, PackageData}
 use Rattle.go_module.specs.Scopes.{same_node}
 use Rattle.go_module.specs.Names.Rules.BlockRules.{missing_main_at, reserved, repeated}
 use Rattle.go_module.specs.Names.Rules.BrokenNames.{broken_file, broken_files}
-use Rattle.go_module.specs.Names.Declarations.{Spec, const_spec, specs_in, specs_in_file}
+use Rattle.go_module.specs.Names.Declarations.{Spec, const_spec, specs_in, specs_in_file, type_spec, var_spec}
 use Rattle.go_module.specs.Names.Inner.{inner_of, inner_by}
 use Rattle.go_module.specs.Names.PackageBlock.{object_id, package_block}
 use Rattle.go_module.specs.Names.Rules.ImportRules.{conflicting, declares, is_repeated_by, uses_import, unused, unused_import}
 use Rattle.go_module.specs.Names.Imports.{PackageNames, Importing, file_block, import_of, imports_from, imports_of}
+use Rattle.go_module.specs.Names.Rules.MemberRules.{broken_in_spec}
 use Rattle.go_module.specs.Names.Rules.OccurrenceRules.{broken_occurrence, broken_occurrences, blank_at, missing_in, misplaced_package, undeclared_at, complex_name, is_complex}
 use Rattle.go_module.specs.Names.Occurrences.{found_in, selecting, names_in, names_of_each, names_in_parts, occurrences_in_file}
 use Rattle.go_module.specs.Names.Regions.{regions_of, resolution, is_held}
@@ -145,18 +146,30 @@ of_both : (file : ℕ) (xs ys : List Spec) → AreOf file xs → AreOf file ys �
 of_both file [] ys xs_are ys_are = ys_are
 of_both file (x ∷ xs) ys xs_are ys_are = (xs_are.0, of_both file xs ys xs_are.1 ys_are)
 
-of_consts : (file : ℕ) (specs : List Tree) → AreOf file (map (const_spec file) specs)
-of_consts file [] = tt
-of_consts file (spec ∷ specs) = (refl, of_consts file specs)
+of_map : (file : ℕ) (make : Tree → Spec) → ((t : Tree) → (make t).file ≡ file) → (ts : List Tree) → AreOf file (map make ts)
+of_map file make one [] = tt
+of_map file make one (t ∷ ts) = (one t, of_map file make one ts)
+
+of_each : (file : ℕ) (make : Tree → List Spec) → ((t : Tree) → AreOf file (make t)) → (ts : List Tree) → AreOf file (flat_map make ts)
+of_each file make one [] = tt
+of_each file make one (t ∷ ts) = of_both file (make t) (flat_map make ts) (one t) (of_each file make one ts)
+
+of_type : (file : ℕ) (t : Tree) → AreOf file (type_spec file t)
+of_type file (branch id from to TypeSpec text parts) = (refl, tt)
+of_type file (branch id from to AliasSpec text parts) = (refl, tt)
+of_type file (branch id from to kind text parts) = tt
 
 of_declaration : (file : ℕ) (declaration : Tree) → AreOf file (specs_in file declaration)
-of_declaration file (branch id from to ConstDecl text parts) = of_consts file (list_of parts)
-of_declaration file (branch id from to ConstGroup text parts) = of_consts file (list_of parts)
+of_declaration file (branch id from to ConstDecl text parts) = of_map file (const_spec file) (λ t. refl) (list_of parts)
+of_declaration file (branch id from to ConstGroup text parts) = of_map file (const_spec file) (λ t. refl) (list_of parts)
+of_declaration file (branch id from to VarDecl text parts) = of_map file (var_spec file) (λ t. refl) (list_of parts)
+of_declaration file (branch id from to VarGroup text parts) = of_map file (var_spec file) (λ t. refl) (list_of parts)
+of_declaration file (branch id from to TypeDecl text parts) = of_each file (type_spec file) (of_type file) (list_of parts)
+of_declaration file (branch id from to TypeGroup text parts) = of_each file (type_spec file) (of_type file) (list_of parts)
 of_declaration file (branch id from to kind text parts) = tt
 
 of_declarations : (file : ℕ) (declarations : List Tree) → AreOf file (flat_map (specs_in file) declarations)
-of_declarations file [] = tt
-of_declarations file (d ∷ declarations) = of_both file (specs_in file d) (flat_map (specs_in file) declarations) (of_declaration file d) (of_declarations file declarations)
+of_declarations file declarations = of_each file (specs_in file) (of_declaration file) declarations
 
 at_specs : (file : ℕ) (specs : List Spec) → AreOf file specs → AllAt file (flat_map names_in_parts specs)
 at_specs file [] are = tt
@@ -180,14 +193,15 @@ module _ (known : ℕ → PackageNames) (k : ℕ) (p : PackageData) where
   file_resolved : (i : ℕ) (imports : List Importing) (f : FileData) → slice_get (imports_of k p) i ≡ Some imports → resolved_parts universe (package_block k p) (block_data known imports) (specs_in_file i f.tree) ≡ map (resolved_of (regions_of known k p)) (occurrences_in_file i f.tree)
   file_resolved i imports f found = all_resolved i imports (occurrences_in_file i f.tree) (at_specs i (specs_in_file i f.tree) (of_declarations i (list_of (parts_of f.tree)))) found
 
-  file_is : (is_main : Bool) (i : ℕ) (imports : List Importing) (f : FileData) → slice_get (imports_of k p) i ≡ Some imports → broken_file_by known is_main (package_block k p) (block_data known imports) i f (resolved_parts universe (package_block k p) (block_data known imports) (specs_in_file i f.tree)) ≡ broken_file known is_main (regions_of known k p) (package_block k p) i f imports
+  file_is : (is_main : Bool) (i : ℕ) (imports : List Importing) (f : FileData) → slice_get (imports_of k p) i ≡ Some imports → broken_file_by known is_main (package_block k p) (block_data known imports) i f (resolved_parts universe (package_block k p) (block_data known imports) (specs_in_file i f.tree)) (specs_in_file i f.tree) ≡ broken_file known is_main (regions_of known k p) (package_block k p) i f imports
   file_is is_main i imports f found =
       let block = package_block k p in
       let own = file_block known imports in
       let regions = regions_of known k p in
       let occurrences = occurrences_in_file i f.tree in
-      ap (broken_file_by known is_main block (block_data known imports) i f) (file_resolved i imports f found)
-      ∙ (λ j. missing_main_at is_main i f ++ (reserved is_main own ++ ((repeated own ++ (conflicting block own (flat_map import_of imports) ++ all_unused known regions own occurrences (flat_map import_of imports) j)) ++ all_broken known regions occurrences j)))
+      let specs = specs_in_file i f.tree in
+      ap (λ resolved. broken_file_by known is_main block (block_data known imports) i f resolved specs) (file_resolved i imports f found)
+      ∙ (λ j. missing_main_at is_main i f ++ (reserved is_main own ++ ((repeated own ++ (conflicting block own (flat_map import_of imports) ++ all_unused known regions own occurrences (flat_map import_of imports) j)) ++ (all_broken known regions occurrences j ++ flat_map broken_in_spec specs))))
 
   -- the imports of the files that are left are those of the package behind a place
   abbrev StandsAt : ℕ → List (List Importing) → Type 0

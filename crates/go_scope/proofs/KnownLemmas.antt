@@ -16,11 +16,12 @@ use Rattle.go_module.specs.Modules.Heads.{import_specs}
 use Rattle.go_module.specs.Modules.Module.{FileData, PackageData}
 use Rattle.go_module.specs.Names.Rules.BlockRules.{missing_main_at, reserved, repeated, is_main_name}
 use Rattle.go_module.specs.Names.Rules.BrokenNames.{broken_block, broken_file, broken_files, broken_in_files}
-use Rattle.go_module.specs.Names.Declarations.{Declaration, declarations_of, name_text}
+use Rattle.go_module.specs.Names.Declarations.{Declaration, declarations_of, name_text, specs_in_file}
 use Rattle.go_module.specs.Names.PackageBlock.{binds, declared_region, object_id, package_block, region_entries}
 use Rattle.go_module.specs.Names.Exported.{is_blank_identifier}
 use Rattle.go_module.specs.Names.Rules.ImportRules.{conflicting, unused}
 use Rattle.go_module.specs.Names.Imports.{PackageNames, Importing, import_region, dot_region, is_dot, import_parts, import_regions, file_block, import_of, imports_in, imports_from, imports_of}
+use Rattle.go_module.specs.Names.Rules.MemberRules.{broken_in_spec}
 use Rattle.go_module.specs.Names.Rules.OccurrenceRules.{missing_member, denoted_package, missing_in, broken_occurrence, broken_occurrences, undeclared_at, blank_at, misplaced_at, complex_at}
 use Rattle.go_module.specs.Names.Occurrences.{occurrences_in_file}
 use Rattle.go_module.specs.Names.Regions.{regions_of, resolution, holds, lies_inside_others}
@@ -183,7 +184,7 @@ module _ (f g : ℕ → PackageNames) where
 
     file_alike : (is_main : Bool) (block : List Region) (file : ℕ) (x : FileData) (imports : List Importing) → Alike imports → broken_file f is_main regions block file x imports ≡ broken_file g is_main regions block file x imports
     file_alike is_main block file x imports same =
-        (λ at. missing_main_at is_main file x ++ (reserved is_main (block_alike imports same at) ++ ((repeated (block_alike imports same at) ++ (conflicting block (block_alike imports same at) (flat_map import_of imports) ++ unused regions (block_alike imports same at) (occurrences_in_file file x.tree) (flat_map import_of imports))) ++ occurrences_alike (occurrences_in_file file x.tree) at)))
+        (λ at. missing_main_at is_main file x ++ (reserved is_main (block_alike imports same at) ++ ((repeated (block_alike imports same at) ++ (conflicting block (block_alike imports same at) (flat_map import_of imports) ++ unused regions (block_alike imports same at) (occurrences_in_file file x.tree) (flat_map import_of imports))) ++ (occurrences_alike (occurrences_in_file file x.tree) at ++ flat_map broken_in_spec (specs_in_file file x.tree)))))
 
     files_alike : (is_main : Bool) (block : List Region) (file : ℕ) (files : List FileData) (lists : List (List Importing)) → AllAlike lists → broken_files f is_main regions block file files lists ≡ broken_files g is_main regions block file files lists
     files_alike is_main block file [] lists same = refl

@@ -6,6 +6,7 @@ pub mod InnerLemmas
 pub mod KnownLemmas
 pub mod ListLemmas
 pub mod MarkLemmas
+pub mod MemberLemmas
 pub mod ResolutionLemmas
 pub mod CollectLemmas
 pub mod LawLemmas

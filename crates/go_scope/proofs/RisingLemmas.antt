@@ -1,14 +1,17 @@
 -- The numbers of the nodes of a file rise in source order, so each identifier has a number of its own.
-use Rattle.std.proofs.Common.{◌≡◌, ℕ, suc, ◌+◌, ◌<◌, ◌≤◌, Option, Some, None, List, [], ◌∷◌, ◌++◌, map, sym, subst, arith}
+use Rattle.std.proofs.Common.{◌≡◌, ℕ, suc, ◌+◌, ◌<◌, ◌≤◌, Option, Some, None, List, [], ◌∷◌, ◌++◌, map, sym, ap, ◌∙◌, subst, arith}
 use Rattle.std.specs.List.{flat_map}
 use Rattle.std.proofs.lemmas.Grind.{flat_map-append}
+use Rattle.std.proofs.lemmas.List.{append-nil}
 use Rattle.go_tree.specs.declared.node_kind.NodeKind.{NodeKind}
-use Rattle.go_tree.specs.declared.node_kind.NodeKind.TheVariants.{Name, SelectorExpr, ConstDecl, ConstGroup, ConstCopy}
+use Rattle.go_tree.specs.declared.node_kind.NodeKind.TheVariants.{Name, SelectorExpr, ConstDecl, ConstGroup, ConstCopy, ExprList, VarDecl, VarGroup, TypeDecl, TypeGroup, TypeSpec, AliasSpec}
 use Rattle.go_tree.specs.Tree.{Tree, branch, Trees, no_trees, more_trees, list_of, node_count, node_count_of_all}
 use Rattle.go_module.specs.Numbers.{numbered, all_numbered}
 use Rattle.go_module.specs.declared.block.Occurrence.{Occurrence}
 use Rattle.go_module.specs.declared.block.Selected.{Selected}
-use Rattle.go_module.specs.Names.Declarations.{behind_names, const_spec, specs_in, types_behind, values_behind}
+use Rattle.go_module.specs.declared.object.ObjKind.{ObjKind}
+use Rattle.go_module.specs.declared.object.ObjKind.TheVariants.{Alias, Defined}
+use Rattle.go_module.specs.Names.Declarations.{Spec, behind_names, const_spec, list_behind, specs_in, type_before, type_spec, type_spec_as, types_behind, values_behind, var_spec}
 use Rattle.go_module.specs.Names.Inner.{inner_by, inner_of}
 use Rattle.go_module.specs.Names.Occurrences.{found_in, with_selected, names_in, names_of_each, names_in_parts, occurrences_in_file}
 use Rattle.go_scope.proofs.InnerLemmas.{holds_inner}
@@ -139,37 +142,93 @@ module _ (file : ℕ) (told_at : Option ℕ) where
   names_rise first (more_trees (branch id from to ConstCopy text parts) (more_trees b ts)) = behind_rises first (more_trees (branch id from to ConstCopy text parts) (more_trees b ts))
   names_rise first (more_trees (branch id from to kind text parts) ts) = behind_rises first (more_trees (branch id from to kind text parts) ts)
 
-spec_rises : (file first : ℕ) (spec : Tree) → Rises first (first + node_count spec) (names_in_parts (const_spec file (numbered first spec)))
-spec_rises file first (branch id from to kind text no_trees) = omega arith
-spec_rises file first (branch id from to kind text (more_trees names rest)) =
-    let behind = first + node_count names in
-    let spec = const_spec file (numbered first (branch id from to kind text (more_trees names rest))) in
-    rises_lower behind first (first + (1 + (node_count names + node_count_of_all rest))) (names_in_parts spec) (omega arith)
-    (rises_higher behind (behind + node_count_of_all rest) (first + (1 + (node_count names + node_count_of_all rest))) (names_in_parts spec) (omega arith) (names_rise file spec.told_at behind rest))
+  -- what stands behind the names of variables: a type, a list, or both
+  abbrev occurs_variable : List Tree → List Occurrence
+  occurs_variable parts = flat_map (names_in file told_at) (type_before parts ++ list_behind parts)
 
-specs_rise : (file first : ℕ) (specs : Trees) → Rises first (first + node_count_of_all specs) (flat_map names_in_parts (map (const_spec file) (list_of (all_numbered first specs))))
-specs_rise file first no_trees = omega arith
-specs_rise file first (more_trees spec specs) =
+  variable_rises : (first : ℕ) (ts : Trees) → Rises first (first + node_count_of_all ts) (occurs_variable (list_of (all_numbered first ts)))
+  variable_rises first no_trees = omega arith
+  variable_rises first (more_trees (branch id from to ExprList text parts) no_trees) =
+      rises_higher first (first + node_count_of_all parts) (first + ((1 + node_count_of_all parts) + 0)) (flat_map (names_in file told_at) (list_of (all_numbered first parts))) (omega arith) (list_rises first parts)
+  variable_rises first (more_trees (branch id from to kind text parts) no_trees) = list_rises first (more_trees (branch id from to kind text parts) no_trees)
+  variable_rises first (more_trees type (more_trees (branch id from to kind text parts) no_trees)) = behind_rises first (more_trees type (more_trees (branch id from to kind text parts) no_trees))
+  variable_rises first (more_trees a (more_trees b (more_trees c ts))) =
+      rises_higher first (first + (node_count a + 0)) (first + (node_count a + (node_count b + (node_count c + node_count_of_all ts)))) (flat_map (names_in file told_at) (numbered first a ∷ [])) (omega arith) (list_rises first (more_trees a no_trees))
+
+-- the node of these parts has one number more
+wider : (first : ℕ) (parts : Trees) (xs : List Occurrence) → Rises first (first + node_count_of_all parts) xs → Rises first (first + (1 + node_count_of_all parts)) xs
+wider first parts xs r = rises_higher first (first + node_count_of_all parts) (first + (1 + node_count_of_all parts)) xs (omega arith) r
+
+-- what occurs in one spec of a node rises, as what occurs behind its first part does
+abbrev SpecRises : (Tree → Spec) → Type 0
+SpecRises make = (first : ℕ) (t : Tree) → Rises first (first + node_count t) (names_in_parts (make (numbered first t)))
+
+behind_first : (first : ℕ) (names : Tree) (rest : Trees) (xs : List Occurrence) → Rises (first + node_count names) (first + node_count names + node_count_of_all rest) xs → Rises first (first + (1 + (node_count names + node_count_of_all rest))) xs
+behind_first first names rest xs r =
+    let behind = first + node_count names in
+    rises_lower behind first (first + (1 + (node_count names + node_count_of_all rest))) xs (omega arith)
+    (rises_higher behind (behind + node_count_of_all rest) (first + (1 + (node_count names + node_count_of_all rest))) xs (omega arith) r)
+
+const_rises : (file : ℕ) → SpecRises (const_spec file)
+const_rises file first (branch id from to kind text no_trees) = omega arith
+const_rises file first (branch id from to kind text (more_trees names rest)) =
+    let spec = const_spec file (numbered first (branch id from to kind text (more_trees names rest))) in
+    behind_first first names rest (names_in_parts spec) (names_rise file spec.told_at (first + node_count names) rest)
+
+var_rises : (file : ℕ) → SpecRises (var_spec file)
+var_rises file first (branch id from to kind text no_trees) = omega arith
+var_rises file first (branch id from to kind text (more_trees names rest)) =
+    let spec = var_spec file (numbered first (branch id from to kind text (more_trees names rest))) in
+    behind_first first names rest (names_in_parts spec) (variable_rises file None (first + node_count names) rest)
+
+specs_rise : (make : Tree → Spec) → SpecRises make → (first : ℕ) (specs : Trees) → Rises first (first + node_count_of_all specs) (flat_map names_in_parts (map make (list_of (all_numbered first specs))))
+specs_rise make one first no_trees = omega arith
+specs_rise make one first (more_trees spec specs) =
     let next = first + node_count spec in
     let same : next + node_count_of_all specs ≡ first + (node_count spec + node_count_of_all specs) = omega arith in
-    let rest = map (const_spec file) (list_of (all_numbered next specs)) in
-    rises_append first next (first + (node_count spec + node_count_of_all specs)) (names_in_parts (const_spec file (numbered first spec))) (flat_map names_in_parts rest) (spec_rises file first spec)
-    (subst (λ (n : ℕ). Rises next n (flat_map names_in_parts rest)) same (specs_rise file next specs))
+    let rest = map make (list_of (all_numbered next specs)) in
+    rises_append first next (first + (node_count spec + node_count_of_all specs)) (names_in_parts (make (numbered first spec))) (flat_map names_in_parts rest) (one first spec)
+    (subst (λ (n : ℕ). Rises next n (flat_map names_in_parts rest)) same (specs_rise make one next specs))
 
-declaration_rises : (file first : ℕ) (d : Tree) → Rises first (first + node_count d) (flat_map names_in_parts (specs_in file (numbered first d)))
-declaration_rises file first (branch id from to ConstDecl text parts) = rises_higher first (first + node_count_of_all parts) (first + (1 + node_count_of_all parts)) (flat_map names_in_parts (map (const_spec file) (list_of (all_numbered first parts)))) (omega arith) (specs_rise file first parts)
-declaration_rises file first (branch id from to ConstGroup text parts) = rises_higher first (first + node_count_of_all parts) (first + (1 + node_count_of_all parts)) (flat_map names_in_parts (map (const_spec file) (list_of (all_numbered first parts)))) (omega arith) (specs_rise file first parts)
+-- what occurs in all specs of a node rises, so does what occurs in those of a list of nodes
+abbrev EachRises : (Tree → List Spec) → Type 0
+EachRises make = (first : ℕ) (t : Tree) → Rises first (first + node_count t) (flat_map names_in_parts (make (numbered first t)))
+
+each_rises : (make : Tree → List Spec) → EachRises make → (first : ℕ) (ts : Trees) → Rises first (first + node_count_of_all ts) (flat_map names_in_parts (flat_map make (list_of (all_numbered first ts))))
+each_rises make one first no_trees = omega arith
+each_rises make one first (more_trees t ts) =
+    let next = first + node_count t in
+    let same : next + node_count_of_all ts ≡ first + (node_count t + node_count_of_all ts) = omega arith in
+    let rest = flat_map make (list_of (all_numbered next ts)) in
+    let both = rises_append first next (first + (node_count t + node_count_of_all ts)) (flat_map names_in_parts (make (numbered first t))) (flat_map names_in_parts rest) (one first t) (subst (λ (n : ℕ). Rises next n (flat_map names_in_parts rest)) same (each_rises make one next ts)) in
+    subst (Rises first (first + (node_count t + node_count_of_all ts))) (sym (flat_map-append names_in_parts (make (numbered first t)) rest)) both
+
+-- a type or an alias: what occurs behind its name
+parts_alone : (file first : ℕ) (ts : Trees) → Rises first (first + node_count_of_all ts) (flat_map (names_in file None) (list_of (all_numbered first ts) ++ []) ++ [])
+parts_alone file first ts =
+    let all = flat_map (names_in file None) (list_of (all_numbered first ts)) in
+    let same : flat_map (names_in file None) (list_of (all_numbered first ts) ++ []) ++ [] ≡ all = append-nil (flat_map (names_in file None) (list_of (all_numbered first ts) ++ [])) ∙ ap (flat_map (names_in file None)) (append-nil (list_of (all_numbered first ts))) in
+    subst (Rises first (first + node_count_of_all ts)) (sym same) (list_rises file None first ts)
+
+one_type : (kind : ObjKind) (file first : ℕ) (spec : Tree) (ts : Trees) → Rises first (first + (1 + node_count_of_all ts)) (flat_map names_in_parts (type_spec_as kind file spec (all_numbered first ts) ∷ []))
+one_type kind file first spec no_trees = omega arith
+one_type kind file first spec (more_trees name rest) =
+    behind_first first name rest (flat_map names_in_parts (type_spec_as kind file spec (all_numbered first (more_trees name rest)) ∷ [])) (parts_alone file (first + node_count name) rest)
+
+type_rises : (file : ℕ) → EachRises (type_spec file)
+type_rises file first (branch id from to TypeSpec text parts) = one_type Defined file first (numbered first (branch id from to TypeSpec text parts)) parts
+type_rises file first (branch id from to AliasSpec text parts) = one_type Alias file first (numbered first (branch id from to AliasSpec text parts)) parts
+type_rises file first (branch id from to kind text parts) = omega arith
+
+declaration_rises : (file : ℕ) → EachRises (specs_in file)
+declaration_rises file first (branch id from to ConstDecl text parts) = wider first parts (flat_map names_in_parts (map (const_spec file) (list_of (all_numbered first parts)))) (specs_rise (const_spec file) (const_rises file) first parts)
+declaration_rises file first (branch id from to ConstGroup text parts) = wider first parts (flat_map names_in_parts (map (const_spec file) (list_of (all_numbered first parts)))) (specs_rise (const_spec file) (const_rises file) first parts)
+declaration_rises file first (branch id from to VarDecl text parts) = wider first parts (flat_map names_in_parts (map (var_spec file) (list_of (all_numbered first parts)))) (specs_rise (var_spec file) (var_rises file) first parts)
+declaration_rises file first (branch id from to VarGroup text parts) = wider first parts (flat_map names_in_parts (map (var_spec file) (list_of (all_numbered first parts)))) (specs_rise (var_spec file) (var_rises file) first parts)
+declaration_rises file first (branch id from to TypeDecl text parts) = wider first parts (flat_map names_in_parts (flat_map (type_spec file) (list_of (all_numbered first parts)))) (each_rises (type_spec file) (type_rises file) first parts)
+declaration_rises file first (branch id from to TypeGroup text parts) = wider first parts (flat_map names_in_parts (flat_map (type_spec file) (list_of (all_numbered first parts)))) (each_rises (type_spec file) (type_rises file) first parts)
 declaration_rises file first (branch id from to kind text parts) = omega arith
-
-declarations_rise : (file first : ℕ) (ds : Trees) → Rises first (first + node_count_of_all ds) (flat_map names_in_parts (flat_map (specs_in file) (list_of (all_numbered first ds))))
-declarations_rise file first no_trees = omega arith
-declarations_rise file first (more_trees d ds) =
-    let next = first + node_count d in
-    let same : next + node_count_of_all ds ≡ first + (node_count d + node_count_of_all ds) = omega arith in
-    let rest = flat_map (specs_in file) (list_of (all_numbered next ds)) in
-    let both = rises_append first next (first + (node_count d + node_count_of_all ds)) (flat_map names_in_parts (specs_in file (numbered first d))) (flat_map names_in_parts rest) (declaration_rises file first d) (subst (λ (n : ℕ). Rises next n (flat_map names_in_parts rest)) same (declarations_rise file next ds)) in
-    subst (Rises first (first + (node_count d + node_count_of_all ds))) (sym (flat_map-append names_in_parts (specs_in file (numbered first d)) rest)) both
 
 -- the occurrences of a file whose nodes are numbered from the first on
 pub file_rises : (file first : ℕ) (t : Tree) → Rises first (first + node_count t) (occurrences_in_file file (numbered first t))
-file_rises file first (branch id from to kind text parts) = rises_higher first (first + node_count_of_all parts) (first + (1 + node_count_of_all parts)) (flat_map names_in_parts (flat_map (specs_in file) (list_of (all_numbered first parts)))) (omega arith) (declarations_rise file first parts)
+file_rises file first (branch id from to kind text parts) = wider first parts (flat_map names_in_parts (flat_map (specs_in file) (list_of (all_numbered first parts)))) (each_rises (specs_in file) (declaration_rises file) first parts)

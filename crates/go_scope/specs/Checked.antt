@@ -24,6 +24,6 @@ resolved_from universe block blocks lists = []
 
 abbrev pub broken_from : (ℕ → PackageNames) → Bool → List Region → List Region → ℕ → List BlockData → List FileData → List (List Spec) → List Broken
 broken_from known is_main universe block i (own ∷ blocks) (f ∷ files) (specs ∷ lists) =
-    broken_file_by known is_main block own i f (resolved_parts universe block own specs)
+    broken_file_by known is_main block own i f (resolved_parts universe block own specs) specs
     ++ broken_from known is_main universe block (i + 1) blocks files lists
 broken_from known is_main universe block i blocks files lists = []

@@ -13,6 +13,8 @@ use Rattle.go_module.specs.Broken.{broken_at, told_if}
 use Rattle.go_module.specs.Modules.Module.{FileData}
 use Rattle.go_module.specs.Scopes.{same_node}
 use Rattle.go_module.specs.Names.Rules.BlockRules.{repeated, reserved, missing_main_at}
+use Rattle.go_module.specs.Names.Rules.MemberRules.{broken_in_spec}
+use Rattle.go_module.specs.Names.Declarations.{Spec}
 use Rattle.go_module.specs.Names.PackageBlock.{object_id}
 use Rattle.go_module.specs.Names.Exported.{is_blank_identifier}
 use Rattle.go_module.specs.Names.Imports.{PackageNames}
@@ -57,13 +59,18 @@ uses_by id r = option_map_or (λ (d : Denoted). option_map_or (λ spec. same_nod
 abbrev pub unused_by : List Region → List Resolved → Import → List Broken
 unused_by file resolved i = told_if (not (is_repeated_by file i) && not (list_any (uses_by i.id) resolved)) (broken_at i.file i.at unused_import)
 
--- what a file breaks, by the blocks around it
-abbrev pub broken_file_by : (ℕ → PackageNames) → Bool → List Region → BlockData → ℕ → FileData → List Resolved → List Broken
-broken_file_by known is_main block own i f resolved =
+-- what the imports of a file break
+abbrev pub broken_imports_by : List Region → List Region → List Import → List Resolved → List Broken
+broken_imports_by block own imports resolved = repeated own ++ (conflicting block own imports ++ flat_map (unused_by own resolved) imports)
+
+-- what a file breaks, by the blocks around it and its specs
+abbrev pub broken_file_by : (ℕ → PackageNames) → Bool → List Region → BlockData → ℕ → FileData → List Resolved → List Spec → List Broken
+broken_file_by known is_main block own i f resolved specs =
     missing_main_at is_main i f
     ++ (reserved is_main own.regions
-    ++ ((repeated own.regions ++ (conflicting block own.regions own.imports ++ flat_map (unused_by own.regions resolved) own.imports))
-    ++ flat_map (broken_by known) resolved))
+    ++ (broken_imports_by block own.regions own.imports resolved
+    ++ (flat_map (broken_by known) resolved
+    ++ flat_map broken_in_spec specs)))
 
 -- what the tables get of an occurrence
 abbrev pub members_by : (ℕ → PackageNames) → Resolved → List Member

@@ -1,22 +1,23 @@
 // What the files of a package denote by their names, and what they break (Go specification, "Declarations
 // and scope").
-ghost use Rattle.std.specs.Prelude.{◌≡◌, ◌++◌, IfOk, length, map};
+ghost use Rattle.std.specs.Prelude.{◌≡◌, ◌++◌, IfOk, OnOk, length, map};
 ghost use Rattle.go_module.specs.Modules.Module.{file_view};
 ghost use Rattle.go_names.specs.Views.{specs_view};
 ghost use Rattle.go_scope.specs.Blocks.{block_of};
 ghost use Rattle.go_scope.specs.Checked.{broken_from, resolved_from, resolved_parts};
 ghost use Rattle.go_scope.specs.Known.{known_by};
-ghost use Rattle.go_scope.specs.Resolved.{broken_file_by};
+ghost use Rattle.go_scope.specs.Resolved.{broken_file_by, broken_imports_by};
 
 use crate::block_rules::{add_missing_main, add_repeated, add_reserved};
 use crate::file_block::FileBlock;
 use crate::held::Declared;
 use crate::import_rules::{add_conflicting, add_unused};
 use crate::known::Before;
+use crate::member_rules::add_broken_members;
 use crate::occurrence_rules::add_broken_occurrences;
 use crate::resolved::{Around, Resolved, resolve_all};
 use go_base::{Broken, NoMemory};
-use go_module::SourceFile;
+use go_module::{Import, SourceFile};
 use go_names::{Spec, names_in_specs};
 use std::alloc::Global;
 
@@ -66,16 +67,32 @@ fn check_file(
         ≡ resolved_parts around.now.universe around.now.block (block_of block.now) (specs_view specs.now)) }
     ensures found { IfOk result (λ list. found.new.items ≡ found.old.items
         ++ broken_file_by (known_by before.now) is_main around.now.block (block_of block.now) place
-        (file_view file.now) list.items) }
+        (file_view file.now) list.items (specs_view specs.now)) }
 {
     let declared = Declared::of(alloc, &block.regions)?;
     let occurrences = names_in_specs(alloc, specs)?;
     let resolved = resolve_all(alloc, around, &declared, occurrences)?;
     add_missing_main(is_main, place, file, found)?;
     add_reserved(is_main, &block.regions, found)?;
-    add_repeated(&declared, found)?;
-    add_conflicting(alloc, &around.block, &declared, &block.imports, found)?;
-    add_unused(alloc, &declared, &resolved, &block.imports, found)?;
+    add_broken_imports(alloc, around, &declared, &resolved, &block.imports, found)?;
     add_broken_occurrences(before, &resolved, found)?;
+    add_broken_members(alloc, specs, found)?;
     Ok(resolved)
+}
+
+// Adds what the imports of a file break.
+fn add_broken_imports(
+    alloc: Global,
+    around: &Around,
+    file: &Declared,
+    resolved: &[Resolved],
+    imports: &[Import],
+    found: &mut Vec<Broken>,
+) -> Result<(), NoMemory>
+    ensures { OnOk result (found.new.items ≡ found.old.items
+        ++ broken_imports_by around.now.block file.now imports.now resolved.now) }
+{
+    add_repeated(file, found)?;
+    add_conflicting(alloc, &around.block, file, imports, found)?;
+    add_unused(alloc, file, resolved, imports, found)
 }

@@ -1,11 +1,18 @@
 // The rules on names, in the order of their table.
 use go_base::{Family, Rule};
 
-/// A declaration of a name that its block declares several times (Go specification, "Declarations and
-/// scope").
+/// A declaration of a name that its block declares several times, or a parameter or result whose name its signature has
+/// several times (Go specification, "Declarations and scope").
 pub const REPEATED_NAME: Rule = Rule {
     family: Family::P,
     number: 4,
+};
+
+/// A name that several fields of a struct or several methods of an interface have, or a blank name of a method (Go
+/// specification, "Struct types", "Interface types").
+pub const REPEATED_MEMBER: Rule = Rule {
+    family: Family::P,
+    number: 5,
 };
 
 /// An import that declares a name which the package block declares too (Go specification, "Declarations

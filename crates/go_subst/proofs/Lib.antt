@@ -1,6 +1,6 @@
 pub mod ChainLemmas
-pub mod KeepLemmas
 pub mod ParamLemmas
 pub mod PathLemmas
+pub mod PlainLemmas
 pub mod SubstLemmas
 pub mod ViewLemmas

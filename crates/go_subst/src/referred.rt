@@ -4,7 +4,7 @@ ghost use Rattle.std.specs.Option.{option_map};
 ghost use Rattle.go_term.specs.Shapes.{IsCause};
 ghost use Rattle.go_term.specs.Size.{size_fault};
 ghost use Rattle.go_term.specs.View.{type_of};
-ghost use Rattle.go_model.specs.Outcomes.Records.{header_view, param_view};
+ghost use Rattle.go_model.specs.Outcomes.Records.{header_as, param_as};
 ghost use Rattle.go_model.specs.Types.UnderlyingType as spec;
 ghost use Rattle.go_subst.specs.Chains as chain;
 
@@ -36,11 +36,11 @@ pub(crate) fn origin_of(t: &Ty) -> Option<Origin>
 /// than 256, else Large where it has more than 65,536 nodes.
 pub(crate) fn referred(alloc: Global, t: &Ty, header: &Header) -> Result<Option<Ty>, TermFault>
     ensures next { IfOk result (λ next. option_map type_of next
-        ≡ chain.referred (type_of t.now) (header_view header.now)) }
+        ≡ chain.referred (type_of t.now) (header_as type_of header.now)) }
     ensures fits { IfOk result (λ next. option_and_then size_fault
-        (chain.referred (type_of t.now) (header_view header.now)) ≡ None) }
+        (chain.referred (type_of t.now) (header_as type_of header.now)) ≡ None) }
     ensures cause { IfErr result (λ fault. chain.IsReferredCause fault
-        (chain.referred (type_of t.now) (header_view header.now))) }
+        (chain.referred (type_of t.now) (header_as type_of header.now))) }
 {
     match t {
         Term::Named(d, arguments) => right_side(alloc, *d, arguments, header),
@@ -57,11 +57,11 @@ fn right_side(
     header: &Header,
 ) -> Result<Option<Ty>, TermFault>
     ensures next { IfOk result (λ next. option_map type_of next
-        ≡ spec.right_side d (map type_of arguments.now) (header_view header.now)) }
+        ≡ spec.right_side d (map type_of arguments.now) (header_as type_of header.now)) }
     ensures fits { IfOk result (λ next. option_and_then size_fault
-        (spec.right_side d (map type_of arguments.now) (header_view header.now)) ≡ None) }
+        (spec.right_side d (map type_of arguments.now) (header_as type_of header.now)) ≡ None) }
     ensures cause { IfErr result (λ fault. chain.IsReferredCause fault
-        (spec.right_side d (map type_of arguments.now) (header_view header.now))) }
+        (spec.right_side d (map type_of arguments.now) (header_as type_of header.now))) }
 {
     match header {
         Header::Defined(params, right, _) if params.len() == arguments.len() => {
@@ -74,7 +74,7 @@ fn right_side(
 
 // The type parameters of a declaration, each with its place.
 fn params_of(alloc: Global, d: ObjId, params: &[TypeParam]) -> Result<Vec<(ObjId, usize)>, NoMemory>
-    ensures { IfOk result (λ all. all.items ≡ spec.params_from d 0 (map param_view params.now)) }
+    ensures { IfOk result (λ all. all.items ≡ spec.params_from d 0 (map (param_as type_of) params.now)) }
 {
     let mut all = Vec::new(alloc);
     for place in 0..params.len() {
@@ -86,11 +86,11 @@ fn params_of(alloc: Global, d: ObjId, params: &[TypeParam]) -> Result<Vec<(ObjId
 // The constraint of the type parameter at a place of a declaration.
 fn constraint(place: usize, header: &Header) -> Result<Option<Ty>, TermFault>
     ensures next { IfOk result (λ next. option_map type_of next
-        ≡ spec.constraint_of place (header_view header.now)) }
+        ≡ spec.constraint_of place (header_as type_of header.now)) }
     ensures fits { IfOk result (λ next. option_and_then size_fault
-        (spec.constraint_of place (header_view header.now)) ≡ None) }
+        (spec.constraint_of place (header_as type_of header.now)) ≡ None) }
     ensures cause { IfErr result (λ fault. chain.IsReferredCause fault
-        (spec.constraint_of place (header_view header.now))) }
+        (spec.constraint_of place (header_as type_of header.now))) }
 {
     match header {
         Header::Defined(params, _, _) => bound_at(params, place),
@@ -102,11 +102,11 @@ fn constraint(place: usize, header: &Header) -> Result<Option<Ty>, TermFault>
 // The constraint of the type parameter at a place.
 fn bound_at(params: &[TypeParam], place: usize) -> Result<Option<Ty>, TermFault>
     ensures next { IfOk result (λ next. option_map type_of next
-        ≡ option_map (λ p. p.constraint) (slice_get (map param_view params.now) place)) }
+        ≡ option_map (λ p. p.constraint) (slice_get (map (param_as type_of) params.now) place)) }
     ensures fits { IfOk result (λ next. option_and_then size_fault
-        (option_map (λ p. p.constraint) (slice_get (map param_view params.now) place)) ≡ None) }
+        (option_map (λ p. p.constraint) (slice_get (map (param_as type_of) params.now) place)) ≡ None) }
     ensures cause { IfErr result (λ fault. chain.IsReferredCause fault
-        (option_map (λ p. p.constraint) (slice_get (map param_view params.now) place))) }
+        (option_map (λ p. p.constraint) (slice_get (map (param_as type_of) params.now) place))) }
 {
     match params.get(place) {
         Some(param) => Ok(Some(measured(&param.bound)?)),

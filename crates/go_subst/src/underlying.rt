@@ -1,7 +1,7 @@
 // Underlying types (Go specification, "Underlying types").
 ghost use Rattle.std.specs.Prelude.{◌≡◌, ℕ, suc, List, IfErr, IfOk};
 ghost use Rattle.go_term.specs.View.{type_of};
-ghost use Rattle.go_model.specs.Outcomes.Records.{header_view};
+ghost use Rattle.go_model.specs.Outcomes.Records.{header_as};
 ghost use Rattle.go_model.specs.Outcomes.Walk.{Headers};
 ghost use Rattle.go_model.specs.Types.Forms.{IsReachCause, reached_as};
 ghost use Rattle.go_model.specs.Types.Own.{KeepsTypes};
@@ -101,10 +101,10 @@ fn asked<A: Ask>(alloc: Global, ask: &mut A, d: ObjId, here: Ty) -> Result<Turn,
 fn by_header(alloc: Global, header: &Header, here: Ty) -> Result<Turn, TermFault>
     ensures turn { IfOk result (λ turn. (headers : Headers) (n : ℕ) (path : List spec.Origin)
         → run headers (spec.on_with (spec.under_from n path) (type_of here)
-        (chain.referred (type_of here) (header_view header.now)))
+        (chain.referred (type_of here) (header_as type_of header.now)))
         ≡ chain.turn_as headers n path turn) }
     ensures cause { IfErr result (λ fault. chain.IsReferredCause fault
-        (chain.referred (type_of here) (header_view header.now))) }
+        (chain.referred (type_of here) (header_as type_of header.now))) }
 {
     Ok(match referred(alloc, &here, header)? {
         Some(next) => Turn::On(next),

@@ -9,6 +9,7 @@ use Rattle.go_term.specs.declared.basic.Basic.TheVariants.{UntypedInt}
 use Rattle.go_module.specs.declared.object.Method.{Method}
 use Rattle.go_term.specs.Types.{TypeData, basic, basic_type, made, named, no_parts}
 use Rattle.go_term.specs.View.{type_of}
+use Rattle.go_term.specs.declared.term.Term.{Term}
 use Rattle.go_model.specs.declared.header.Header.{Header}
 use Rattle.go_model.specs.declared.header.Header.TheVariants as H
 use Rattle.go_model.specs.declared.header.TypeParam.{TypeParam}
@@ -42,19 +43,30 @@ pub data HeaderData : Type 0 where
   -- an alias: the type for which it stands
   alias : TypeData → HeaderData
 
--- what the values of the program stand for
+-- what the records, type parameters and headers of the program stand for, where a type stands for what `tree` says
+module _ (tree : Term → TypeData) where
+  abbrev pub rec_as : Rec → RecData
+  rec_as r = record { mode = r.mode; type = option_map tree r.ty; value = r.value; object = r.object }
+
+  abbrev pub param_as : TypeParam → ParamData
+  param_as p = record { object = p.object; constraint = tree p.bound }
+
+  abbrev pub header_as : Header → HeaderData
+  header_as (H.Const type value) = constant (tree type) value
+  header_as (H.Var type) = variable (tree type)
+  header_as (H.Func params type) = func (map param_as params.items) (tree type)
+  header_as (H.Defined params right methods) = definition (map param_as params.items) (tree right) methods.items
+  header_as (H.Alias type) = alias (tree type)
+
+-- and where a type stands for the term that it is
 abbrev pub rec_view : Rec → RecData
-rec_view r = record { mode = r.mode; type = option_map type_of r.ty; value = r.value; object = r.object }
+rec_view r = rec_as type_of r
 
 abbrev pub param_view : TypeParam → ParamData
-param_view p = record { object = p.object; constraint = type_of p.bound }
+param_view p = param_as type_of p
 
 abbrev pub header_view : Header → HeaderData
-header_view (H.Const type value) = constant (type_of type) value
-header_view (H.Var type) = variable (type_of type)
-header_view (H.Func params type) = func (map param_view params.items) (type_of type)
-header_view (H.Defined params right methods) = definition (map param_view params.items) (type_of right) methods.items
-header_view (H.Alias type) = alias (type_of type)
+header_view h = header_as type_of h
 
 -- INTEGERS
 

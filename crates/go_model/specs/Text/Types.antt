@@ -1,7 +1,7 @@
 -- Types (Go specification).
 -- The text of types: decides how a type reads, by the objects that the types of a package's lines name.
 use Prim.Native.Char.{code}
-use Rattle.std.specs.Prelude.{ℕ, suc, Bool, true, false, if◌then◌else◌, List, [], ◌∷◌, ◌++◌, find, codes, decimal, slice_get, unwrap_or, Option, Some, None}
+use Rattle.std.specs.Prelude.{ℕ, Bool, true, false, if◌then◌else◌, List, [], ◌∷◌, ◌++◌, find, codes, decimal, slice_get, unwrap_or, Option, Some, None}
 use Rattle.std.specs.List.{flat_map}
 use Rattle.std.specs.Option.{option_map_or}
 use Rattle.go_base.specs.declared.ids.ObjId.{ObjId}
@@ -10,7 +10,7 @@ use Rattle.go_module.specs.Scopes.{same_object}
 use Rattle.go_term.specs.declared.term.Dir.{Dir}
 use Rattle.go_term.specs.declared.term.Dir.TheVariants.{Both, Receive, Send}
 use Rattle.go_term.specs.Basics.{basic_text}
-use Rattle.go_term.specs.Types.{FieldHead, Head, basic, pointer, slice, array, map_type, channel, function, struct_type, interface_type, tuple, named, param, bound, list, field, method, union, union_term, TypeData, Parts, made, no_parts, more_parts}
+use Rattle.go_term.specs.Types.{FieldHead, Head, basic, pointer, slice, array, map_type, channel, function, struct_type, interface_type, tuple, named, param, field, method, union, union_term, TypeData, Parts, made, no_parts, more_parts}
 use Rattle.go_model.specs.Report.{NamedData}
 use Rattle.go_model.specs.Text.Places.{place_text}
 use Rattle.go_model.specs.Text.Strings.{quoted}

@@ -41,7 +41,8 @@ answer_as (Unknown d) = Lacks d.0
 -- the type that an answer has is one of these
 abbrev pub IsOwnForm : (Term → Type 0) → Form → Type 0
 IsOwnForm own (F.Is t) = own t
-IsOwnForm own form = Unit {0}
+IsOwnForm own F.Absent = Unit {0}
+IsOwnForm own (F.Unknown d) = Unit {0}
 
 -- of what was asked, the underlying type
 abbrev pub form_asked : Asked Reach → Asked (Option TypeData)

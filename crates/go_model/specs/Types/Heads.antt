@@ -1,7 +1,7 @@
 -- Type identity; Struct types; Interface types (Go specification).
 -- Decides which heads of types are the same: fields with "the same names, and identical types, and identical tags", and
 -- embedded or not, where "non-exported field names from different packages are always different".
-use Rattle.std.specs.Prelude.{ℕ, ◌==◌, ◌&&◌, Bool, true, false, if◌then◌else◌, List, []}
+use Rattle.std.specs.Prelude.{ℕ, ◌==◌, ◌&&◌, Bool, true, false, List}
 use Rattle.go_term.specs.declared.basic.Basic.{Basic}
 use Rattle.go_term.specs.declared.basic.Basic.TheVariants as B
 use Rattle.go_term.specs.declared.term.Dir.{Dir}

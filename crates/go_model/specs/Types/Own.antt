@@ -1,7 +1,7 @@
 -- The types of a judge: which are its own, and what each stands for.
--- Says what a call of a judge leaves as it was, and which shapes have parts of its own. A judge may come to have further
--- types in a call; those that it had stay, and stand for what they stood for.
-use Rattle.std.specs.Prelude.{◌≡◌, ℕ, Bool, Option, None, Some}
+-- Says what a call of a judge leaves as it was, and which shapes, records, headers and outcomes have types of its own. A
+-- judge may come to have further types in a call; those that it had stay, and stand for what they stood for.
+use Rattle.std.specs.Prelude.{◌≡◌, Bool, IfSome}
 use Rattle.std.specs.List.{AllByRecursion}
 use Rattle.go_term.specs.Types.{TypeData}
 use Rattle.go_term.specs.declared.term.Term.{Term}
@@ -10,8 +10,12 @@ use Rattle.go_term.specs.declared.shape.Shape.TheVariants as S
 use Rattle.go_term.specs.declared.shape.FuncShape.{FuncShape}
 use Rattle.go_term.specs.declared.shape.ElemShape.{ElemShape}
 use Rattle.go_term.specs.declared.shape.ElemShape.TheVariants as E
-use Rattle.go_model.specs.Outcomes.Judged.{OutcomeData}
-use Rattle.go_model.specs.Outcomes.Records.{RecData}
+use Rattle.go_model.specs.declared.header.Header.{Header}
+use Rattle.go_model.specs.declared.header.Header.TheVariants as H
+use Rattle.go_model.specs.declared.header.TypeParam.{TypeParam}
+use Rattle.go_model.specs.declared.outcome.Outcome.{Outcome}
+use Rattle.go_model.specs.declared.outcome.Outcome.TheVariants.{Broken, Found, Nothing, Waits}
+use Rattle.go_model.specs.declared.rec.Rec.{Rec}
 use Rattle.go_model.specs.Outcomes.Walk.{Headers}
 use Rattle.go_model.specs.Outcomes.Walked.{Outcomes}
 use Rattle.go_model.specs.Values.Meaning.{Naming}
@@ -53,3 +57,23 @@ module _ (own : Term → Type 0) where
   AreOwn (S.Named d ts) = AllByRecursion own ts.items
   AreOwn (S.Param d i) = Unit {0}
   AreOwn (S.Bound k) = Unit {0}
+
+  -- the type of a record, those of a header, and that of the record of an outcome
+  abbrev pub IsOwnRec : Rec → Type 0
+  IsOwnRec r = IfSome r.ty own
+
+  abbrev pub IsOwnParam : TypeParam → Type 0
+  IsOwnParam p = own p.bound
+
+  abbrev pub IsOwnHeader : Header → Type 0
+  IsOwnHeader (H.Const type value) = own type
+  IsOwnHeader (H.Var type) = own type
+  IsOwnHeader (H.Func params type) = AllByRecursion IsOwnParam params.items × own type
+  IsOwnHeader (H.Defined params right methods) = AllByRecursion IsOwnParam params.items × own right
+  IsOwnHeader (H.Alias type) = own type
+
+  abbrev pub IsOwnOutcome : Outcome → Type 0
+  IsOwnOutcome (Found rec) = IsOwnRec rec
+  IsOwnOutcome (Broken rule spots) = Unit {0}
+  IsOwnOutcome (Waits d) = Unit {0}
+  IsOwnOutcome Nothing = Unit {0}

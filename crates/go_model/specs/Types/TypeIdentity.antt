@@ -15,7 +15,7 @@ use Rattle.go_model.specs.Types.Forms.{found_in}
 use Rattle.go_model.specs.Types.Heads.{alike, same_head}
 use Rattle.go_model.specs.Types.SetsFit.{method_pairs, sets_fit}
 use Rattle.go_model.specs.Types.TypeSets.{MethodData, SetData, TermData, home_of, plain, set_of}
-use Rattle.go_model.specs.Types.UnderlyingType.{Reach, declared_by, under}
+use Rattle.go_model.specs.Types.UnderlyingType.{declared_by, under}
 use Rattle.go_model.specs.Values.Quests.{Quest, Done, then_ask}
 
 abbrev pub Test : Type 0

@@ -9,7 +9,7 @@ use Rattle.std.specs.Option.{option_map}
 use Rattle.go_base.specs.declared.ids.ObjId.{ObjId}
 use Rattle.go_term.specs.declared.basic.Basic.{Basic}
 use Rattle.go_term.specs.declared.basic.Basic.TheVariants as B
-use Rattle.go_term.specs.Types.{Head, basic, function, interface_type, named, param, list, field, method, union, union_term, FieldHead, MethodHead, TypeData, Parts, made, no_parts, more_parts, basic_type, signature_parts}
+use Rattle.go_term.specs.Types.{Head, basic, function, interface_type, named, param, field, method, union, union_term, MethodHead, TypeData, Parts, made, no_parts, more_parts, basic_type, signature_parts}
 use Rattle.go_module.specs.Names.Exported.{is_exported}
 use Rattle.go_model.specs.Outcomes.Records.{HeaderData}
 use Rattle.go_model.specs.Types.Forms.{found_in}

@@ -1,13 +1,15 @@
 -- The rules that the values of declarations can break.
 -- Decides where the declarations of a package break them: C1, R37, and what the nodes of expressions break (`Outcomes`).
 -- Which declaration waits for which: `Waiting`. Rules on names: `Names` of go_module; on the form of a file: go_form.
-use Rattle.std.specs.Prelude.{ℕ, ◌==◌, ◌&&◌, Bool, not, is_some, Option, List, ◌++◌, length, map}
+use Rattle.std.specs.Prelude.{ℕ, ◌==◌, ◌&&◌, Bool, not, is_some, Option, List, [], ◌++◌, length, map}
 use Rattle.std.specs.List.{flat_map, list_all}
 use Rattle.go_base.specs.declared.rule.Broken.{Broken}
 use Rattle.go_base.specs.declared.rule.Rule.{Rule}
 use Rattle.go_base.specs.declared.rule.Family.TheVariants.{C, R}
 use Rattle.go_tree.specs.Tree.{Tree, start_of}
 use Rattle.go_model.specs.declared.meaning.Meaning.{Meaning}
+use Rattle.go_module.specs.declared.object.ObjKind.{ObjKind}
+use Rattle.go_module.specs.declared.object.ObjKind.TheVariants.{Const}
 use Rattle.go_module.specs.Broken.{broken_at, told_if}
 use Rattle.go_module.specs.Places.{with_number}
 use Rattle.go_module.specs.Modules.Module.{PackageData}
@@ -38,12 +40,16 @@ module _ (outcome : Tree → OutcomeData RecData) where
   abbrev pub broken_by : ℕ → Option ℕ → Tree → List Broken
   broken_by file told t = flat_map (λ node. broken_spots file told node (outcome node)) (nodes_in t)
 
-  -- R37: the spec whose numbers of names and of expressions differ, where all its expressions have records
+  -- R37: the spec of constants whose numbers of names and of expressions differ, where all its expressions have records
   abbrev pub are_unequal_by : List Tree → List Tree → Bool
   are_unequal_by names values = not (length names == length values) && list_all (λ value. is_some (record_by outcome value)) values
 
+  abbrev pub unequal_by_kind : ObjKind → Spec → List Broken
+  unequal_by_kind Const spec = told_if (are_unequal_by spec.names spec.values) (broken_at spec.file (start_of spec.node) unequal_sides)
+  unequal_by_kind kind spec = []
+
   abbrev pub unequal_by : Spec → List Broken
-  unequal_by spec = told_if (are_unequal_by spec.names spec.values) (broken_at spec.file (start_of spec.node) unequal_sides)
+  unequal_by spec = unequal_by_kind spec.kind spec
 
   -- what a spec breaks
   abbrev pub broken_spec_by : Spec → List Broken

@@ -1,8 +1,8 @@
 -- Expressions; Types; Statements (Go specification).
 -- Decides in which parts of a node identifiers occur, and all nodes stand that can have records. In the others they do
 -- not: a name behind a `.`; the name of a field, of a method of an interface, of a parameter or of a type parameter; a
--- tag; a key that is an identifier; a label. No other definition says so. Literals and statements are not built yet:
--- of a key that names no field, and of names that statements declare, this is not yet what Go says.
+-- tag; a key that is an identifier; a label. Which names these are: `Rules/MemberRules`. Literals and statements are not
+-- built yet: of a key that names no field, and of names that statements declare, this is not yet what Go says.
 use Rattle.std.specs.Prelude.{Bool, true, false, not, List, [], ◌∷◌, filter, if◌then◌else◌}
 use Rattle.std.specs.List.{list_any}
 use Rattle.go_tree.specs.declared.node_kind.NodeKind.{NodeKind}

@@ -2,4 +2,5 @@
 pub mod BlockRules
 pub mod ImportRules
 pub mod OccurrenceRules
+pub mod MemberRules
 pub mod BrokenNames

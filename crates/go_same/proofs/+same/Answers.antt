@@ -1,7 +1,9 @@
 use Rattle.std.proofs.Common.{◌≡◌, ◌++◌, ◌+◌, ◌-◌, map, refl, sym, ap, subst, ◌∙◌, arith, ◌<◌, List, Vec, Global, get_or, length}
 use Rattle.std.proofs.lemmas.Result.{IfOk-weaker}
 use Rattle.std.specs.Vec.Iter.{into_iter_items, into_iter_len}
-use Rattle.go_model.specs.Types.Forms.{answer_as, form_as}
+use Rattle.go_term.specs.Types.{TypeData}
+use Rattle.go_model.specs.Types.Forms.{IsOwnForm, answer_as, form_as}
+use Rattle.go_model.specs.Types.Heads.{alike}
 use Rattle.go_model.specs.Types.TypeIdentity.{and_ask, ask_each, fit, interfaces_in, ask_any}
 use Rattle.go_model.specs.Types.TypeSets.{plain}
 use Rattle.go_model.specs.Values.Quests.{Decided, Done, run}
@@ -11,6 +13,7 @@ use Rattle.go_same.specs.MethodOrder.{named_pairs, views_at}
 use Rattle.go_same.specs.Sets.{IsOwnFound, func_type, method_view, set_view, part_view}
 use Rattle.go_same.proofs.KeepLemmas.{keeps_then, set_types}
 use Rattle.go_same.proofs.KeptLemmas.{layer_stays}
+use Rattle.go_same.proofs.KeptPairLemmas.{apart_moved, kept_more, kept_stay, layers_moved, on_ok}
 use Rattle.go_same.proofs.SameLemmas.{and_no, and_other, first_moved, pair_here, pairs_end, pairs_left, pairs_step, pairs_stop, second_moved, types_within}
 use Rattle.go_same.proofs.SameMethodLemmas.{first_here, methods_end, methods_stay, methods_step, methods_stop, rest_moved, second_here, sets_apart, sets_beside, sorted_own, terms_moved, told_named}
 use Rattle.go_same.proofs.+same.Goals as goal
@@ -27,7 +30,7 @@ pub identity::same_pairs-same_interfaces-requires : goal.identity::same_pairs-sa
 identity::same_pairs-same_interfaces-requires g t c κs lives =
     let inv = c.loop-x.invariant in
     let here = pair_here inv.keeps.kept _ _ (c.in-Some.x, c.in-Some.y) c.in-Some.ensures.steps.0 inv.own_left in
-    (omega (arith, c.decreases), (lives, (here.0, here.1)))
+    (omega (arith, c.decreases), (lives, (here.0, (here.1, inv.kept))))
 
 pub identity::same_pairs-loop-x-preserved : goal.identity::same_pairs-loop-x-preserved
 identity::same_pairs-loop-x-preserved g t c =
@@ -35,6 +38,7 @@ identity::same_pairs-loop-x-preserved g t c =
     let opens = c.in-Some.ensures.steps.0 in
     record {
       keeps = keeps_then inv.keeps c.same_interfaces.ensures.keeps;
+      kept = c.in_ok-other.ensures.kept;
       own_left = pairs_left inv.keeps.kept _ _ (c.in-Some.x, c.in-Some.y) opens inv.own_left;
       left = pairs_step inv.keeps.kept _ _ (c.in-Some.x, c.in-Some.y) opens inv.own_left (g.J.Ask.headers c.args.judge.now) (g.J.Ask.headers c.loop-x.judge) inv.keeps.same (bounded.same_interfaces c.args.bounds) _ _ c.in-Yes.is c.in_ok-other.ensures.answer inv.left;
     }
@@ -46,44 +50,78 @@ identity::same_pairs-returns-in_default g t c =
     record {
       answer = pairs_stop inv.keeps.kept _ _ (c.in-Some.x, c.in-Some.y) opens inv.own_left (g.J.Ask.headers c.args.judge.now) (g.J.Ask.headers c.loop-x.judge) inv.keeps.same (bounded.same_interfaces c.args.bounds) c.in_ok-other.other _ c.in_default.not-Yes c.in_ok-other.ensures.answer inv.left;
       keeps = keeps_then inv.keeps c.same_interfaces.ensures.keeps;
+      kept = c.in_ok-other.ensures.kept;
     }
 
 pub identity::same_pairs-returns-clause-answer : goal.identity::same_pairs-returns-clause-answer
 identity::same_pairs-returns-clause-answer g t c =
     pairs_end (g.J.Ask.headers c.args.judge.now) (bounded.same_interfaces c.args.bounds) (g.J.Ask.tree c.args.judge.now) (into_iter_items c.loop-x.x-iterator) (into_iter_len c.loop-x.x-iterator) c.loop-x.x-iterator.rest.ok.0 c.in-None.ensures.steps.0 _ c.loop-x.invariant.left
 
-pub identity::same_interfaces-set_of_layer-requires : goal.identity::same_interfaces-set_of_layer-requires
-identity::same_interfaces-set_of_layer-requires g t c = layer_stays c.alike_layers.ensures.keeps.kept c.args.x c.requires.x_own
+pub interfaces::same_interfaces-same_unlike-requires : goal.interfaces::same_interfaces-same_unlike-requires
+interfaces::same_interfaces-same_unlike-requires g t c κs lives =
+    let kept = c.alike_layers.ensures.keeps.kept in
+    let apart = apart_moved kept c.args.x c.args.y c.requires.x_own c.requires.y_own (sym c.in_ok-alike_layers.ensures.alike ∙ c.if-branch.false) in
+    (omega (arith, c.decreases), (lives, (layer_stays kept c.args.x c.requires.x_own, (layer_stays kept c.args.y c.requires.y_own, (apart, kept_stay c.alike_layers.ensures.keeps c.args.work.now.kept c.requires.kept)))))
 
-pub identity::same_interfaces-same_as-requires : goal.identity::same_interfaces-same_as-requires
-identity::same_interfaces-same_as-requires g t c κs lives =
-    let y_own = layer_stays c.alike_layers.ensures.keeps.kept c.args.y c.requires.y_own in
-    (omega (arith, c.decreases), (lives, (c.in_ok-first.ensures.own, layer_stays c.set_of_layer.ensures.keeps.kept c.args.y y_own)))
+pub interfaces::same_interfaces-returns-clause-answer : goal.interfaces::same_interfaces-returns-clause-answer
+interfaces::same_interfaces-returns-clause-answer g t c =
+    IfOk-weaker c.same_unlike.result _ _ (λ r h. h ∙ layers_moved c.alike_layers.ensures.keeps c.args.bounds c.args.x c.args.y c.requires.x_own c.requires.y_own) c.same_unlike.ensures.answer
 
-pub identity::same_interfaces-returns-clause-answer : goal.identity::same_interfaces-returns-clause-answer
-identity::same_interfaces-returns-clause-answer g t c =
-    let before = c.alike_layers.ensures.keeps in
-    let here = c.set_of_layer.ensures.keeps in
-    IfOk-weaker c.same_as.result _ _ (λ r h. h ∙ first_moved before.kept here.kept (g.J.Ask.headers c.args.judge.now) (g.J.Ask.headers c.alike_layers.new.judge) (g.J.Ask.headers c.set_of_layer.new.judge) before.same here.same c.args.bounds c.args.x c.args.y c.requires.x_own c.requires.y_own c.in_ok-first.first (sym c.in_ok-alike_layers.ensures.alike ∙ c.if-branch.false) c.in_ok-first.ensures.answer) c.same_as.ensures.answer
+pub interfaces::same_unlike-returns-then-branch-clause-answer : goal.interfaces::same_unlike-returns-then-branch-clause-answer
+interfaces::same_unlike-returns-then-branch-clause-answer g t c = sym (c.in_ok-is_kept.ensures.told c.if-branch.true)
 
-pub identity::same_as-same_as_set-requires : goal.identity::same_as-same_as_set-requires
-identity::same_as-same_as_set-requires g t c κs lives =
-    let kept = c.set_of_layer.ensures.keeps.kept in
+pub interfaces::same_unlike-same_anew-requires : goal.interfaces::same_unlike-same_anew-requires
+interfaces::same_unlike-same_anew-requires g t c κs lives =
+    let kept = c.is_kept.ensures.keeps.kept in
+    let apart = apart_moved kept c.args.x c.args.y c.requires.x_own c.requires.y_own c.requires.apart in
+    (omega (arith, c.decreases), (lives, (layer_stays kept c.args.x c.requires.x_own, (layer_stays kept c.args.y c.requires.y_own, (apart, kept_stay c.is_kept.ensures.keeps c.args.work.now.kept c.requires.kept)))))
+
+pub interfaces::same_unlike-returns-clause-answer : goal.interfaces::same_unlike-returns-clause-answer
+interfaces::same_unlike-returns-clause-answer g t c =
+    IfOk-weaker c.same_anew.result _ _ (λ r h. h ∙ layers_moved c.is_kept.ensures.keeps c.args.bounds c.args.x c.args.y c.requires.x_own c.requires.y_own) c.same_anew.ensures.answer
+
+pub interfaces::same_anew-same_and_kept-requires : goal.interfaces::same_anew-same_and_kept-requires
+interfaces::same_anew-same_and_kept-requires g t c κs lives =
+    let made = c.in_ok-a.ensures in
+    let apart = ap (λ (p : TypeData × TypeData). alike p.0 p.1) made.types ∙ c.requires.apart in
+    (omega (arith, c.decreases), (lives, (made.a_own, (made.b_own, (apart, (made.layers_own, (made.layers ∙ sym made.types, kept_stay c.both_typed.ensures.keeps c.args.work.now.kept c.requires.kept)))))))
+
+pub interfaces::same_anew-returns-clause-answer : goal.interfaces::same_anew-returns-clause-answer
+interfaces::same_anew-returns-clause-answer g t c =
+    let made = c.in_ok-a.ensures in
+    IfOk-weaker c.same_and_kept.result _ _ (λ r h. h ∙ (λ j. run (c.both_typed.ensures.keeps.same j) (bounded.same_interfaces c.args.bounds (made.types j)))) c.same_and_kept.ensures.answer
+
+pub interfaces::same_and_kept-returns-in_ok-keep-in-Yes-clause-kept : goal.interfaces::same_and_kept-returns-in_ok-keep-in-Yes-clause-kept
+interfaces::same_and_kept-returns-in_ok-keep-in-Yes-clause-kept g t c =
+    kept_more c.same_by_sets.ensures.keeps c.args.bounds c.args.layers c.requires.layers_own _ c.requires.layers (sym (ap answer_as c.in-Yes.is) ∙ c.in_ok-other.ensures.answer) c.same_by_sets.new.work.kept.pairs.items _ c.in_ok-other.ensures.kept c.in_ok-keep-in-Yes.ensures
+
+pub interfaces::same_by_sets-same_as-requires : goal.interfaces::same_by_sets-same_as-requires
+interfaces::same_by_sets-same_as-requires g t c κs lives =
+    (omega (arith, c.decreases), (lives, (c.in_ok-first.ensures.own, (c.set_of.ensures.keeps.kept.types c.args.b c.requires.b_own, kept_stay c.set_of.ensures.keeps c.args.work.now.kept c.requires.kept))))
+
+pub interfaces::same_by_sets-returns-clause-answer : goal.interfaces::same_by_sets-returns-clause-answer
+interfaces::same_by_sets-returns-clause-answer g t c =
+    let here = c.set_of.ensures.keeps in
+    IfOk-weaker c.same_as.result _ _ (λ r h. h ∙ first_moved here.kept (g.J.Ask.headers c.args.judge.now) (g.J.Ask.headers c.set_of.new.judge) here.same c.args.bounds c.in_ok-first.first c.args.a c.args.b c.requires.b_own c.requires.apart c.in_ok-first.ensures.answer) c.same_as.ensures.answer
+
+pub interfaces::same_as-same_as_set-requires : goal.interfaces::same_as-same_as_set-requires
+interfaces::same_as-same_as_set-requires g t c κs lives =
+    let keeps = c.set_of.ensures.keeps in
     let owned = subst (IsOwnFound (g.J.Ask.is_type c.args.judge.now)) c.in-Is.is c.requires.first_own in
-    (omega (arith, c.decreases), (lives, (set_types kept c.in-Is.s owned, c.in_ok-second-in-Is.ensures.own)))
+    (omega (arith, c.decreases), (lives, (set_types keeps.kept c.in-Is.s owned, (c.in_ok-second-in-Is.ensures.own, kept_stay keeps c.args.work.now.kept c.requires.kept))))
 
-pub identity::same_as-returns-in_ok-second-in-Is-clause-answer : goal.identity::same_as-returns-in_ok-second-in-Is-clause-answer
-identity::same_as-returns-in_ok-second-in-Is-clause-answer g t c =
-    let keeps = c.set_of_layer.ensures.keeps in
+pub interfaces::same_as-returns-in_ok-second-in-Is-clause-answer : goal.interfaces::same_as-returns-in_ok-second-in-Is-clause-answer
+interfaces::same_as-returns-in_ok-second-in-Is-clause-answer g t c =
+    let keeps = c.set_of.ensures.keeps in
     let owned = subst (IsOwnFound (g.J.Ask.is_type c.args.judge.now)) c.in-Is.is c.requires.first_own in
-    IfOk-weaker c.same_as_set.result _ _ (λ r h. h ∙ second_moved keeps.kept (g.J.Ask.headers c.args.judge.now) (g.J.Ask.headers c.set_of_layer.new.judge) keeps.same c.args.bounds c.args.first c.in_ok-second-in-Is.second c.in-Is.s c.args.y c.in-Is.is owned c.in_ok-second-in-Is.ensures.answer) c.same_as_set.ensures.answer
+    IfOk-weaker c.same_as_set.result _ _ (λ r h. h ∙ second_moved keeps.kept (g.J.Ask.headers c.args.judge.now) (g.J.Ask.headers c.set_of.new.judge) keeps.same c.args.bounds c.args.first c.in_ok-second-in-Is.second c.in-Is.s c.args.b c.in-Is.is owned c.in_ok-second-in-Is.ensures.answer) c.same_as_set.ensures.answer
 
 pub identity::same_sets-same_fitting-requires : goal.identity::same_sets-same_fitting-requires
 identity::same_sets-same_fitting-requires g t c κs lives =
     let own = g.J.Ask.is_type c.args.judge.now in
     let first = sorted_own own c.args.s c.sort_methods.new.methods c.sort_methods.ensures.same c.requires.s_own in
     let second = sorted_own own c.args.t c.sort_methods-2.new.methods c.sort_methods-2.ensures.same c.requires.t_own in
-    (omega (arith, c.decreases), (lives, (first, (second, (c.in_ok-sort_methods.ensures.sorted, c.in_ok-sort_methods-2.ensures.sorted)))))
+    (omega (arith, c.decreases), (lives, (first, (second, (c.in_ok-sort_methods.ensures.sorted, (c.in_ok-sort_methods-2.ensures.sorted, c.requires.kept))))))
 
 pub identity::same_sets-returns-then-not-sets_fit-clause-answer : goal.identity::same_sets-returns-then-not-sets_fit-clause-answer
 identity::same_sets-returns-then-not-sets_fit-clause-answer g t c =
@@ -102,6 +140,7 @@ identity::same_fitting-returns g t c =
     record {
       answer = and_other (g.J.Ask.headers c.args.judge.now) c.in_ok-other.other _ (bounded.same_terms c.args.bounds (set_view tree c.args.s.now) (set_view tree c.args.t.now)) c.in_default.not-Yes told;
       keeps = c.same_methods_all.ensures.keeps;
+      kept = c.in_ok-other.ensures.kept;
     }
 
 pub identity::same_fitting-returns-in-Yes-clause-answer : goal.identity::same_fitting-returns-in-Yes-clause-answer
@@ -125,7 +164,7 @@ identity::same_methods_all-returns-then-not-branch-clause-answer g t c other =
 pub identity::same_methods_all-same_methods-requires : goal.identity::same_methods_all-same_methods-requires
 identity::same_methods_all-same_methods-requires g t c κs lives =
     let kept = c.methods_fit.ensures.keeps.kept in
-    (omega (arith, c.decreases), (lives, (methods_stay kept c.args.ms.now c.requires.m_own, (methods_stay kept c.args.ns.now c.requires.n_own, c.requires.in_range))))
+    (omega (arith, c.decreases), (lives, (methods_stay kept c.args.ms.now c.requires.m_own, (methods_stay kept c.args.ns.now c.requires.n_own, (c.requires.in_range, kept_stay c.methods_fit.ensures.keeps c.args.work.now.kept c.requires.kept)))))
 
 pub identity::same_methods_all-returns-clause-answer : goal.identity::same_methods_all-returns-clause-answer
 identity::same_methods_all-returns-clause-answer g t c =
@@ -137,13 +176,14 @@ identity::same_methods-same_method-requires g t c κs lives =
     let kept = c.loop-i.invariant.keeps.kept in
     let first = first_here c.args.pairs.now c.loop-i.i-index c.loop-i-test.true kept c.args.ms.now c.args.ns.now c.requires.in_range c.index-ms-i.result c.index-ns-k.result c.index-ms-i.is c.index-ns-k.is c.requires.m_own c.requires.n_own in
     let second = second_here c.args.pairs.now c.loop-i.i-index c.loop-i-test.true kept c.args.ms.now c.args.ns.now c.requires.in_range c.index-ms-i.result c.index-ns-k.result c.index-ms-i.is c.index-ns-k.is c.requires.m_own c.requires.n_own in
-    (omega (arith, c.decreases), (lives, (first, second)))
+    (omega (arith, c.decreases), (lives, (first, (second, c.loop-i.invariant.kept))))
 
 pub identity::same_methods-loop-i-preserved : goal.identity::same_methods-loop-i-preserved
 identity::same_methods-loop-i-preserved g t c =
     let inv = c.loop-i.invariant in
     record {
       keeps = keeps_then inv.keeps c.same_method.ensures.keeps;
+      kept = c.in_ok-other.ensures.kept;
       left = λ other. methods_step c.args.pairs.now c.loop-i.i-index c.loop-i-test.true inv.keeps.kept c.args.ms.now c.args.ns.now c.requires.in_range c.index-ms-i.result c.index-ns-k.result c.index-ms-i.is c.index-ns-k.is c.requires.m_own c.requires.n_own (g.J.Ask.headers c.args.judge.now) (g.J.Ask.headers c.loop-i.judge) inv.keeps.same (bounded.same_methods c.args.bounds) other _ _ c.in-Yes.is c.in_ok-other.ensures.answer (inv.left other);
     }
 
@@ -153,6 +193,7 @@ identity::same_methods-returns-in_default g t c =
     record {
       answer = λ other. methods_stop c.args.pairs.now c.loop-i.i-index c.loop-i-test.true inv.keeps.kept c.args.ms.now c.args.ns.now c.requires.in_range c.index-ms-i.result c.index-ns-k.result c.index-ms-i.is c.index-ns-k.is c.requires.m_own c.requires.n_own (g.J.Ask.headers c.args.judge.now) (g.J.Ask.headers c.loop-i.judge) inv.keeps.same (bounded.same_methods c.args.bounds) other c.in_ok-other.other _ c.in_default.not-Yes c.in_ok-other.ensures.answer (inv.left other);
       keeps = keeps_then inv.keeps c.same_method.ensures.keeps;
+      kept = c.in_ok-other.ensures.kept;
     }
 
 pub identity::same_methods-returns-clause-answer : goal.identity::same_methods-returns-clause-answer
@@ -180,6 +221,7 @@ within::terms_lie-loop-u-preserved g t c =
     let told = c.in_ok-other.ensures.answer ∙ union-moved inv.keeps.kept (g.J.Ask.headers c.args.judge.now) (g.J.Ask.headers c.loop-u.judge) inv.keeps.same c.args.bounds c.deref.result.now c.u-item.result.items c.deref.ensures.value c.args.s.now c.args.t.now mine.0 c.requires.s_own c.requires.t_own in
     record {
       keeps = keeps_then inv.keeps here;
+      kept = c.in_ok-other.ensures.kept;
       own_left = mine.1;
       left = flat-next (g.J.Ask.headers c.args.judge.now) c.args.s.now.unions.items c.loop-u.u-index _ c.u-item.result within at c.in_ok-other.other (bounded.term_lies c.args.bounds (set_view (g.J.Ask.tree c.args.judge.now) c.args.s.now) (set_view (g.J.Ask.tree c.args.judge.now) c.args.t.now)) (λ u. map (part_view (g.J.Ask.tree c.args.judge.now)) u.items) c.in-Yes.is told inv.left;
     }
@@ -195,6 +237,7 @@ within::terms_lie-returns-in_default g t c =
     record {
       answer = flat-ends (g.J.Ask.headers c.args.judge.now) c.args.s.now.unions.items c.loop-u.u-index _ c.u-item.result within at c.in_ok-other.other (bounded.term_lies c.args.bounds (set_view (g.J.Ask.tree c.args.judge.now) c.args.s.now) (set_view (g.J.Ask.tree c.args.judge.now) c.args.t.now)) (λ u. map (part_view (g.J.Ask.tree c.args.judge.now)) u.items) c.in_default.not-Yes told inv.left;
       keeps = keeps_then inv.keeps here;
+      kept = c.in_ok-other.ensures.kept;
     }
 
 pub within::union_lies-loop-a-preserved : goal.within::union_lies-loop-a-preserved
@@ -205,6 +248,7 @@ within::union_lies-loop-a-preserved g t c =
     let told = c.in_ok-other.ensures.answer ∙ term-moved inv.keeps.kept (g.J.Ask.headers c.args.judge.now) (g.J.Ask.headers c.loop-a.judge) inv.keeps.same c.args.bounds c.a-item.result c.args.s.now c.args.t.now mine.0 c.requires.s_own c.requires.t_own in
     record {
       keeps = keeps_then inv.keeps here;
+      kept = c.in_ok-other.ensures.kept;
       own_left = mine.1;
       left = each-next (g.J.Ask.headers c.args.judge.now) c.args.u.now c.loop-a.a-index _ c.a-item.result c.loop-a-test.true c.a-item.is c.in_ok-other.other (bounded.term_lies c.args.bounds (set_view (g.J.Ask.tree c.args.judge.now) c.args.s.now) (set_view (g.J.Ask.tree c.args.judge.now) c.args.t.now)) (part_view (g.J.Ask.tree c.args.judge.now)) c.in-Yes.is told inv.left;
     }
@@ -218,6 +262,7 @@ within::union_lies-returns-in_default g t c =
     record {
       answer = each-ends (g.J.Ask.headers c.args.judge.now) c.args.u.now c.loop-a.a-index _ c.a-item.result c.loop-a-test.true c.a-item.is c.in_ok-other.other (bounded.term_lies c.args.bounds (set_view (g.J.Ask.tree c.args.judge.now) c.args.s.now) (set_view (g.J.Ask.tree c.args.judge.now) c.args.t.now)) (part_view (g.J.Ask.tree c.args.judge.now)) c.in_default.not-Yes told inv.left;
       keeps = keeps_then inv.keeps here;
+      kept = c.in_ok-other.ensures.kept;
     }
 
 pub within::lies_in-loop-u-preserved : goal.within::lies_in-loop-u-preserved
@@ -228,6 +273,7 @@ within::lies_in-loop-u-preserved g t c =
     let told = c.in_ok-other.ensures.answer ∙ any-moved inv.keeps.kept (g.J.Ask.headers c.args.judge.now) (g.J.Ask.headers c.loop-u.judge) inv.keeps.same c.args.bounds c.deref.result.now c.u-item.result.items c.deref.ensures.value c.args.a.now mine.0 c.requires.a_own in
     record {
       keeps = keeps_then inv.keeps here;
+      kept = c.in_ok-other.ensures.kept;
       own_left = mine.1;
       left = each-next (g.J.Ask.headers c.args.judge.now) c.args.unions.now c.loop-u.u-index _ c.u-item.result c.loop-u-test.true c.u-item.is c.in_ok-other.other (λ u. ask_any (bounded.lies_within c.args.bounds (part_view (g.J.Ask.tree c.args.judge.now) c.args.a.now)) u) (λ u. map (part_view (g.J.Ask.tree c.args.judge.now)) u.items) c.in-Yes.is told inv.left;
     }
@@ -241,6 +287,7 @@ within::lies_in-returns-in_default g t c =
     record {
       answer = each-ends (g.J.Ask.headers c.args.judge.now) c.args.unions.now c.loop-u.u-index _ c.u-item.result c.loop-u-test.true c.u-item.is c.in_ok-other.other (λ u. ask_any (bounded.lies_within c.args.bounds (part_view (g.J.Ask.tree c.args.judge.now) c.args.a.now)) u) (λ u. map (part_view (g.J.Ask.tree c.args.judge.now)) u.items) c.in_default.not-Yes told inv.left;
       keeps = keeps_then inv.keeps here;
+      kept = c.in_ok-other.ensures.kept;
     }
 
 pub within::lies_in_union-loop-b-preserved : goal.within::lies_in_union-loop-b-preserved
@@ -251,6 +298,7 @@ within::lies_in_union-loop-b-preserved g t c =
     let told = c.in_ok-other.ensures.answer ∙ within-moved inv.keeps.kept (g.J.Ask.headers c.args.judge.now) (g.J.Ask.headers c.loop-b.judge) inv.keeps.same c.args.bounds c.args.a.now c.b-item.result c.requires.a_own mine.0 in
     record {
       keeps = keeps_then inv.keeps here;
+      kept = c.in_ok-other.ensures.kept;
       own_left = mine.1;
       left = any-next (g.J.Ask.headers c.args.judge.now) c.args.u.now c.loop-b.b-index _ c.b-item.result c.loop-b-test.true c.b-item.is c.in_ok-other.other (bounded.lies_within c.args.bounds (part_view (g.J.Ask.tree c.args.judge.now) c.args.a.now)) (part_view (g.J.Ask.tree c.args.judge.now)) c.in-No.is told inv.left;
     }
@@ -264,6 +312,7 @@ within::lies_in_union-returns-in_default g t c =
     record {
       answer = any-ends (g.J.Ask.headers c.args.judge.now) c.args.u.now c.loop-b.b-index _ c.b-item.result c.loop-b-test.true c.b-item.is c.in_ok-other.other (bounded.lies_within c.args.bounds (part_view (g.J.Ask.tree c.args.judge.now) c.args.a.now)) (part_view (g.J.Ask.tree c.args.judge.now)) c.in_default.not-No told inv.left;
       keeps = keeps_then inv.keeps here;
+      kept = c.in_ok-other.ensures.kept;
     }
 
 pub within::same_terms-returns-in-Yes-clause-answer : goal.within::same_terms-returns-in-Yes-clause-answer
@@ -277,6 +326,7 @@ within::same_terms-returns-in_default g t c =
     record {
       answer = and-other (g.J.Ask.headers c.args.judge.now) (bounded.terms_lie c.args.bounds (set_view (g.J.Ask.tree c.args.judge.now) c.args.s.now) (set_view (g.J.Ask.tree c.args.judge.now) c.args.t.now)) (bounded.terms_lie c.args.bounds (set_view (g.J.Ask.tree c.args.judge.now) c.args.t.now) (set_view (g.J.Ask.tree c.args.judge.now) c.args.s.now)) c.in_ok-other.other c.in_default.not-Yes c.in_ok-other.ensures.answer;
       keeps = c.in_ok-other.ensures.keeps;
+      kept = c.in_ok-other.ensures.kept;
     }
 
 pub within::term_lies-returns-in-Yes-clause-answer : goal.within::term_lies-returns-in-Yes-clause-answer
@@ -338,6 +388,7 @@ one_type::same_apart-returns-in_default g t c =
     record {
       answer = and-other (g.J.Ask.headers c.args.judge.now) (bounded.behind c.args.bounds opened first second) (bounded.same_declared c.args.bounds (opened + 2) first second) c.in_ok-other.other c.in_default.not-Yes c.in_ok-other.ensures.answer;
       keeps = c.in_ok-other.ensures.keeps;
+      kept = c.in_ok-other.ensures.kept;
     }
 
 pub one_type::same_underlying-returns-in-Is-clause-answer : goal.one_type::same_underlying-returns-in-Is-clause-answer
@@ -354,3 +405,78 @@ one_type::same_underlying-returns-in-Absent-clause-answer g t c =
 pub one_type::same_underlying-returns-in-Unknown-clause-answer : goal.one_type::same_underlying-returns-in-Unknown-clause-answer
 one_type::same_underlying-returns-in-Unknown-clause-answer g t c =
     both-found (g.J.Ask.headers c.args.judge.now) c.args.bounds c.args.opened (plain (g.J.Ask.tree c.args.judge.now c.args.a.now)) (g.J.Ask.tree c.args.judge.now c.args.b.now) _ (ap (form_as (g.J.Ask.tree c.underlying.new.self)) (sym c.in-Unknown.is) ∙ c.in_ok-v.ensures.answer)
+
+-- PAIRS THAT ARE KEPT, over a judge that has gone on
+
+pub identity::same_funcs-returns-then-bounds-eq0-clause-kept : goal.identity::same_funcs-returns-then-bounds-eq0-clause-kept
+identity::same_funcs-returns-then-bounds-eq0-clause-kept g t c = on_ok c.funcs_by_form.result _ (kept_stay c.funcs_by_form.ensures.keeps c.args.work.now.kept c.requires.kept)
+
+pub identity::same_method-returns-in-None-clause-kept : goal.identity::same_method-returns-in-None-clause-kept
+identity::same_method-returns-in-None-clause-kept g t c = on_ok c.funcs_by_form.result _ (kept_stay c.funcs_by_form.ensures.keeps c.args.work.now.kept c.requires.kept)
+
+pub within::same_behind-returns-in-None-clause-kept : goal.within::same_behind-returns-in-None-clause-kept
+within::same_behind-returns-in-None-clause-kept g t c = on_ok c.types_by_form.result _ (kept_stay c.types_by_form.ensures.keeps c.args.work.now.kept c.requires.kept)
+
+pub within::same_types-returns-then-bounds-eq0-clause-kept : goal.within::same_types-returns-then-bounds-eq0-clause-kept
+within::same_types-returns-then-bounds-eq0-clause-kept g t c = on_ok c.types_by_form.result _ (kept_stay c.types_by_form.ensures.keeps c.args.work.now.kept c.requires.kept)
+
+pub identity::same_funcs-returns-then-not-branch-clause-kept : goal.identity::same_funcs-returns-then-not-branch-clause-kept
+identity::same_funcs-returns-then-not-branch-clause-kept g t c = kept_stay c.outline_funcs.ensures.keeps c.args.work.now.kept c.requires.kept
+
+pub identity::same_methods_all-returns-then-not-branch-clause-kept : goal.identity::same_methods_all-returns-then-not-branch-clause-kept
+identity::same_methods_all-returns-then-not-branch-clause-kept g t c = kept_stay c.methods_fit.ensures.keeps c.args.work.now.kept c.requires.kept
+
+pub interfaces::same_interfaces-returns-then-branch-clause-kept : goal.interfaces::same_interfaces-returns-then-branch-clause-kept
+interfaces::same_interfaces-returns-then-branch-clause-kept g t c = kept_stay c.alike_layers.ensures.keeps c.args.work.now.kept c.requires.kept
+
+pub interfaces::same_unlike-returns-then-branch-clause-kept : goal.interfaces::same_unlike-returns-then-branch-clause-kept
+interfaces::same_unlike-returns-then-branch-clause-kept g t c = kept_stay c.is_kept.ensures.keeps c.args.work.now.kept c.requires.kept
+
+pub within::same_types-returns-then-not-branch-clause-kept : goal.within::same_types-returns-then-not-branch-clause-kept
+within::same_types-returns-then-not-branch-clause-kept g t c = kept_stay c.outline.ensures.keeps c.args.work.now.kept c.requires.kept
+
+pub within::has_underlying-returns-in-Absent-clause-kept : goal.within::has_underlying-returns-in-Absent-clause-kept
+within::has_underlying-returns-in-Absent-clause-kept g t c = kept_stay c.in_ok-u.ensures.keeps c.args.work.now.kept c.requires.kept
+
+pub within::has_underlying-returns-in-Unknown-clause-kept : goal.within::has_underlying-returns-in-Unknown-clause-kept
+within::has_underlying-returns-in-Unknown-clause-kept g t c = kept_stay c.in_ok-u.ensures.keeps c.args.work.now.kept c.requires.kept
+
+pub one_type::same_term-returns-then-branch-clause-kept : goal.one_type::same_term-returns-then-branch-clause-kept
+one_type::same_term-returns-then-branch-clause-kept g t c = kept_stay c.alike.ensures.keeps c.args.work.now.kept c.requires.kept
+
+pub one_type::same_declared-returns-else-branch-clause-kept : goal.one_type::same_declared-returns-else-branch-clause-kept
+one_type::same_declared-returns-else-branch-clause-kept g t c = kept_stay c.is_declared.ensures.keeps c.args.work.now.kept c.requires.kept
+
+pub one_type::same_underlying-returns-in-Absent-clause-kept : goal.one_type::same_underlying-returns-in-Absent-clause-kept
+one_type::same_underlying-returns-in-Absent-clause-kept g t c = kept_stay c.in_ok-v.ensures.keeps c.args.work.now.kept c.requires.kept
+
+pub one_type::same_underlying-returns-in-Unknown-clause-kept : goal.one_type::same_underlying-returns-in-Unknown-clause-kept
+one_type::same_underlying-returns-in-Unknown-clause-kept g t c = kept_stay c.in_ok-v.ensures.keeps c.args.work.now.kept c.requires.kept
+
+pub identity::same_funcs-same_pairs-requires : goal.identity::same_funcs-same_pairs-requires
+identity::same_funcs-same_pairs-requires g t c κs lives =
+    (omega (arith, c.decreases, c.if-bounds-eq0.false), (lives, (c.outline_funcs.ensures.pairs_own, kept_stay c.outline_funcs.ensures.keeps c.args.work.now.kept c.requires.kept)))
+
+pub within::same_types-same_pairs-requires : goal.within::same_types-same_pairs-requires
+within::same_types-same_pairs-requires g t c κs lives =
+    (omega (arith, c.decreases, c.if-bounds-eq0.false), (lives, (c.outline.ensures.pairs_own, kept_stay c.outline.ensures.keeps c.args.work.now.kept c.requires.kept)))
+
+pub within::has_underlying-same_behind-requires : goal.within::has_underlying-same_behind-requires
+within::has_underlying-same_behind-requires g t c κs lives =
+    let keeps = c.in_ok-u.ensures.keeps in
+    (omega (arith, c.decreases), (lives, (subst (IsOwnForm (g.J.Ask.is_type c.underlying.new.self)) c.in-Is.is c.in_ok-u.ensures.own, (keeps.kept.types c.args.b.now c.requires.b_own, kept_stay keeps c.args.work.now.kept c.requires.kept))))
+
+pub one_type::same_underlying-has_underlying-requires : goal.one_type::same_underlying-has_underlying-requires
+one_type::same_underlying-has_underlying-requires g t c κs lives =
+    let keeps = c.in_ok-v.ensures.keeps in
+    (omega (arith, c.decreases), (lives, (keeps.kept.types c.args.a.now c.requires.a_own, (subst (IsOwnForm (g.J.Ask.is_type c.underlying.new.self)) c.in-Is.is c.in_ok-v.ensures.own, kept_stay keeps c.args.work.now.kept c.requires.kept))))
+
+pub one_type::same_term-same_apart-requires : goal.one_type::same_term-same_apart-requires
+one_type::same_term-same_apart-requires g t c κs lives =
+    let keeps = c.alike.ensures.keeps in
+    (omega (arith, c.decreases), (lives, (keeps.kept.types c.args.a.now.ty c.requires.a_own, (keeps.kept.types c.args.b.now.ty c.requires.b_own, kept_stay keeps c.args.work.now.kept c.requires.kept))))
+
+pub one_type::same_declared-same_underlying-requires : goal.one_type::same_declared-same_underlying-requires
+one_type::same_declared-same_underlying-requires g t c κs lives =
+    let keeps = c.is_declared.ensures.keeps in
+    (omega (arith, c.decreases), (lives, (keeps.kept.types c.args.a.now c.requires.a_own, (keeps.kept.types c.args.b.now c.requires.b_own, kept_stay keeps c.args.work.now.kept c.requires.kept))))

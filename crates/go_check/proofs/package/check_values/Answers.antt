@@ -14,7 +14,7 @@ use Rattle.go_model.specs.Values.HeadersView.{headers_view}
 use Rattle.go_model.specs.Values.Meaning.{AreThere, meaning_by, meaning_in, names_in}
 use Rattle.go_expr.specs.Walker.{outcomes_view}
 use Rattle.go_decl.specs.Broken.{AreBroken}
-use Rattle.go_decl.proofs.ListLemmas.{viewed_at}
+use Rattle.go_decl.proofs.ListLemmas.{on_ok, viewed_at}
 use Rattle.go_check.specs.Packages.Book.{Standing, book_names, names_at}
 use Rattle.go_check.proofs.VerdictLemmas.{breaks}
 use Rattle.go_check.proofs.package.check_values.Goals as goal
@@ -50,6 +50,9 @@ returns-clause-verdict g c =
     subst (λ (q : PackageData). book_names after.judge ≡ names_in m k q → AreWalked (meaning_in m k q) headers (nodes_of q) (outcomes_view after.walker) → BreaksValues m k q before headers c.deref.result.now → IsVerdict m k q before (verdict_view verdict) headers) same
     (is m k before headers outline) (c.rounds.ensures.names ∙ named) walked (subst (BreaksValues m k p before headers) (sym c.deref.ensures.value) found))
     c.verdict_by.ensures
+
+pub returns-clause-known : goal.returns-clause-known
+returns-clause-known g c = on_ok c.verdict_by.result _ c.in_ok-list.ensures.known
 
 pub returns-clause-module : goal.returns-clause-module
 returns-clause-module g c = ap (λ (s : Standing). s.«module») (c.rounds.ensures.world ∙ c.enter.ensures.standing)

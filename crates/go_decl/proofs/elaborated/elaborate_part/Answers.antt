@@ -21,7 +21,7 @@ pub returns-clause-header : goal.returns-clause-header
 returns-clause-header g c =
     let declaration = (part_view c.args.part.now).declaration in
     let same = header_same (meaning_by (g.R.Ask.names c.args.rules.now)) (g.R.Ask.headers c.args.rules.now) (g.R.Ask.outcomes c.walk_parts.new.walks) (nodes_under declaration) (nodes_walked g c) declaration (λ t h. h) in
-    rw same at c.in_ok-header.ensures
+    rw same at c.in_ok-header.ensures.header
 
 pub returns-clause-broken : goal.returns-clause-broken
 returns-clause-broken g c =

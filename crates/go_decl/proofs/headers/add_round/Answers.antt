@@ -5,8 +5,9 @@ use Rattle.go_base.specs.declared.ids.ObjId.{ObjId}
 use Rattle.go_module.specs.Scopes.{same_object}
 use Rattle.go_model.specs.declared.meaning.Meaning.{Meaning}
 use Rattle.go_model.specs.Outcomes.Walk.{Headers}
-use Rattle.go_model.specs.Values.HeadersView.{headers_view}
+use Rattle.go_model.specs.Values.HeadersView.{headers_as}
 use Rattle.go_model.specs.Values.Meaning.{meaning_by}
+use Rattle.go_model.proofs.OwnLemmas.{types_then}
 use Rattle.go_names.specs.Views.{declaration_view, declarations_view}
 use Rattle.go_expr.proofs.ResultLemmas.{on_err}
 use Rattle.go_decl.specs.Rounds.{IsBacked, IsSettled, open_in}
@@ -30,8 +31,10 @@ loop-place-preserved g c =
           record {
             backed = backed;
             known = did.known;
+            own = c.add_one.ensures.own;
             names = c.add_one.ensures.names ∙ inv.names;
             world = c.add_one.ensures.world ∙ inv.world;
+            types = types_then inv.types c.add_one.ensures.types;
             fewer = λ _. omega (arith, inv.no_more, less);
             no_more = omega (arith, inv.no_more, less);
             settled = λ e. absurd (cc (w.added-is, e));
@@ -40,8 +43,10 @@ loop-place-preserved g c =
           record {
             backed = backed;
             known = did.known;
+            own = c.add_one.ensures.own;
             names = c.add_one.ensures.names ∙ inv.names;
             world = c.add_one.ensures.world ∙ inv.world;
+            types = types_then inv.types c.add_one.ensures.types;
             fewer = λ e. subst (λ (m : Headers). open_in m declarations < open_in old declarations) (sym same) (inv.fewer (sym w.added-is ∙ e));
             no_more = subst (λ (m : Headers). open_in m declarations ≤ open_in old declarations) (sym same) inv.no_more;
             settled = λ e. below_more (λ n. (d : ObjId) → lookup (same_object d) c.args.places.now.entries ≡ Some n → IsSettled after means declarations after d.0) c.loop-place.place
@@ -72,5 +77,5 @@ returns-clause-known g c = c.loop-place.invariant.known
 pub returns-in_err-add_one-clause-kept : goal.returns-in_err-add_one-clause-kept
 returns-in_err-add_one-clause-kept g c =
     on_err c.from_residual.result _
-    (backed_twice (g.R.Ask.headers c.args.rules.now) (meaning_by (g.R.Ask.names c.args.rules.now)) (declarations_view c.args.declarations.now) (g.R.Ask.headers c.loop-place.rules) (headers_view c.add_one.new.known) (meaning_by (g.R.Ask.names c.loop-place.rules))
+    (backed_twice (g.R.Ask.headers c.args.rules.now) (meaning_by (g.R.Ask.names c.args.rules.now)) (declarations_view c.args.declarations.now) (g.R.Ask.headers c.loop-place.rules) (headers_as (g.R.Ask.tree c.add_one.new.rules) c.add_one.new.known) (meaning_by (g.R.Ask.names c.loop-place.rules))
     (ap meaning_by c.loop-place.invariant.names) c.loop-place.invariant.backed c.in_err-add_one.ensures.kept)

@@ -1,7 +1,8 @@
 use Rattle.std.proofs.Common.{◌∙◌, ℕ, ap, refl, subst}
 use Rattle.go_model.specs.declared.meaning.Meaning.{Meaning}
-use Rattle.go_model.specs.Values.HeadersView.{headers_view}
+use Rattle.go_model.specs.Values.HeadersView.{headers_as}
 use Rattle.go_model.specs.Values.Meaning.{meaning_by}
+use Rattle.go_model.proofs.OwnLemmas.{types_stay, types_then}
 use Rattle.go_names.specs.Views.{declarations_view}
 use Rattle.go_expr.proofs.ResultLemmas.{on_err}
 use Rattle.go_decl.specs.Rounds.{IsSettled}
@@ -11,7 +12,7 @@ use Rattle.go_decl.proofs.headers.add_rounds.Goals as goal
 pub loop-init : goal.loop-init
 loop-init g c =
     let headers = g.R.Ask.headers c.args.rules.now in
-    record { backed = backed_same headers (meaning_by (g.R.Ask.names c.args.rules.now)) (declarations_view c.args.declarations.now) headers refl; known = c.requires.same; names = refl; world = refl }
+    record { backed = backed_same headers (meaning_by (g.R.Ask.names c.args.rules.now)) (declarations_view c.args.declarations.now) headers refl; known = c.requires.same; own = c.requires.own; names = refl; world = refl; types = types_stay }
 
 pub loop-preserved : goal.loop-preserved
 loop-preserved g c =
@@ -21,8 +22,10 @@ loop-preserved g c =
       backed = backed_twice (g.R.Ask.headers c.args.rules.now) (meaning_by (g.R.Ask.names c.args.rules.now)) (declarations_view c.args.declarations.now)
           (g.R.Ask.headers c.loop.rules) (g.R.Ask.headers c.add_round.new.rules) (meaning_by (g.R.Ask.names c.loop.rules)) (ap meaning_by inv.names) inv.backed did.backed;
       known = did.known;
+      own = did.own;
       names = did.names ∙ inv.names;
       world = did.world ∙ inv.world;
+      types = types_then inv.types did.types;
     }
 
 pub returns-clause-exact : goal.returns-clause-exact
@@ -53,5 +56,5 @@ add_round-requires-clause-same g c = c.loop.invariant.known
 pub returns-in_err-add_round-clause-kept : goal.returns-in_err-add_round-clause-kept
 returns-in_err-add_round-clause-kept g c =
     on_err c.from_residual.result _
-    (backed_twice (g.R.Ask.headers c.args.rules.now) (meaning_by (g.R.Ask.names c.args.rules.now)) (declarations_view c.args.declarations.now) (g.R.Ask.headers c.loop.rules) (headers_view c.add_round.new.known) (meaning_by (g.R.Ask.names c.loop.rules))
+    (backed_twice (g.R.Ask.headers c.args.rules.now) (meaning_by (g.R.Ask.names c.args.rules.now)) (declarations_view c.args.declarations.now) (g.R.Ask.headers c.loop.rules) (headers_as (g.R.Ask.tree c.add_round.new.rules) c.add_round.new.known) (meaning_by (g.R.Ask.names c.loop.rules))
     (ap meaning_by c.loop.invariant.names) c.loop.invariant.backed c.in_err-add_round.ensures.kept)

@@ -7,7 +7,7 @@ use Rattle.go_module.specs.Names.Declarations.{declarations_of}
 use Rattle.go_model.specs.Outcomes.Records.{HeaderData}
 use Rattle.go_model.specs.Outcomes.Walked.{AreWalked, nodes_of}
 use Rattle.go_model.specs.Values.Headers.{Known}
-use Rattle.go_model.specs.Values.HeadersView.{headers_view}
+use Rattle.go_model.specs.Values.HeadersView.{headers_as}
 use Rattle.go_model.specs.Values.Meaning.{meaning_by}
 use Rattle.go_decl.specs.Broken.{AreBroken}
 use Rattle.go_decl.specs.Rounds.{IsBacked}
@@ -48,6 +48,6 @@ returns-clause-list g c =
 pub returns-clause-err : goal.returns-clause-err
 returns-clause-err g c =
     on_err_map c.rounds_in.result _ _
-    (of_each_there (λ (p : PackageData). IsBacked (g.R.Ask.headers c.args.rules.now) (meaning_by (g.R.Ask.names c.args.rules.now)) (declarations_of p) (headers_view c.rounds_in.new.known))
+    (of_each_there (λ (p : PackageData). IsBacked (g.R.Ask.headers c.args.rules.now) (meaning_by (g.R.Ask.names c.args.rules.now)) (declarations_of p) (headers_as (g.R.Ask.tree c.rounds_in.new.rules) c.rounds_in.new.known))
     (module_view c.args.module.now).packages c.args.package (package_view c.index.result.now) (there g c))
     c.rounds_in.ensures.err

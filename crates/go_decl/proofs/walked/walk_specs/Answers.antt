@@ -5,6 +5,7 @@ use Rattle.go_module.specs.Names.Occurrences.{nodes_in_parts}
 use Rattle.go_model.specs.Values.Meaning.{meaning_by}
 use Rattle.go_names.specs.declared.spec.Spec.{Spec}
 use Rattle.go_names.specs.Views.{spec_view, specs_view}
+use Rattle.go_model.proofs.OwnLemmas.{types_then}
 use Rattle.go_expr.proofs.WalkerLemmas.{walked_more}
 use Rattle.go_decl.proofs.walked.walk_specs.Goals as goal
 
@@ -21,6 +22,7 @@ loop-place-preserved g c =
       same = c.walk_parts.ensures.same ∙ inv.same;
       names = c.walk_parts.ensures.names ∙ inv.names;
       world = c.walk_parts.ensures.world ∙ inv.world;
+      types = types_then inv.types c.walk_parts.ensures.types;
       reached = walked_more (meaning_by (g.W.Ask.names c.args.walks.now)) (meaning_by (g.W.Ask.names c.loop-place.walks)) (g.W.Ask.headers c.args.walks.now) (g.W.Ask.headers c.loop-place.walks)
           (nodes_in_parts (spec_view x)) (flat_map nodes_in_parts (specs_view (drop c.loop-place.place xs))) (flat_map nodes_in_parts (specs_view (drop i xs)))
           (g.W.Ask.outcomes c.args.walks.now) (g.W.Ask.outcomes c.loop-place.walks) (g.W.Ask.outcomes c.walk_parts.new.walks) (ap meaning_by inv.names) inv.same

@@ -1,5 +1,6 @@
 -- Declarations and scope (Go specification).
--- Decides all that a package breaks by its names, which is a phase of its own. Each rule stands in `BlockRules`, `ImportRules` or `OccurrenceRules`.
+-- Decides all that a package breaks by its names, which is a phase of its own. Each rule stands in `BlockRules`,
+-- `ImportRules`, `OccurrenceRules` or `MemberRules`.
 use Rattle.std.specs.Prelude.{ℕ, ◌+◌, Bool, List, [], ◌∷◌, ◌++◌, map}
 use Rattle.std.specs.List.{flat_map}
 use Rattle.go_base.specs.declared.rule.Broken.{Broken}
@@ -10,6 +11,8 @@ use Rattle.go_module.specs.Names.Rules.BlockRules.{repeated, reserved, missing_m
 use Rattle.go_module.specs.Names.PackageBlock.{package_block}
 use Rattle.go_module.specs.Names.Imports.{Importing, PackageNames, file_block, import_of, imports_of}
 use Rattle.go_module.specs.Names.Rules.ImportRules.{conflicting, unused}
+use Rattle.go_module.specs.Names.Declarations.{specs_in_file}
+use Rattle.go_module.specs.Names.Rules.MemberRules.{broken_in_spec}
 use Rattle.go_module.specs.Names.Rules.OccurrenceRules.{broken_occurrences}
 use Rattle.go_module.specs.Names.Occurrences.{occurrences_in_file}
 use Rattle.go_module.specs.Names.Regions.{regions_of}
@@ -31,7 +34,8 @@ broken_file known is_main regions block file f imports =
     missing_main_at is_main file f
     ++ (reserved is_main (file_block known imports)
     ++ (broken_imports known regions block file f imports
-    ++ broken_occurrences known regions (occurrences_in_file file f.tree)))
+    ++ (broken_occurrences known regions (occurrences_in_file file f.tree)
+    ++ flat_map broken_in_spec (specs_in_file file f.tree))))
 
 -- what the files break, of which the first has this place
 abbrev pub broken_files : (ℕ → PackageNames) → Bool → List Region → List Region → ℕ → List FileData → List (List Importing) → List Broken

@@ -1,7 +1,9 @@
-use Rattle.std.proofs.Common.{◌++◌, map, false, refl, sym, ap, ◌∙◌}
+use Rattle.std.proofs.Common.{◌++◌, map, false, refl, sym, ap, subst, ◌∙◌}
+use Rattle.std.specs.List.{AllByRecursion}
 use Rattle.std.proofs.lemmas.Result.{IfOk-weaker}
 use Rattle.go_model.specs.Types.TypeIdentity.{interfaces_in}
 use Rattle.go_model.specs.Types.TypeSets.{plain}
+use Rattle.go_same.specs.Kept.{IsKept}
 use Rattle.go_same.specs.Layers.{pair_view}
 use Rattle.go_same.proofs.SameLemmas.{levels_whole, opened_whole, outermost, types_apart, types_within}
 use Rattle.go_same.proofs.identity.same.Goals as goal
@@ -20,6 +22,10 @@ returns-clause-answer g c =
     let fits = c.if-not-branch.false in
     let pairs = c.in_ok-outline.ensures.pairs fits ∙ ap (λ ps. map (pair_view tree) ps ++ interfaces_in x y) c.new-pairs.ensures.items in
     IfOk-weaker c.same_pairs.result _ _ (λ r h. h ∙ types_within (g.J.Ask.headers c.args.judge.now) x y outermost 8480 levels_whole 32 false opened_whole refl (sym fits ∙ c.in_ok-outline.ensures.fits) _ pairs (g.J.Ask.headers c.outline.new.judge) keeps.same) c.same_pairs.ensures.answer
+
+pub same_pairs-requires-clause-kept : goal.same_pairs-requires-clause-kept
+same_pairs-requires-clause-kept g c =
+    subst (AllByRecursion (IsKept (g.J.Ask.headers c.outline.new.judge) (g.J.Ask.is_type c.outline.new.judge) (g.J.Ask.tree c.outline.new.judge))) (sym c.new-work.ensures.kept) tt
 
 pub returns-clause-unspent : goal.returns-clause-unspent
 returns-clause-unspent g c = IfOk-weaker c.same_pairs.result _ _ (λ r h. c.in_ok-outline.ensures.unspent) c.same_pairs.ensures.answer

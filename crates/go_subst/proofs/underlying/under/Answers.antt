@@ -1,9 +1,9 @@
 use Rattle.std.proofs.Common.{◌∙◌}
 use Rattle.std.proofs.lemmas.Result.{err_from_is_err_and}
 use Rattle.go_term.specs.View.{type_of}
+use Rattle.go_model.proofs.OwnLemmas.{types_then}
 use Rattle.go_subst.specs.Chains.{path_of}
 use Rattle.go_subst.proofs.ChainLemmas.{ends, fails, goes_on}
-use Rattle.go_subst.proofs.KeepLemmas.{keeps_then}
 use Rattle.go_subst.proofs.underlying.under.Goals as goal
 
 pub returns-in_err-reached-clause-cause : goal.returns-in_err-reached-clause-cause
@@ -29,6 +29,6 @@ loop-turns-preserved g c = record {
     walked = c.in_ok-reached.ensures.outcomes ∙ c.loop-turns.invariant.stays.walked;
     memory = c.in_ok-reached.ensures.spent ∙ c.loop-turns.invariant.stays.memory;
     around = c.in_ok-reached.ensures.world ∙ c.loop-turns.invariant.stays.around;
-    kept = keeps_then _ _ _ _ _ _ c.loop-turns.invariant.stays.kept c.in_ok-reached.ensures.types;
+    kept = types_then c.loop-turns.invariant.stays.kept c.in_ok-reached.ensures.types;
   };
 }

@@ -4,8 +4,8 @@ ghost use Rattle.go_tree.specs.Tree.{tree_of};
 ghost use Rattle.go_module.specs.Names.Occurrences.{nodes_in};
 ghost use Rattle.go_names.specs.Views.{trees_at};
 
+use crate::inner::inner_parts;
 use go_base::NoMemory;
-use go_names::inner_parts;
 use go_tree::Node;
 use std::alloc::Global;
 

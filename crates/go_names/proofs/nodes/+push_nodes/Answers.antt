@@ -7,7 +7,7 @@ use Rattle.go_module.specs.Names.Inner.{inner_parts}
 use Rattle.go_module.specs.Names.Occurrences.{nodes_in}
 use Rattle.go_names.proofs.WalkLemmas.{inner_part_smaller, nodes_in-inner}
 use Rattle.go_names.specs.Views.{trees_at}
-use Rattle.go_expr.proofs.nodes.+push_nodes.Goals as goal
+use Rattle.go_names.proofs.nodes.+push_nodes.Goals as goal
 
 pub push_nodes-requires : goal.push_nodes-requires
 push_nodes-requires t c =

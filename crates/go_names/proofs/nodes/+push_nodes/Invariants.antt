@@ -3,7 +3,7 @@ use Rattle.std.specs.List.{flat_map}
 use Rattle.go_module.specs.Names.Occurrences.{nodes_in}
 use Rattle.go_names.specs.Views.{trees_at}
 use Rattle.go_tree.specs.Tree.{tree_of, node_count}
-use Rattle.go_expr.proofs.nodes.+push_nodes.Given as goal
+use Rattle.go_names.proofs.nodes.+push_nodes.Given as goal
 
 abbrev pub decreases-push_nodes : goal.decreases-push_nodes
 decreases-push_nodes l = node_count (tree_of l.node.now)
