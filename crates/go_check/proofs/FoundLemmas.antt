@@ -12,7 +12,7 @@ use Rattle.go_module.specs.Modules.Heads.{import_specs}
 use Rattle.go_module.specs.Modules.Module.{FileData, PackageData}
 use Rattle.go_module.specs.Names.Declarations.{declarations_in, specs_in_file}
 use Rattle.go_module.specs.Names.Imports.{imports_from}
-use Rattle.go_model.specs.declared.meaning.Meaning.{Meaning}
+use Rattle.go_model.specs.Values.Meaning.{Naming}
 use Rattle.go_model.specs.LineOrder.{AreInOrder, no_file, one_more}
 use Rattle.go_model.specs.Outline.{Outline, declared_by, declared_from, declaring}
 use Rattle.go_model.specs.PackageLines.{AreLines, declaration_defs, defs_from, exprs_from, exprs_in, import_defs, import_defs_in, uses_from, uses_in}
@@ -26,23 +26,23 @@ pairs_are : (outline : Outline) (stub : Bool) (f : FileData) (k file : ℕ) (pai
 pairs_are outline stub f k file [] = refl
 pairs_are outline stub f k file (pair ∷ pairs) = ap (λ l. import_defs_in outline stub f pair.1 (parts_of pair.0) ++ l) (pairs_are outline stub f k file pairs)
 
-pub defs_are : (outline : Outline) (k : ℕ) (stub : Bool) (means : ℕ → Meaning) (headers : Headers) (place : ℕ) (files : List FileData) (packages : List ℕ) → defs_from outline stub means headers place files (imports_from k place files packages) ≡ map (def_lines outline (outcome means headers)) (own_files_from stub place files packages)
-defs_are outline k stub means headers place [] packages = refl
-defs_are outline k stub means headers place (f ∷ files) packages =
+pub defs_are : (outline : Outline) (k : ℕ) (stub : Bool) (naming : Naming) (headers : Headers) (place : ℕ) (files : List FileData) (packages : List ℕ) → defs_from outline stub naming headers place files (imports_from k place files packages) ≡ map (def_lines outline (outcome naming headers)) (own_files_from stub place files packages)
+defs_are outline k stub naming headers place [] packages = refl
+defs_are outline k stub naming headers place (f ∷ files) packages =
     let n = length (import_specs f.tree) in
-    ap (λ l. (l ++ flat_map (declaration_defs stub f means headers) (declarations_in (specs_in_file place f.tree))) ∷ defs_from outline stub means headers (place + 1) files (imports_from k (place + 1) files (drop n packages)))
+    ap (λ l. (l ++ flat_map (declaration_defs stub f naming headers) (declarations_in (specs_in_file place f.tree))) ∷ defs_from outline stub naming headers (place + 1) files (imports_from k (place + 1) files (drop n packages)))
     (pairs_are outline stub f k place (zip (import_specs f.tree) (take n packages)))
-    ∙ ap (λ l. def_lines outline (outcome means headers) (own_file stub place f packages) ∷ l) (defs_are outline k stub means headers (place + 1) files (drop n packages))
+    ∙ ap (λ l. def_lines outline (outcome naming headers) (own_file stub place f packages) ∷ l) (defs_are outline k stub naming headers (place + 1) files (drop n packages))
 
 pub uses_are : (outline : Outline) (stub : Bool) (denotes : NodeId → Option ObjId) (place : ℕ) (files : List FileData) (packages : List ℕ) → uses_from outline stub denotes place files ≡ map (use_lines outline denotes) (own_files_from stub place files packages)
 uses_are outline stub denotes place [] packages = refl
 uses_are outline stub denotes place (f ∷ files) packages =
     ap (λ l. uses_in outline stub denotes place f ∷ l) (uses_are outline stub denotes (place + 1) files (drop (length (import_specs f.tree)) packages))
 
-pub exprs_are : (stub : Bool) (means : ℕ → Meaning) (headers : Headers) (place : ℕ) (files : List FileData) (packages : List ℕ) → exprs_from stub means headers place files ≡ map (expr_lines (outcome means headers)) (own_files_from stub place files packages)
-exprs_are stub means headers place [] packages = refl
-exprs_are stub means headers place (f ∷ files) packages =
-    ap (λ l. exprs_in stub means headers place f ∷ l) (exprs_are stub means headers (place + 1) files (drop (length (import_specs f.tree)) packages))
+pub exprs_are : (stub : Bool) (naming : Naming) (headers : Headers) (place : ℕ) (files : List FileData) (packages : List ℕ) → exprs_from stub naming headers place files ≡ map (expr_lines (outcome naming headers)) (own_files_from stub place files packages)
+exprs_are stub naming headers place [] packages = refl
+exprs_are stub naming headers place (f ∷ files) packages =
+    ap (λ l. exprs_in stub naming headers place f ∷ l) (exprs_are stub naming headers (place + 1) files (drop (length (import_specs f.tree)) packages))
 
 -- what the files of a package declare
 pub declared_are : (k : ℕ) (stub : Bool) (place : ℕ) (files : List FileData) (packages : List ℕ) → flat_map (declared_in_file k) (own_files_from stub place files packages) ≡ declared_from k stub place files
@@ -61,20 +61,20 @@ one_added f all left rest x found old new at is adds so_far more in_order =
     (so_far (adds.here ++ more) (subst (λ (l : List (List LineData)). AreInOrder l (adds.here ++ more)) same here))
 
 -- the lines of three kinds are those of a package
-pub are_lines : (outline : Outline) (k : ℕ) (p : PackageData) (denotes : NodeId → Option ObjId) (means : ℕ → Meaning) (headers : Headers) (files : List OwnFileData) (defs uses exprs lines : List LineData)
+pub are_lines : (outline : Outline) (k : ℕ) (p : PackageData) (denotes : NodeId → Option ObjId) (naming : Naming) (headers : Headers) (files : List OwnFileData) (defs uses exprs lines : List LineData)
     → files ≡ own_files_in p
-    → AreInOrder (map (def_lines outline (outcome means headers)) files) defs
+    → AreInOrder (map (def_lines outline (outcome naming headers)) files) defs
     → AreInOrder (map (use_lines outline denotes) files) uses
-    → AreInOrder (map (expr_lines (outcome means headers)) files) exprs
+    → AreInOrder (map (expr_lines (outcome naming headers)) files) exprs
     → lines ≡ defs ++ (uses ++ exprs)
-    → AreLines outline k p denotes means headers lines
-are_lines outline k p denotes means headers files defs uses exprs lines is are_defs are_uses are_exprs all = record {
+    → AreLines outline k p denotes naming headers lines
+are_lines outline k p denotes naming headers files defs uses exprs lines is are_defs are_uses are_exprs all = record {
   defs = defs;
   uses = uses;
   exprs = exprs;
-  are_defs = subst (λ (l : List (List LineData)). AreInOrder l defs) (ap (map (def_lines outline (outcome means headers))) is ∙ sym (defs_are outline k p.stub means headers 0 p.files p.imports)) are_defs;
+  are_defs = subst (λ (l : List (List LineData)). AreInOrder l defs) (ap (map (def_lines outline (outcome naming headers))) is ∙ sym (defs_are outline k p.stub naming headers 0 p.files p.imports)) are_defs;
   are_uses = subst (λ (l : List (List LineData)). AreInOrder l uses) (ap (map (use_lines outline denotes)) is ∙ sym (uses_are outline p.stub denotes 0 p.files p.imports)) are_uses;
-  are_exprs = subst (λ (l : List (List LineData)). AreInOrder l exprs) (ap (map (expr_lines (outcome means headers))) is ∙ sym (exprs_are p.stub means headers 0 p.files p.imports)) are_exprs;
+  are_exprs = subst (λ (l : List (List LineData)). AreInOrder l exprs) (ap (map (expr_lines (outcome naming headers))) is ∙ sym (exprs_are p.stub naming headers 0 p.files p.imports)) are_exprs;
   all = all;
 }
 

@@ -6,8 +6,8 @@ use Rattle.std.specs.Option.{option_map_or}
 use Rattle.go_tree.specs.Tree.{Tree, end_of, start_of}
 use Rattle.go_module.specs.Modules.Module.{FileData}
 use Rattle.go_module.specs.Names.Declarations.{Declaration, Spec, declarations_in, declared_in, name_text}
-use Rattle.go_module.specs.Names.Occurrences.{nodes_in_parts}
-use Rattle.go_model.specs.declared.meaning.Meaning.{Meaning}
+use Rattle.go_operands.specs.Operands.{expressions_in_parts}
+use Rattle.go_model.specs.Values.Meaning.{Naming}
 use Rattle.go_model.specs.Outcomes.Judged.{OutcomeData}
 use Rattle.go_model.specs.Outcomes.Readings.{record_in}
 use Rattle.go_model.specs.Outcomes.Records.{HeaderData, RecData}
@@ -22,42 +22,42 @@ use Rattle.go_expr.proofs.ReadLemmas.{read_is}
 use Rattle.go_decl.proofs.ReadLemmas.{declared_within, header_same}
 use Rattle.go_check.specs.Lines.Found.{OwnFileData, all_specs_in, def_lines, expr_lines, import_lines, nodes_of_files}
 
-module _ (means : ℕ → Meaning) (headers : Headers) (outcomes : Outcomes) where
+module _ (naming : Naming) (headers : Headers) (outcomes : Outcomes) where
   abbrev read : Tree → OutcomeData RecData
   read = outcome_read outcomes
 
-  module _ (nodes : List Tree) (walked : AreWalked means headers nodes outcomes) where
-    def_same : (stub : Bool) (f : FileData) (d : Declaration) → ((t : Tree) → Contains (nodes_under d) t → Contains nodes t) → def_by read stub f d ≡ declaration_defs stub f means headers d
+  module _ (nodes : List Tree) (walked : AreWalked naming headers nodes outcomes) where
+    def_same : (stub : Bool) (f : FileData) (d : Declaration) → ((t : Tree) → Contains (nodes_under d) t → Contains nodes t) → def_by read stub f d ≡ declaration_defs stub f naming headers d
     def_same stub f d within =
-        ap (λ (o : Option HeaderData). option_map_or (λ kind. line_at stub f (start_of d.name) (defined (name_text d.name) kind) ∷ []) (option_and_then told_as o) []) (header_same means headers outcomes nodes walked d within)
+        ap (λ (o : Option HeaderData). option_map_or (λ kind. line_at stub f (start_of d.name) (defined (name_text d.name) kind) ∷ []) (option_and_then told_as o) []) (header_same naming headers outcomes nodes walked d within)
 
-    expr_same : (stub : Bool) (f : FileData) (t : Tree) → Contains nodes t → expr_by read stub f t ≡ expr_at stub f means headers t
-    expr_same stub f t h = ap (λ (o : OutcomeData RecData). record_line stub f (start_of t) (end_of t) (record_in o)) (read_is means headers nodes outcomes walked t h)
+    expr_same : (stub : Bool) (f : FileData) (t : Tree) → Contains nodes t → expr_by read stub f t ≡ expr_at stub f naming headers t
+    expr_same stub f t h = ap (λ (o : OutcomeData RecData). record_line stub f (start_of t) (end_of t) (record_in o)) (read_is naming headers nodes outcomes walked t h)
 
   -- the lines of files
-  module _ (files : List OwnFileData) (walked : AreWalked means headers (nodes_of_files files) outcomes) where
+  module _ (files : List OwnFileData) (walked : AreWalked naming headers (nodes_of_files files) outcomes) where
     in_file : (f : OwnFileData) → Contains files f → (spec : Spec) → Contains f.specs spec → Contains (all_specs_in files) spec
     in_file f h spec i = flat_contains (λ (f : OwnFileData). f.specs) files f spec h i
 
-    pub defs_same : (outline : Outline) → map (def_lines outline read) files ≡ map (def_lines outline (outcome means headers)) files
-    defs_same outline = map-same (def_lines outline read) (def_lines outline (outcome means headers)) files each
+    pub defs_same : (outline : Outline) → map (def_lines outline read) files ≡ map (def_lines outline (outcome naming headers)) files
+    defs_same outline = map-same (def_lines outline read) (def_lines outline (outcome naming headers)) files each
       where
-        each : (f : OwnFileData) → Contains files f → def_lines outline read f ≡ def_lines outline (outcome means headers) f
+        each : (f : OwnFileData) → Contains files f → def_lines outline read f ≡ def_lines outline (outcome naming headers) f
         each f h =
             ap (λ l. import_lines outline f (zip f.imports f.packages) ++ l)
-            (flat_map-same (def_by read f.stub f.file) (declaration_defs f.stub f.file means headers) (declarations_in f.specs)
+            (flat_map-same (def_by read f.stub f.file) (declaration_defs f.stub f.file naming headers) (declarations_in f.specs)
             (λ d i. def_same (nodes_of_files files) walked f.stub f.file d
             (λ t j.
             let spec = flat_cases declared_in f.specs d i in
-            flat_contains nodes_in_parts (all_specs_in files) spec.0 t (in_file f h spec.0 spec.1) (declared_within spec.0 d spec.2 t j))))
+            flat_contains expressions_in_parts (all_specs_in files) spec.0 t (in_file f h spec.0 spec.1) (declared_within spec.0 d spec.2 t j))))
 
-    pub exprs_same : map (expr_lines read) files ≡ map (expr_lines (outcome means headers)) files
-    exprs_same = map-same (expr_lines read) (expr_lines (outcome means headers)) files each
+    pub exprs_same : map (expr_lines read) files ≡ map (expr_lines (outcome naming headers)) files
+    exprs_same = map-same (expr_lines read) (expr_lines (outcome naming headers)) files each
       where
-        each : (f : OwnFileData) → Contains files f → expr_lines read f ≡ expr_lines (outcome means headers) f
+        each : (f : OwnFileData) → Contains files f → expr_lines read f ≡ expr_lines (outcome naming headers) f
         each f h =
-            flat_map-same (expr_by read f.stub f.file) (expr_at f.stub f.file means headers) (flat_map nodes_in_parts (written f.specs))
+            flat_map-same (expr_by read f.stub f.file) (expr_at f.stub f.file naming headers) (flat_map expressions_in_parts (written f.specs))
             (λ t i.
-            let spec = flat_cases nodes_in_parts (written f.specs) t i in
+            let spec = flat_cases expressions_in_parts (written f.specs) t i in
             expr_same (nodes_of_files files) walked f.stub f.file t
-            (flat_contains nodes_in_parts (all_specs_in files) spec.0 t (in_file f h spec.0 (filter_within (λ (spec : Spec). is_none spec.told_at) f.specs spec.0 spec.1)) spec.2))
+            (flat_contains expressions_in_parts (all_specs_in files) spec.0 t (in_file f h spec.0 (filter_within (λ (spec : Spec). is_none spec.told_at) f.specs spec.0 spec.1)) spec.2))

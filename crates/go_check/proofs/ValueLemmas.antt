@@ -4,7 +4,7 @@ use Rattle.std.specs.List.{flat_map}
 use Rattle.go_module.specs.Modules.Heads.{import_specs}
 use Rattle.go_module.specs.Modules.Module.{FileData, PackageData}
 use Rattle.go_module.specs.Names.Declarations.{specs_from, specs_in_file}
-use Rattle.go_module.specs.Names.Occurrences.{nodes_in_parts}
+use Rattle.go_operands.specs.Operands.{expressions_in_parts}
 use Rattle.go_model.specs.Outcomes.Walked.{nodes_of}
 use Rattle.go_check.specs.Lines.Found.{OwnFileData, all_specs_in, nodes_of_files, own_files_from, own_files_in}
 
@@ -16,4 +16,4 @@ specs_are stub place (f ∷ files) packages =
 
 -- and so are their nodes
 pub nodes_are : (files : List OwnFileData) (p : PackageData) → files ≡ own_files_in p → nodes_of p ≡ nodes_of_files files
-nodes_are files p same = ap (flat_map nodes_in_parts) (sym (ap all_specs_in same ∙ specs_are p.stub 0 p.files p.imports))
+nodes_are files p same = ap (flat_map expressions_in_parts) (sym (ap all_specs_in same ∙ specs_are p.stub 0 p.files p.imports))

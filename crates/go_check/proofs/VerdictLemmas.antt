@@ -17,7 +17,7 @@ use Rattle.go_model.specs.PackageLines.{AreLines}
 use Rattle.go_model.specs.Phases.{ArePackageLines, BreaksValues, IsVerdict, by_names, by_values, sound}
 use Rattle.go_model.specs.Report.{VerdictData, refused}
 use Rattle.go_model.specs.Values.Headers.{Known}
-use Rattle.go_model.specs.Values.Meaning.{meaning_in, uses_table}
+use Rattle.go_model.specs.Values.Meaning.{names_in, uses_table}
 use Rattle.go_model.specs.Outcomes.Records.{HeaderData}
 use Rattle.go_model.specs.Outcomes.Walk.{Headers}
 use Rattle.go_scope.specs.Collecting.{IsBrokenNames}
@@ -27,8 +27,8 @@ use Rattle.go_check.specs.Packages.Verdicts.{IsAccepting}
 module _ (m : ModuleData) (k : ℕ) (p : PackageData) (before : Headers) where
   -- what the values break
   pub breaks : (headers : Headers) (list : List Broken) → broken_names (known_in m) k p ≡ []
-      → ((d : ℕ) (h : HeaderData) → (headers d ≡ Some h) ↔ Known before (meaning_in m k p) (declarations_of p) d h)
-      → AreBroken (meaning_in m k p) headers p list → BreaksValues m k p before headers list
+      → ((d : ℕ) (h : HeaderData) → (headers d ≡ Some h) ↔ Known before (names_in m k p) (declarations_of p) d h)
+      → AreBroken (names_in m k p) headers p list → BreaksValues m k p before headers list
   breaks headers list names known broken = record {
     sound_names = names;
     cyclic = broken.cyclic;
@@ -39,10 +39,10 @@ module _ (m : ModuleData) (k : ℕ) (p : PackageData) (before : Headers) where
   -- no rule is broken
   pub sound_verdict : (headers : Headers) (denotes : NodeId → Option ObjId) (list : List Broken) (verdict : VerdictData) → BreaksValues m k p before headers list → list ≡ []
       → denotes ≡ (λ id. lookup (same_node id) (uses_table m k p))
-      → IsAccepting (outline_of m) k p denotes (meaning_in m k p) headers verdict → IsVerdict m k p before verdict headers
+      → IsAccepting (outline_of m) k p denotes (names_in m k p) headers verdict → IsVerdict m k p before verdict headers
   sound_verdict headers denotes list verdict found none denotes_are accepting =
       let own : ArePackageLines m k p headers accepting.lines =
-      subst (λ ds. AreLines (outline_of m) k p ds (meaning_in m k p) headers accepting.lines) denotes_are accepting.are_lines in
+      subst (λ ds. AreLines (outline_of m) k p ds (names_in m k p) headers accepting.lines) denotes_are accepting.are_lines in
       let is = sound headers accepting.lines (subst (BreaksValues m k p before headers) none found) own in
       subst (λ v. IsVerdict m k p before v headers) (sym accepting.is) is
 

@@ -144,7 +144,7 @@ fn push_declaration(
         ++ def_by (outcome_read (outcomes_view book.now.walker)) file.now.stub (file_view file.now.file.now)
         (declaration_view declaration.now)) }
 {
-    if let Some(kind) = told_as(header_by(book, declaration)?) {
+    if let Some(kind) = told_as(header_by(alloc, book, declaration)?) {
         lines.push(def_line(alloc, file, declaration.name, kind)?)?;
     }
     Ok(())

@@ -5,7 +5,7 @@ ghost use Rattle.std.specs.List.{flat_map};
 ghost use Rattle.std.specs.Option.{option_map};
 ghost use Rattle.go_tree.specs.Tree.{tree_of, start_of, end_of};
 ghost use Rattle.go_module.specs.Modules.Module.{file_view};
-ghost use Rattle.go_module.specs.Names.Occurrences.{nodes_in, nodes_in_parts};
+ghost use Rattle.go_operands.specs.Operands.{expressions_in, expressions_in_parts};
 ghost use Rattle.go_model.specs.Outcomes.Records.{rec_view};
 ghost use Rattle.go_model.specs.PackageLines as rule;
 ghost use Rattle.go_model.specs.Report.{line_view};
@@ -21,7 +21,8 @@ use crate::uses::written;
 use go_base::NoMemory;
 use go_expr::Walker;
 use go_model::{Line, Rec, What};
-use go_names::{Spec, nodes_in};
+use go_names::Spec;
+use go_operands::expressions_in;
 use go_tree::Node;
 use std::alloc::Global;
 
@@ -47,7 +48,7 @@ fn push_spec(
 ) -> Result<(), NoMemory>
     ensures { OnOk result (map line_view lines.new.items ≡ map line_view lines.old.items ++ flat_map
         (expr_by (outcome_read (outcomes_view walker.now)) file.now.stub (file_view file.now.file.now))
-        (nodes_in_parts (spec_view spec.now))) }
+        (expressions_in_parts (spec_view spec.now))) }
 {
     push_nodes(alloc, file, walker, spec.types, lines)?;
     push_nodes(alloc, file, walker, spec.values, lines)
@@ -63,10 +64,10 @@ fn push_nodes(
 ) -> Result<(), NoMemory>
     ensures { OnOk result (map line_view lines.new.items ≡ map line_view lines.old.items ++ flat_map
         (expr_by (outcome_read (outcomes_view walker.now)) file.now.stub (file_view file.now.file.now))
-        (flat_map nodes_in (map tree_of nodes.now))) }
+        (flat_map expressions_in (map tree_of nodes.now))) }
 {
     for node in nodes {
-        push_each(file, walker, &nodes_in(alloc, node)?, lines)?;
+        push_each(file, walker, &expressions_in(alloc, node)?, lines)?;
     }
     Ok(())
 }

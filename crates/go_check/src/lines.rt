@@ -6,7 +6,7 @@ ghost use Rattle.go_model.specs.PackageLines as spec;
 ghost use Rattle.go_model.specs.Report.{line_view};
 ghost use Rattle.go_check.specs.Lines.Found.{def_lines, expr_lines, own_files_in, own_files_view, use_lines};
 ghost use Rattle.go_check.specs.Lines.Ordered.{AddsInOrder};
-ghost use Rattle.go_model.specs.declared.meaning.Meaning.{Meaning};
+ghost use Rattle.go_model.specs.Values.Meaning.{Naming};
 ghost use Rattle.go_model.specs.Outcomes.Walk.{Headers};
 ghost use Rattle.go_model.specs.Outcomes.Walked.{AreWalked, nodes_of};
 ghost use Rattle.go_expr.specs.Read.{outcome_read};
@@ -34,10 +34,10 @@ pub fn lines_of(
     files: &[OwnFile],
     book: &Rulebook,
 ) -> Result<Vec<Line>, NoMemory>
-    ensures { IfOk result (λ lines. (means : ℕ → Meaning) (headers : Headers) (k : ℕ) (p : PackageData)
+    ensures { IfOk result (λ lines. (naming : Naming) (headers : Headers) (k : ℕ) (p : PackageData)
         → own_files_view files.now ≡ own_files_in p
-        → AreWalked means headers (nodes_of p) (outcomes_view book.now.walker)
-        → spec.AreLines (outline_view outline.now) k p (denotes_by book.now.judge) means headers
+        → AreWalked naming headers (nodes_of p) (outcomes_view book.now.walker)
+        → spec.AreLines (outline_view outline.now) k p (denotes_by book.now.judge) naming headers
         (map line_view lines.items)) }
 {
     let defs = all_defs(alloc, outline, files, book)?;

@@ -5,7 +5,7 @@ ghost use Rattle.go_model.specs.Values.HeadersView.{headers_view};
 ghost use Rattle.go_term.specs.View.{type_of};
 ghost use Rattle.go_check.specs.Packages.Book.{Standing, book_names, standing_of};
 
-use go_base::NoMemory;
+use go_base::{Name, NoMemory};
 use go_model::{Answer, Ask, Finds, Form, Forms, Header, Headers, Judge, Same, Sets};
 use go_module::{Module, ObjId, Object, Scopes};
 use go_same::same;
@@ -62,6 +62,13 @@ impl Forms for ModuleJudge<'_> {
 
     fn object(&self, d: ObjId) -> &Object {
         self.scopes[self.place].object(d)
+    }
+
+    fn package_of(&self, _id: NodeId) -> &Name {
+        match self.module.packages.get(self.place) {
+            Some(own) => &own.path,
+            None => &self.module.path,
+        }
     }
 
     fn see(&mut self, alloc: Global, t: &Ty) -> Result<Shape, NoMemory> {

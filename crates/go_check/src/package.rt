@@ -4,14 +4,13 @@ ghost use Rattle.std.specs.Prelude.{◌≡◌, ◌<◌, [], ℕ, true, IfOk, OnO
 ghost use Rattle.go_module.specs.Modules.Module.{ModuleData, PackageData, module_view, package_view};
 ghost use Rattle.go_module.specs.Names.Imports.{known_in};
 ghost use Rattle.go_module.specs.Names.Rules.BrokenNames.{broken_names};
-ghost use Rattle.go_model.specs.declared.meaning.Meaning.{Meaning};
 ghost use Rattle.go_model.specs.Outline.{outline_of};
 ghost use Rattle.go_model.specs.Outcomes.Walk.{Headers as Known};
 ghost use Rattle.go_model.specs.Outcomes.Walked.{AreWalked, NodesAreNumbered, nodes_of};
 ghost use Rattle.go_model.specs.Phases as phases;
 ghost use Rattle.go_model.specs.Report.{verdict_view};
 ghost use Rattle.go_model.specs.Values.HeadersView.{headers_view};
-ghost use Rattle.go_model.specs.Values.Meaning.{AreThere, meaning_in, names_in};
+ghost use Rattle.go_model.specs.Values.Meaning.{AreThere, Naming, names_in};
 ghost use Rattle.go_expr.specs.Walker.{outcomes_view};
 ghost use Rattle.go_check.specs.Packages.Book.{book_names, denotes_by, names_at};
 ghost use Rattle.go_check.specs.Packages.Names.{AreNames, ImportsSound, sound_at};
@@ -83,13 +82,13 @@ fn check_values<L: Ledger>(
     steps: &mut Steps<L>,
 ) -> Result<Verdict, NoMemory>
     requires within { place < length book.old.judge.«module».now.packages.items }
-    requires there { AreThere (names_at book.old.judge.scopes.now place) }
+    requires there { AreThere (names_at book.old.judge.«module».now book.old.judge.scopes.now place) }
     requires numbered { NodesAreNumbered (module_view book.old.judge.«module».now) }
     requires same { headers_view known.old ≡ headers_view book.old.judge.headers }
     ensures verdict { IfOk result (λ verdict. (p : PackageData)
         → slice_get (module_view book.old.judge.«module».now).packages place ≡ Some p
         → outline_view outline.now ≡ outline_of (module_view book.old.judge.«module».now)
-        → names_at book.old.judge.scopes.now place ≡ names_in (module_view book.old.judge.«module».now) place p
+        → names_at book.old.judge.«module».now book.old.judge.scopes.now place ≡ names_in (module_view book.old.judge.«module».now) place p
         → broken_names (known_in (module_view book.old.judge.«module».now)) place p ≡ []
         → phases.IsVerdict (module_view book.old.judge.«module».now) place p (headers_view book.old.judge.headers)
         (verdict_view verdict) (headers_view book.new.judge.headers)) }
@@ -114,7 +113,7 @@ fn verdict_by(
 ) -> Result<Verdict, NoMemory>
     ensures { IfOk result (λ verdict. (m : ModuleData) (k : ℕ) (before headers : Known)
         → outline_view outline.now ≡ outline_of m → book_names book.now.judge ≡ names_in m k (package_view own.now)
-        → AreWalked (meaning_in m k (package_view own.now)) headers (nodes_of (package_view own.now))
+        → AreWalked (names_in m k (package_view own.now)) headers (nodes_of (package_view own.now))
         (outcomes_view book.now.walker) → phases.BreaksValues m k (package_view own.now) before headers list.now
         → phases.IsVerdict m k (package_view own.now) before (verdict_view verdict) headers) }
 {
@@ -132,9 +131,9 @@ fn accept(
     book: &Rulebook,
     own: &Package,
 ) -> Result<Verdict, NoMemory>
-    ensures { IfOk result (λ verdict. (means : ℕ → Meaning) (headers : Known) (k : ℕ)
-        → AreWalked means headers (nodes_of (package_view own.now)) (outcomes_view book.now.walker)
-        → IsAccepting (outline_view outline.now) k (package_view own.now) (denotes_by book.now.judge) means headers
+    ensures { IfOk result (λ verdict. (naming : Naming) (headers : Known) (k : ℕ)
+        → AreWalked naming headers (nodes_of (package_view own.now)) (outcomes_view book.now.walker)
+        → IsAccepting (outline_view outline.now) k (package_view own.now) (denotes_by book.now.judge) naming headers
         (verdict_view verdict)) }
 {
     let files = own_files(alloc, own)?;

@@ -9,7 +9,7 @@ ghost use Rattle.go_term.specs.View.{type_of};
 ghost use Rattle.go_check.specs.Packages.Book.{Standing, book_names, standing_of};
 
 use crate::module_judge::ModuleJudge;
-use go_base::NoMemory;
+use go_base::{Name, NoMemory};
 use go_expr::Walker;
 use go_model::{
     Answer, Ask, ExprWalk, Finds, Form, Forms, Header, Headers, Judge, Outcome, Rules, Same, Sets,
@@ -98,6 +98,10 @@ impl Forms for Rulebook<'_> {
 
     fn object(&self, d: ObjId) -> &Object {
         self.judge.object(d)
+    }
+
+    fn package_of(&self, id: NodeId) -> &Name {
+        self.judge.package_of(id)
     }
 
     fn see(&mut self, alloc: Global, t: &Ty) -> Result<Shape, NoMemory> {

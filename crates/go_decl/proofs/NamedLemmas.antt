@@ -6,7 +6,7 @@ use Rattle.std.specs.Option.{option_map}
 use Rattle.go_tree.specs.Tree.{Tree}
 use Rattle.go_module.specs.Modules.Module.{ModuleData, PackageData}
 use Rattle.go_module.specs.Names.Declarations.{declared_in, specs_of}
-use Rattle.go_module.specs.Names.Occurrences.{nodes_in_parts}
+use Rattle.go_operands.specs.Operands.{expressions_in_parts}
 use Rattle.go_module.proofs.MemberLemmas.{cons_cases, contains_none}
 use Rattle.go_model.specs.Outcomes.Walked.{AreNumbered, NodesAreNumbered, nodes_of}
 use Rattle.go_model.proofs.FlatLemmas.{flat_cases, flat_contains, map_cases}
@@ -37,7 +37,7 @@ named_is_declared m d part numbered e =
     let declaration = map_cases (part_of p spec.0) (declared_in spec.0) part spec.2 in
     let at = contained_at m.packages p own.1 in
     let within : (t : Tree) → Contains (nodes_under declaration.0) t → Contains (nodes_of p) t =
-    λ t h. flat_contains nodes_in_parts (specs_of p) spec.0 t spec.1 (declared_within spec.0 declaration.0 declaration.1 t h) in
+    λ t h. flat_contains expressions_in_parts (specs_of p) spec.0 t spec.1 (declared_within spec.0 declaration.0 declaration.1 t h) in
     let there : IsDeclared (part_of p spec.0 declaration.0) = record {
       declared = declaration.1;
       numbered = λ s t in_s in_t same. numbered at.0 p at.1 s t (within s in_s) (within t in_t) same;

@@ -9,7 +9,7 @@ use Rattle.go_term.specs.declared.term.Term.{Term}
 use Rattle.go_module.specs.Scopes.{same_object}
 use Rattle.go_model.specs.declared.header.Header.{Header}
 use Rattle.std.proofs.lemmas.Bool.{cases_eq, ne_eqb}
-use Rattle.go_model.specs.declared.meaning.Meaning.{Meaning}
+use Rattle.go_model.specs.Values.Meaning.{Naming}
 use Rattle.go_module.specs.Names.Declarations.{Declaration, number_of}
 use Rattle.go_model.specs.Outcomes.Records.{HeaderData, header_as}
 use Rattle.go_model.specs.Outcomes.Walk.{Headers}
@@ -24,27 +24,27 @@ use Rattle.go_decl.proofs.PlaceLemmas.{place_declared}
 use Rattle.go_names.specs.declared.declaration.Declaration.{Declaration as OwnDeclaration}
 use Rattle.go_names.specs.Views.{declaration_view, declarations_view}
 
-module _ (before : Headers) (means : ℕ → Meaning) (declarations : List Declaration) (headers : Headers) (b : IsBacked before means declarations headers) where
+module _ (before : Headers) (naming : Naming) (declarations : List Declaration) (headers : Headers) (b : IsBacked before naming declarations headers) where
   -- what these headers have where a header follows from them
-  settled_header : ((d : ℕ) → IsSettled before means declarations headers d) → (d : ℕ) (h : HeaderData) → Follows before means declarations headers d h → headers d ≡ Some h
+  settled_header : ((d : ℕ) → IsSettled before naming declarations headers d) → (d : ℕ) (h : HeaderData) → Follows before naming declarations headers d h → headers d ≡ Some h
   settled_header s d h g = by_header (headers d) refl
     where
       part : IsPart (headers_of before b.list) headers
       part d' h' q = b.same d' ∙ q
 
-      by_either : (v : HeaderData) → (before d ≡ Some v) ⊎ Follows before means declarations (headers_of before b.list) d v → v ≡ h
+      by_either : (v : HeaderData) → (before d ≡ Some v) ⊎ Follows before naming declarations (headers_of before b.list) d v → v ≡ h
       by_either v (inl was) = absurd (let never : None ≡ Some v = sym g.fresh ∙ was in cc)
-      by_either v (inr f) = Follows-same before means declarations headers d v h (Follows-part before means declarations (headers_of before b.list) headers part d v f) g
+      by_either v (inr f) = Follows-same before naming declarations headers d v h (Follows-part before naming declarations (headers_of before b.list) headers part d v f) g
 
       by_header : (o : Option HeaderData) → headers d ≡ o → headers d ≡ Some h
       by_header None e = absurd (s d h e g)
-      by_header (Some v) e = e ∙ ap Some (by_either v (stays before means declarations b.list b.justified d v (sym (b.same d) ∙ e)))
+      by_header (Some v) e = e ∙ ap Some (by_either v (stays before naming declarations b.list b.justified d v (sym (b.same d) ∙ e)))
 
   -- the rounds are exact
-  exact : ((d : ℕ) → IsSettled before means declarations headers d) → (d : ℕ) (h : HeaderData) → (headers d ≡ Some h) ↔ Known before means declarations d h
+  exact : ((d : ℕ) → IsSettled before naming declarations headers d) → (d : ℕ) (h : HeaderData) → (headers d ≡ Some h) ↔ Known before naming declarations d h
   exact s d h = (
     λ e. record { list = b.list; justified = b.justified; has = sym (b.same d) ∙ e },
-    λ k. has_all before means declarations headers (λ d' h' e. b.same d' ∙ kept before means declarations b.list b.justified d' h' e) (settled_header s) k.list k.justified d h k.has,
+    λ k. has_all before naming declarations headers (λ d' h' e. b.same d' ∙ kept before naming declarations b.list b.justified d' h' e) (settled_header s) k.list k.justified d h k.has,
   )
 
 -- headers that are equal one by one are equal
@@ -56,15 +56,15 @@ headers_of-both : (before : Headers) (list other : List (ℕ × HeaderData)) (d 
 headers_of-both before list [] d = refl
 headers_of-both before list (p ∷ other) d = ap (λ (o : Option HeaderData). if p.0 == d then Some p.1 else o) (headers_of-both before list other d)
 
-module _ (before : Headers) (means : ℕ → Meaning) (declarations : List Declaration) where
-  none_before : (list : List (ℕ × HeaderData)) → Justified before means declarations list → (d : ℕ) → headers_of before list d ≡ None → before d ≡ None
+module _ (before : Headers) (naming : Naming) (declarations : List Declaration) where
+  none_before : (list : List (ℕ × HeaderData)) → Justified before naming declarations list → (d : ℕ) → headers_of before list d ≡ None → before d ≡ None
   none_before list j d vacant = by_header (before d) refl
     where
       by_header : (o : Option HeaderData) → before d ≡ o → before d ≡ None
       by_header None e = e
-      by_header (Some h) e = absurd (let never : Some h ≡ None = sym (kept before means declarations list j d h e) ∙ vacant in cc)
+      by_header (Some h) e = absurd (let never : Some h ≡ None = sym (kept before naming declarations list j d h e) ∙ vacant in cc)
 
-  both_justified : (list : List (ℕ × HeaderData)) → Justified before means declarations list → (other : List (ℕ × HeaderData)) → Justified (headers_of before list) means declarations other → Justified before means declarations (other ++ list)
+  both_justified : (list : List (ℕ × HeaderData)) → Justified before naming declarations list → (other : List (ℕ × HeaderData)) → Justified (headers_of before list) naming declarations other → Justified before naming declarations (other ++ list)
   both_justified list j [] k = j
   both_justified list j (p ∷ other) k =
       let same = all_equal (headers_of (headers_of before list) other) (headers_of before (other ++ list)) (headers_of-both before list other) in (
@@ -73,15 +73,15 @@ module _ (before : Headers) (means : ℕ → Meaning) (declarations : List Decla
           declaration = k.1.declaration;
           declared = k.1.declared;
           fresh = none_before list j p.0 k.1.fresh;
-          tells = subst (λ (m : Headers). header_over means m k.1.declaration ≡ Some p.1) same k.1.tells;
+          tells = subst (λ (m : Headers). header_over naming m k.1.declaration ≡ Some p.1) same k.1.tells;
         },
       )
 
   -- what is backed by backed headers, with the same meanings, is backed
-  pub backed_twice : (mid headers : Headers) (k : ℕ → Meaning) → k ≡ means → IsBacked before means declarations mid → IsBacked mid k declarations headers → IsBacked before means declarations headers
+  pub backed_twice : (mid headers : Headers) (k : Naming) → k ≡ naming → IsBacked before naming declarations mid → IsBacked mid k declarations headers → IsBacked before naming declarations headers
   backed_twice mid headers k is b c =
       let same = all_equal mid (headers_of before b.list) b.same in
-      let d : IsBacked (headers_of before b.list) means declarations headers = subst (λ (m : Headers). IsBacked m means declarations headers) same (subst (λ (j : ℕ → Meaning). IsBacked mid j declarations headers) is c) in
+      let d : IsBacked (headers_of before b.list) naming declarations headers = subst (λ (m : Headers). IsBacked m naming declarations headers) same (subst (λ (j : Naming). IsBacked mid j declarations headers) is c) in
       record {
         list = d.list ++ b.list;
         justified = both_justified b.list b.justified d.list d.justified;
@@ -89,12 +89,12 @@ module _ (before : Headers) (means : ℕ → Meaning) (declarations : List Decla
       }
 
   -- headers are backed by themselves
-  pub backed_same : (headers : Headers) → headers ≡ before → IsBacked before means declarations headers
+  pub backed_same : (headers : Headers) → headers ≡ before → IsBacked before naming declarations headers
   backed_same headers same = record { list = []; justified = tt; same = λ d i. same i d }
 
   -- a header that follows may be learnt
-  pub backed_one : (headers : Headers) (d : ℕ) (h : HeaderData) (declaration : Declaration) → declared_as declarations d ≡ Some declaration → before d ≡ None → header_over means before declaration ≡ Some h
-      → ((e : ℕ) → headers e ≡ headers_of before ((d, h) ∷ []) e) → IsBacked before means declarations headers
+  pub backed_one : (headers : Headers) (d : ℕ) (h : HeaderData) (declaration : Declaration) → declared_as declarations d ≡ Some declaration → before d ≡ None → header_over naming before declaration ≡ Some h
+      → ((e : ℕ) → headers e ≡ headers_of before ((d, h) ∷ []) e) → IsBacked before naming declarations headers
   backed_one headers d h declaration declared fresh tells same = record {
     list = (d, h) ∷ [];
     justified = (tt, record { declaration = declaration; declared = declared; fresh = fresh; tells = tells });
@@ -102,27 +102,27 @@ module _ (before : Headers) (means : ℕ → Meaning) (declarations : List Decla
   }
 
   -- told or not
-  pub backed_either : (headers : Headers) (d : ℕ) (h : HeaderData) (declaration : Declaration) → declared_as declarations d ≡ Some declaration → before d ≡ None → header_over means before declaration ≡ Some h
-      → IsToldOrNot before d h headers → IsBacked before means declarations headers
+  pub backed_either : (headers : Headers) (d : ℕ) (h : HeaderData) (declaration : Declaration) → declared_as declarations d ≡ Some declaration → before d ≡ None → header_over naming before declaration ≡ Some h
+      → IsToldOrNot before d h headers → IsBacked before naming declarations headers
   backed_either headers d h declaration declared fresh tells (not_told same) = backed_same headers same
   backed_either headers d h declaration declared fresh tells (told each) = backed_one headers d h declaration declared fresh tells each
 
   -- settled headers are settled whatever was known before
-  pub settled_after : (headers : Headers) (d : ℕ) → IsSettled headers means declarations headers d → IsSettled before means declarations headers d
+  pub settled_after : (headers : Headers) (d : ℕ) → IsSettled headers naming declarations headers d → IsSettled before naming declarations headers d
   settled_after headers d s = λ h vacant f. s h vacant (record { declaration = f.declaration; declared = f.declared; fresh = vacant; tells = f.tells })
 
-  pub exact_after : (headers : Headers) → IsBacked before means declarations headers → ((d : ℕ) → IsSettled headers means declarations headers d) → (d : ℕ) (h : HeaderData) → (headers d ≡ Some h) ↔ Known before means declarations d h
-  exact_after headers b s = exact before means declarations headers b (λ d. settled_after headers d (s d))
+  pub exact_after : (headers : Headers) → IsBacked before naming declarations headers → ((d : ℕ) → IsSettled headers naming declarations headers d) → (d : ℕ) (h : HeaderData) → (headers d ≡ Some h) ↔ Known before naming declarations d h
+  exact_after headers b s = exact before naming declarations headers b (λ d. settled_after headers d (s d))
 
 -- equal headers are backed by equal declarations
-pub backed_as : {before : Headers} {means : ℕ → Meaning} {declarations others : List Declaration} {headers same : Headers} → declarations ≡ others → same ≡ headers → IsBacked before means declarations headers → IsBacked before means others same
-backed_as {before} {means} {declarations} {others} {headers} {same} are is b = subst (λ (ds : List Declaration). IsBacked before means ds same) are (subst (IsBacked before means declarations) (sym is) b)
+pub backed_as : {before : Headers} {naming : Naming} {declarations others : List Declaration} {headers same : Headers} → declarations ≡ others → same ≡ headers → IsBacked before naming declarations headers → IsBacked before naming others same
+backed_as {before} {naming} {declarations} {others} {headers} {same} are is b = subst (λ (ds : List Declaration). IsBacked before naming ds same) are (subst (IsBacked before naming declarations) (sym is) b)
 
 -- a declaration whose header does not follow is settled
-pub settled_none : (headers : Headers) (means : ℕ → Meaning) (declarations : List Declaration) (d : ℕ) (declaration : Declaration) → declared_as declarations d ≡ Some declaration → header_over means headers declaration ≡ None → IsSettled headers means declarations headers d
-settled_none headers means declarations d declaration declared none = λ h vacant f.
+pub settled_none : (headers : Headers) (naming : Naming) (declarations : List Declaration) (d : ℕ) (declaration : Declaration) → declared_as declarations d ≡ Some declaration → header_over naming headers declaration ≡ None → IsSettled headers naming declarations headers d
+settled_none headers naming declarations d declaration declared none = λ h vacant f.
     let same : f.declaration ≡ declaration = cc (f.declared, declared) in
-    let tells : header_over means headers declaration ≡ Some h = subst (λ (x : Declaration). header_over means headers x ≡ Some h) same f.tells in
+    let tells : header_over naming headers declaration ≡ Some h = subst (λ (x : Declaration). header_over naming headers x ≡ Some h) same f.tells in
     cc
 
 -- the count goes down when a header is learnt
@@ -202,8 +202,8 @@ is_vacant None none = refl
 is_vacant (Some h) none = absurd (let never : true ≡ false = none in cc)
 
 -- what is found of a declaration over the same headers with the same meanings is found over these
-pub found_over : (tree : Term → TypeData) (means k : ℕ → Meaning) (headers m : Headers) (declaration : Declaration) (o x : Option Header) → k ≡ means → m ≡ headers → option_map (header_as tree) o ≡ header_over k m declaration → o ≡ x → header_over means headers declaration ≡ option_map (header_as tree) x
-found_over tree means k headers m declaration o x same kept found is = (λ i. header_over (sym same i) (sym kept i) declaration) ∙ sym found ∙ ap (option_map (header_as tree)) is
+pub found_over : (tree : Term → TypeData) (naming k : Naming) (headers m : Headers) (declaration : Declaration) (o x : Option Header) → k ≡ naming → m ≡ headers → option_map (header_as tree) o ≡ header_over k m declaration → o ≡ x → header_over naming headers declaration ≡ option_map (header_as tree) x
+found_over tree naming k headers m declaration o x same kept found is = (λ i. header_over (sym same i) (sym kept i) declaration) ∙ sym found ∙ ap (option_map (header_as tree)) is
 
 pub learnt_over : (headers m after : Headers) (d : ℕ) (h : HeaderData) → m ≡ headers → ((e : ℕ) → after e ≡ headers_of m ((d, h) ∷ []) e) → (e : ℕ) → after e ≡ headers_of headers ((d, h) ∷ []) e
 learnt_over headers m after d h kept learnt e = learnt e ∙ ap (λ (k : Headers). headers_of k ((d, h) ∷ []) e) kept

@@ -9,9 +9,9 @@ use Rattle.std.proofs.lemmas.List.Elements.{Contains-append_cases, Contains-appe
 use Rattle.go_base.specs.declared.ids.ObjId.{ObjId}
 use Rattle.go_graph.specs.Graph.{Graph, HasEdge, Path, start, further, IsGraph, is_marked, row_at}
 use Rattle.go_model.specs.Names.Declarations.{Declaration, number_of, rests_on}
-use Rattle.go_model.specs.Names.Occurrences.{nodes_in}
+use Rattle.go_operands.specs.Operands.{expressions_in}
 use Rattle.go_module.proofs.MemberLemmas.{cons_cases, contains_head, contains_none, contains_tail}
-use Rattle.go_model.specs.declared.meaning.Meaning.{Meaning}
+use Rattle.go_model.specs.Values.Meaning.{Naming}
 use Rattle.go_model.specs.Outcomes.Readings.{awaited_in}
 use Rattle.go_model.specs.Outcomes.Walk.{Headers, outcome}
 use Rattle.go_model.specs.Outcomes.Walked.{AreWalked, Outcomes}
@@ -102,42 +102,42 @@ module _ (entries : List (ObjId × ℕ)) (declarations : List Declaration) (plac
       let lt = place_within (record { 0 = is.number }) b is.is in
       omega (arith, lt, length-map declarations found)
 
-  module _ (means : ℕ → Meaning) (headers : Headers) where
+  module _ (naming : Naming) (headers : Headers) where
     abbrev found : Declaration → List ℕ
-    found = awaited_places (placed_by entries) (awaited_by means headers)
+    found = awaited_places (placed_by entries) (awaited_by naming headers)
 
     abbrev graph : Graph
-    graph = waits_of (placed_by entries) (awaited_by means headers) declarations
+    graph = waits_of (placed_by entries) (awaited_by naming headers) declarations
 
     -- an edge from the place of an object leads to the place of one that it waits for
     record Leads (d : ObjId) (place : ℕ) : Type 0 where
       pub object : ObjId
       pub is : placed_by entries object ≡ Some place
-      pub waits : Waits means declarations headers d.0 object.0
+      pub waits : Waits naming declarations headers d.0 object.0
 
     edge_waits : (d : ObjId) (i j : ℕ) → placed_by entries d ≡ Some i → HasEdge graph i j → Leads d j
     edge_waits d i j e leads =
         let at = row_declared found declarations i j leads in
         let here = place_is d i e in
         let one : here.declaration ≡ at.0 = cc (here.at, at.1) in
-        let is = place_of (placed_by entries) (awaited_by means headers at.0) j at.2 in
+        let is = place_of (placed_by entries) (awaited_by naming headers at.0) j at.2 in
         record {
           object = record { 0 = is.number };
           is = is.is;
           waits = record { declaration = at.0; declared = here.declared ∙ ap Some one; awaits = is.among };
         }
 
-    waits_edge : (d e : ObjId) (i j : ℕ) → placed_by entries d ≡ Some i → placed_by entries e ≡ Some j → Waits means declarations headers d.0 e.0 → HasEdge graph i j
+    waits_edge : (d e : ObjId) (i j : ℕ) → placed_by entries d ≡ Some i → placed_by entries e ≡ Some j → Waits naming declarations headers d.0 e.0 → HasEdge graph i j
     waits_edge d e i j at there w =
         let here = place_is d i at in
         let one : here.declaration ≡ w.declaration = cc (here.declared, w.declared) in
         let row : row_at graph i ≡ found w.declaration = declared_row found declarations i w.declaration (here.at ∙ ap Some one) in
-        subst (λ (xs : List ℕ). Contains xs j) (sym row) (has_place (placed_by entries) (awaited_by means headers w.declaration) e.0 j w.awaits there)
+        subst (λ (xs : List ℕ). Contains xs j) (sym row) (has_place (placed_by entries) (awaited_by naming headers w.declaration) e.0 j w.awaits there)
 
     record Chained (d : ObjId) (place : ℕ) : Type 0 where
       pub object : ObjId
       pub is : placed_by entries object ≡ Some place
-      pub chain : Chain means declarations headers d.0 object.0
+      pub chain : Chain naming declarations headers d.0 object.0
 
     path_chain : (d : ObjId) (i j : ℕ) → placed_by entries d ≡ Some i → Path graph i j → Chained d j
     path_chain d i j e (start _ leads) =
@@ -149,42 +149,42 @@ module _ (entries : List (ObjId × ℕ)) (declarations : List Declaration) (plac
         record { object = next.object; is = next.is; chain = more so_far.object.0 next.object.0 so_far.chain next.waits }
 
     -- what stands inside a chain waits, and so is declared; what has no place ends it
-    chain_path : (d : ObjId) (e i j : ℕ) → placed_by entries d ≡ Some i → placed_by entries (record { 0 = e }) ≡ Some j → Chain means declarations headers d.0 e → Path graph i j
+    chain_path : (d : ObjId) (e i j : ℕ) → placed_by entries d ≡ Some i → placed_by entries (record { 0 = e }) ≡ Some j → Chain naming declarations headers d.0 e → Path graph i j
     chain_path d e i j at there (one _ w) = start j (waits_edge d (record { 0 = e }) i j at there w)
     chain_path d e i j at there (more b _ chain w) =
         let inside = has_own_place b w.declaration w.declared in
         further inside.place j (chain_path d b i inside.place at inside.is chain) (waits_edge (record { 0 = b }) (record { 0 = e }) inside.place j inside.is there w)
 
     -- the first of a chain waits
-    first_place : (d e : ℕ) → Chain means declarations headers d e → HasPlace d
+    first_place : (d e : ℕ) → Chain naming declarations headers d e → HasPlace d
     first_place d e (one _ w) = has_own_place d w.declaration w.declared
     first_place d e (more b _ chain w) = first_place d b chain
 
     -- the vertices from which a path leads back are the places of what waits for itself
-    pub marks_are_chains : (marks : List Bool) → ((i : ℕ) → (is_marked marks i ≡ true) ↔ Path graph i i) → (d : ℕ) → (marked_by (placed_by entries) marks d ≡ true) ↔ Chain means declarations headers d d
+    pub marks_are_chains : (marks : List Bool) → ((i : ℕ) → (is_marked marks i ≡ true) ↔ Path graph i i) → (d : ℕ) → (marked_by (placed_by entries) marks d ≡ true) ↔ Chain naming declarations headers d d
     marks_are_chains marks exact d = (to_chain (placed_by entries (record { 0 = d })) refl, to_mark)
       where
-        to_chain : (o : Option ℕ) → placed_by entries (record { 0 = d }) ≡ o → marked_by (placed_by entries) marks d ≡ true → Chain means declarations headers d d
+        to_chain : (o : Option ℕ) → placed_by entries (record { 0 = d }) ≡ o → marked_by (placed_by entries) marks d ≡ true → Chain naming declarations headers d d
         to_chain None at e = absurd (let never : false ≡ true = sym (ap (mark_at marks) at) ∙ e in cc)
         to_chain (Some i) at e =
             let back = path_chain (record { 0 = d }) i i at ((exact i).0 (sym (ap (mark_at marks) at) ∙ e)) in
             let same : back.object.0 ≡ d = ap (λ (k : ObjId). k.0) (one_object back.object (record { 0 = d }) i back.is at) in
-            subst (Chain means declarations headers d) same back.chain
+            subst (Chain naming declarations headers d) same back.chain
 
-        to_mark : Chain means declarations headers d d → marked_by (placed_by entries) marks d ≡ true
+        to_mark : Chain naming declarations headers d d → marked_by (placed_by entries) marks d ≡ true
         to_mark chain =
             let here = first_place d d chain in
             ap (mark_at marks) here.is ∙ (exact here.place).1 (chain_path (record { 0 = d }) d here.place here.place here.is here.is chain)
 
 -- by outcomes that walks left the graph is the same
-pub read_graph : (entries : List (ObjId × ℕ)) (means : ℕ → Meaning) (headers : Headers) (declarations : List Declaration) (outcomes : Outcomes) → AreWalked means headers (flat_map nodes_under declarations) outcomes
-    → waits_of (placed_by entries) (awaited_under (outcome_read outcomes)) declarations ≡ waits_of (placed_by entries) (awaited_by means headers) declarations
-read_graph entries means headers declarations outcomes walked = map-same (awaited_places (placed_by entries) (awaited_under (outcome_read outcomes))) (awaited_places (placed_by entries) (awaited_by means headers)) declarations each
+pub read_graph : (entries : List (ObjId × ℕ)) (naming : Naming) (headers : Headers) (declarations : List Declaration) (outcomes : Outcomes) → AreWalked naming headers (flat_map nodes_under declarations) outcomes
+    → waits_of (placed_by entries) (awaited_under (outcome_read outcomes)) declarations ≡ waits_of (placed_by entries) (awaited_by naming headers) declarations
+read_graph entries naming headers declarations outcomes walked = map-same (awaited_places (placed_by entries) (awaited_under (outcome_read outcomes))) (awaited_places (placed_by entries) (awaited_by naming headers)) declarations each
   where
-    each : (d : Declaration) → Contains declarations d → awaited_places (placed_by entries) (awaited_under (outcome_read outcomes)) d ≡ awaited_places (placed_by entries) (awaited_by means headers) d
+    each : (d : Declaration) → Contains declarations d → awaited_places (placed_by entries) (awaited_under (outcome_read outcomes)) d ≡ awaited_places (placed_by entries) (awaited_by naming headers) d
     each d in_d =
         ap (flat_map (place_list (placed_by entries)))
-        (flat_map-same (awaited_among (outcome_read outcomes)) (awaited_by_nodes means headers) (rests_on d)
-        (λ t in_t. flat_map-same (λ node. awaited_in (outcome_read outcomes node)) (λ node. awaited_in (outcome means headers node)) (nodes_in t)
-        (λ node in_node. ap awaited_in (read_is means headers (flat_map nodes_under declarations) outcomes walked node
-        (flat_contains nodes_under declarations d node in_d (flat_contains nodes_in (rests_on d) t node in_t in_node))))))
+        (flat_map-same (awaited_among (outcome_read outcomes)) (awaited_by_nodes naming headers) (rests_on d)
+        (λ t in_t. flat_map-same (λ node. awaited_in (outcome_read outcomes node)) (λ node. awaited_in (outcome naming headers node)) (expressions_in t)
+        (λ node in_node. ap awaited_in (read_is naming headers (flat_map nodes_under declarations) outcomes walked node
+        (flat_contains nodes_under declarations d node in_d (flat_contains expressions_in (rests_on d) t node in_t in_node))))))

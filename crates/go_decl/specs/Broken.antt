@@ -4,14 +4,14 @@ use Rattle.go_base.specs.declared.rule.Broken.{Broken}
 use Rattle.go_module.specs.Modules.Module.{PackageData}
 use Rattle.go_module.specs.Names.Declarations.{declarations_of}
 use Rattle.go_module.specs.Order.{IsListOf}
-use Rattle.go_model.specs.declared.meaning.Meaning.{Meaning}
+use Rattle.go_model.specs.Values.Meaning.{Naming}
 use Rattle.go_model.specs.Outcomes.Walk.{Headers}
 use Rattle.go_model.specs.Values.Rules.{broken_values}
 use Rattle.go_model.specs.Values.Waiting.{Chain}
 
 -- the list of a report has exactly what the values of a package break over these headers, by which declarations wait for
 -- themselves
-pub record AreBroken (means : ℕ → Meaning) (headers : Headers) (p : PackageData) (list : List Broken) : Type 0 where
+pub record AreBroken (naming : Naming) (headers : Headers) (p : PackageData) (list : List Broken) : Type 0 where
   pub cyclic : ℕ → Bool
-  pub is_cyclic : (d : ℕ) → (cyclic d ≡ true) ↔ Chain means (declarations_of p) headers d d
-  pub is_list : IsListOf (broken_values means headers cyclic p) list
+  pub is_cyclic : (d : ℕ) → (cyclic d ≡ true) ↔ Chain naming (declarations_of p) headers d d
+  pub is_list : IsListOf (broken_values naming headers cyclic p) list

@@ -10,11 +10,11 @@ use Rattle.go_module.specs.declared.declaration.Built.TheVariants.{Itself, Pair,
 use Rattle.go_module.specs.Modules.Module.{ModuleData, PackageData, package_view}
 use Rattle.go_module.specs.Names.Declarations.{Declaration, Spec, declared_in, number_of, rests_on, specs_of}
 use Rattle.go_module.specs.Places.{with_number}
-use Rattle.go_model.specs.declared.meaning.Meaning.{Meaning}
+use Rattle.go_model.specs.Values.Meaning.{Naming}
 use Rattle.go_model.specs.Outcomes.Judged.{OutcomeData}
 use Rattle.go_model.specs.Outcomes.Records.{RecData}
 use Rattle.go_model.specs.Outcomes.Walk.{Headers, outcome}
-use Rattle.go_model.specs.Values.Rules.{broken_by, unequal_by}
+use Rattle.go_model.specs.Values.Rules.{broken_by, others_by_kind, unequal_by}
 use Rattle.go_names.specs.Views.{declaration_view, spec_view}
 use Rattle.go_decl.specs.declared.parts.FoundPart.{FoundPart}
 
@@ -42,7 +42,7 @@ abbrev pub part_named : ModuleData → ℕ → Option Part
 part_named m d = find (is_numbered d) (flat_map parts_of m.packages)
 
 -- by whatever says which outcome a node has: R37 at the spec, where the header of a declaration rests on its whole list;
--- and what the types and the expressions break on which the header rests
+-- R1 and C13 at the expressions and the types on which the header rests, and what the nodes of these break
 module _ (outcome : Tree → OutcomeData RecData) where
   abbrev pub unequal_for : Built → Spec → List Broken
   unequal_for WholeList spec = unequal_by outcome spec
@@ -50,15 +50,17 @@ module _ (outcome : Tree → OutcomeData RecData) where
   unequal_for Itself spec = []
 
   abbrev pub broken_under : Spec → Declaration → List Broken
-  broken_under spec d = unequal_for d.built spec ++ flat_map (broken_by outcome spec.file spec.told_at) (rests_on d)
+  broken_under spec d =
+      unequal_for d.built spec
+      ++ (others_by_kind outcome spec.kind spec d.types d.values ++ flat_map (broken_by outcome spec.file spec.told_at) (rests_on d))
 
   -- each told by the number of its file
   abbrev pub broken_part_by : Part → List Broken
   broken_part_by part = map (with_number part.own.files) (broken_under part.spec part.declaration)
 
 -- what a part breaks over the headers, in any order
-abbrev pub broken_part : (ℕ → Meaning) → Headers → Part → List Broken
-broken_part means headers part = broken_part_by (outcome means headers) part
+abbrev pub broken_part : Naming → Headers → Part → List Broken
+broken_part naming headers part = broken_part_by (outcome naming headers) part
 
 -- what a part of the program stands for
 abbrev pub part_view : FoundPart → Part

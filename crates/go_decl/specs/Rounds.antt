@@ -1,20 +1,20 @@
 -- Headers that are found in rounds: what the rounds keep, and when no more can be found.
 use Rattle.std.specs.Prelude.{◌≡◌, ℕ, suc, Option, Some, None, List, [], ◌∷◌}
 use Rattle.go_module.specs.Names.Declarations.{Declaration, number_of}
-use Rattle.go_model.specs.declared.meaning.Meaning.{Meaning}
+use Rattle.go_model.specs.Values.Meaning.{Naming}
 use Rattle.go_model.specs.Outcomes.Records.{HeaderData}
 use Rattle.go_model.specs.Outcomes.Walk.{Headers}
 use Rattle.go_model.specs.Values.Headers.{Follows, headers_of, Justified}
 
 -- these headers are those of some justified list
-pub record IsBacked (before : Headers) (means : ℕ → Meaning) (declarations : List Declaration) (headers : Headers) : Type 0 where
+pub record IsBacked (before : Headers) (naming : Naming) (declarations : List Declaration) (headers : Headers) : Type 0 where
   pub list : List (ℕ × HeaderData)
-  pub justified : Justified before means declarations list
+  pub justified : Justified before naming declarations list
   pub same : (d : ℕ) → headers d ≡ headers_of before list d
 
 -- no header for d follows from these headers, unless it is there
-abbrev pub IsSettled : Headers → (ℕ → Meaning) → List Declaration → Headers → ℕ → Type 0
-IsSettled before means declarations headers d = (h : HeaderData) → headers d ≡ None → Follows before means declarations headers d h → ⊥
+abbrev pub IsSettled : Headers → Naming → List Declaration → Headers → ℕ → Type 0
+IsSettled before naming declarations headers d = (h : HeaderData) → headers d ≡ None → Follows before naming declarations headers d h → ⊥
 
 -- one more, where there is no header
 abbrev pub and_open : Option HeaderData → ℕ → ℕ

@@ -1,27 +1,32 @@
 // What a spec breaks, by the outcomes of its nodes (Go specification, "Constants", "Constant expressions", "Constant
 // declarations", "Qualified identifiers").
-ghost use Rattle.std.specs.Prelude.{◌≡◌, ◌++◌, OnOk, is_some, map, slice_get, unwrap_or};
+ghost use Rattle.std.specs.Prelude.{◌≡◌, ◌++◌, IfOk, OnOk, map, not, slice_get, unwrap_or};
 ghost use Rattle.std.specs.List.{flat_map, list_all};
 ghost use Rattle.std.specs.Option.{option_map};
-ghost use Rattle.go_tree.specs.Tree.{tree_of};
+ghost use Rattle.go_tree.specs.Tree.{list_of, parts_of, tree_of};
 ghost use Rattle.go_module.specs.Broken.{broken_at};
-ghost use Rattle.go_model.specs.Outcomes.Readings.{broken_spots, part_start, spot_start};
+ghost use Rattle.go_model.specs.Outcomes.Readings.{broken_spots, spot_start, start_among};
 ghost use Rattle.go_names.specs.Views.{declaration_view, spec_view};
 ghost use Rattle.go_expr.specs.Read.{outcome_read};
-ghost use Rattle.go_model.specs.Values.Records.{record_by};
-ghost use Rattle.go_model.specs.Values.Rules.{are_unequal_by, broken_by, broken_spec_by, unequal_by};
+ghost use Rattle.go_operands.specs.Operands.{operands_of};
+ghost use Rattle.go_model.specs.Outcomes.Constructs.Kinds.{no_type, no_value};
+ghost use Rattle.go_model.specs.Outcomes.Operands.{is_constant, is_type};
+ghost use Rattle.go_model.specs.Values.Rules.{are_unequal_by, broken_by, broken_spec_by, has_record, others_by, others_by_kind, unequal_by};
 ghost use Rattle.go_decl.specs.Parts.{broken_under, unequal_for};
 
 use crate::rules::UNEQUAL_SIDES;
 use go_base::{Broken, NoMemory, Rule};
-use go_model::{ExprWalk, Outcome, Spot};
+use go_expr::{NO_TYPE, NO_VALUE};
+use go_model::{ExprWalk, Mode, Outcome, Spot};
 use go_module::{Built, ObjKind, add_if, broken_at};
-use go_names::{Declaration, Spec, nodes_in};
+use go_names::{Declaration, Spec};
+use go_operands::{expressions_in, operands_of};
 use go_tree::Node;
 use std::alloc::Global;
 
-/// Pushes what a spec breaks: R37 where its numbers of names and of expressions differ, and what its nodes break. An
-/// error is want of memory.
+/// Pushes what a spec breaks: R37 where it is of constants and its numbers of names and of expressions differ, R1 at an
+/// expression of it that is no constant, C13 at the type of a variable, and behind the name of a type or an alias, at what
+/// is no type, and what its nodes break. An error is want of memory.
 pub fn push_spec<W: ExprWalk>(
     alloc: Global,
     walks: &W,
@@ -32,12 +37,13 @@ pub fn push_spec<W: ExprWalk>(
         ++ broken_spec_by (outcome_read (W.outcomes walks.now)) (spec_view spec.now)) }
 {
     push_unequal(walks, spec, found)?;
+    push_others(walks, spec, spec.types, spec.values, found)?;
     push_nodes(alloc, walks, spec, spec.types, found)?;
     push_nodes(alloc, walks, spec, spec.values, found)
 }
 
-/// Pushes what a declaration of a spec breaks: R37 at the spec, where its header rests on the whole list, and what the
-/// nodes of its types and expressions break. An error is want of memory.
+/// Pushes what a declaration of a spec breaks: R37 at a spec of constants, where its header rests on the whole list, R1 and
+/// C13 at its expressions and its type, and what the nodes of these break. An error is want of memory.
 pub fn push_part<W: ExprWalk>(
     alloc: Global,
     walks: &W,
@@ -49,6 +55,7 @@ pub fn push_part<W: ExprWalk>(
         ++ broken_under (outcome_read (W.outcomes walks.now)) (spec_view spec.now) (declaration_view declaration.now)) }
 {
     push_unequal_for(walks, declaration.built, spec, found)?;
+    push_others(walks, spec, declaration.types, declaration.values, found)?;
     push_nodes(alloc, walks, spec, declaration.types, found)?;
     push_nodes(alloc, walks, spec, declaration.values, found)
 }
@@ -89,32 +96,115 @@ fn push_unequal<W: ExprWalk>(
     }
 }
 
-// Whether the numbers of names and of expressions differ, and all expressions have records.
+// Whether the numbers of names and of expressions differ, and all expressions are constants.
 fn are_unequal<W: ExprWalk>(walks: &W, names: &[Node], values: &[Node]) -> bool
     ensures { result ≡ are_unequal_by (outcome_read (W.outcomes walks.now)) (map tree_of names.now)
         (map tree_of values.now) }
 {
-    names.len() != values.len() && have_records(walks, values)
+    names.len() != values.len() && are_constants(walks, values)
 }
 
-// Whether all of these expressions have records.
-fn have_records<W: ExprWalk>(walks: &W, values: &[Node]) -> bool
-    ensures { result ≡ list_all (λ value. is_some (record_by (outcome_read (W.outcomes walks.now)) value))
+// Whether all of these expressions are constants.
+fn are_constants<W: ExprWalk>(walks: &W, values: &[Node]) -> bool
+    ensures { result ≡ list_all (has_record (outcome_read (W.outcomes walks.now)) is_constant)
         (map tree_of values.now) }
 {
     for value in values {
-        if !has_record(walks, value) {
+        if !is_constant(walks, value) {
             return false;
         }
     }
     true
 }
 
-fn has_record<W: ExprWalk>(walks: &W, value: &Node) -> bool
-    ensures { result ≡ is_some (record_by (outcome_read (W.outcomes walks.now)) (tree_of value.now)) }
+fn is_constant<W: ExprWalk>(walks: &W, value: &Node) -> bool
+    ensures { result ≡ has_record (outcome_read (W.outcomes walks.now)) is_constant (tree_of value.now) }
 {
     match walks.outcome(value.id()) {
-        Some(Outcome::Found(_)) => true,
+        Some(Outcome::Found(rec)) => matches!(rec.mode, Mode::Const),
+        Some(Outcome::Broken(_, _)) => false,
+        Some(Outcome::Waits(_)) => false,
+        Some(Outcome::Nothing) => false,
+        None => false,
+    }
+}
+
+// Pushes R1 at each of these expressions that is no constant, where the spec is of constants, else C13 at each of these
+// types that is none.
+fn push_others<W: ExprWalk>(
+    walks: &W,
+    spec: &Spec,
+    types: &[Node],
+    values: &[Node],
+    found: &mut Vec<Broken>,
+) -> Result<(), NoMemory>
+    ensures { OnOk result (found.new.items ≡ found.old.items
+        ++ others_by_kind (outcome_read (W.outcomes walks.now)) spec.now.kind (spec_view spec.now)
+        (map tree_of types.now) (map tree_of values.now)) }
+{
+    match spec.kind {
+        ObjKind::Const => push_no_constants(walks, spec, values, found),
+        _ => push_no_types(walks, spec, types, found),
+    }
+}
+
+// Pushes R1 at each of these expressions of a spec that is no constant.
+fn push_no_constants<W: ExprWalk>(
+    walks: &W,
+    spec: &Spec,
+    values: &[Node],
+    found: &mut Vec<Broken>,
+) -> Result<(), NoMemory>
+    ensures { OnOk result (found.new.items ≡ found.old.items
+        ++ others_by (outcome_read (W.outcomes walks.now)) no_value is_constant (spec_view spec.now)
+        (map tree_of values.now)) }
+{
+    for value in values {
+        let offset = spec.told_at.unwrap_or(value.start());
+        let other = is_no_constant(walks, value);
+        add_if(found, other, broken_at(spec.file, offset, NO_VALUE))?;
+    }
+    Ok(())
+}
+
+// Pushes C13 at each of these nodes behind the names of a spec that is no type.
+fn push_no_types<W: ExprWalk>(
+    walks: &W,
+    spec: &Spec,
+    types: &[Node],
+    found: &mut Vec<Broken>,
+) -> Result<(), NoMemory>
+    ensures { OnOk result (found.new.items ≡ found.old.items
+        ++ others_by (outcome_read (W.outcomes walks.now)) no_type is_type (spec_view spec.now)
+        (map tree_of types.now)) }
+{
+    for node in types {
+        let offset = spec.told_at.unwrap_or(node.start());
+        let other = is_no_type(walks, node);
+        add_if(found, other, broken_at(spec.file, offset, NO_TYPE))?;
+    }
+    Ok(())
+}
+
+// Whether a node has the record of something other than a constant, and of something other than a type.
+fn is_no_constant<W: ExprWalk>(walks: &W, node: &Node) -> bool
+    ensures { result ≡ has_record (outcome_read (W.outcomes walks.now)) (λ r. not (is_constant r))
+        (tree_of node.now) }
+{
+    match walks.outcome(node.id()) {
+        Some(Outcome::Found(rec)) => !matches!(rec.mode, Mode::Const),
+        Some(Outcome::Broken(_, _)) => false,
+        Some(Outcome::Waits(_)) => false,
+        Some(Outcome::Nothing) => false,
+        None => false,
+    }
+}
+
+fn is_no_type<W: ExprWalk>(walks: &W, node: &Node) -> bool
+    ensures { result ≡ has_record (outcome_read (W.outcomes walks.now)) (λ r. not (is_type r)) (tree_of node.now) }
+{
+    match walks.outcome(node.id()) {
+        Some(Outcome::Found(rec)) => !(matches!(rec.mode, Mode::IsType) && rec.ty.is_some()),
         Some(Outcome::Broken(_, _)) => false,
         Some(Outcome::Waits(_)) => false,
         Some(Outcome::Nothing) => false,
@@ -150,15 +240,16 @@ fn push_node<W: ExprWalk>(
     ensures { OnOk result (found.new.items ≡ found.old.items
         ++ broken_by (outcome_read (W.outcomes walks.now)) spec.now.file spec.now.told_at (tree_of node.now)) }
 {
-    let nodes = nodes_in(alloc, node)?;
+    let nodes = expressions_in(alloc, node)?;
     for inner in &nodes {
-        push_one(walks, spec.file, spec.told_at, inner, found)?;
+        push_one(alloc, walks, spec.file, spec.told_at, inner, found)?;
     }
     Ok(())
 }
 
 // Pushes the rule that a node breaks, if it does.
 fn push_one<W: ExprWalk>(
+    alloc: Global,
     walks: &W,
     file: usize,
     told_at: Option<usize>,
@@ -169,7 +260,9 @@ fn push_one<W: ExprWalk>(
         (outcome_read (W.outcomes walks.now) (tree_of node.now))) }
 {
     match walks.outcome(node.id()) {
-        Some(Outcome::Broken(rule, spots)) => push_spots(file, told_at, node, *rule, spots, found),
+        Some(Outcome::Broken(rule, spots)) => push_spots(
+            alloc, file, told_at, node, *rule, spots, found,
+        ),
         Some(Outcome::Found(_)) => Ok(()),
         Some(Outcome::Waits(_)) => Ok(()),
         Some(Outcome::Nothing) => Ok(()),
@@ -179,6 +272,7 @@ fn push_one<W: ExprWalk>(
 
 // Pushes a rule at each of these spots of a node.
 fn push_spots(
+    alloc: Global,
     file: usize,
     told_at: Option<usize>,
     node: &Node,
@@ -190,26 +284,37 @@ fn push_spots(
         ++ map (λ spot. broken_at file (unwrap_or told_at (spot_start (tree_of node.now) spot)) rule) spots.now) }
 {
     for spot in spots {
-        let offset = told_at.unwrap_or(spot_start(node, *spot));
-        found.push(broken_at(file, offset, rule))?;
+        let start = spot_start(alloc, node, *spot)?;
+        found.push(broken_at(file, told_at.unwrap_or(start), rule))?;
     }
     Ok(())
 }
 
 // The offset of a spot of a node.
-fn spot_start(node: &Node, spot: Spot) -> usize
-    ensures { result ≡ spot_start (tree_of node.now) spot }
+fn spot_start(alloc: Global, node: &Node, spot: Spot) -> Result<usize, NoMemory>
+    ensures { IfOk result (λ start. start ≡ spot_start (tree_of node.now) spot) }
 {
     match spot {
-        Spot::Whole => node.start(),
-        Spot::Name => part_start(node, 1),
-        Spot::Part(place) => part_start(node, place),
+        Spot::Whole => Ok(node.start()),
+        Spot::Name => Ok(part_start(node, 1)),
+        Spot::Part(place) => operand_start(alloc, node, place),
+    }
+}
+
+// Where an operand of a node starts; where there is no such operand, where the node does.
+fn operand_start(alloc: Global, node: &Node, place: usize) -> Result<usize, NoMemory>
+    ensures { IfOk result (λ start. start ≡ start_among (operands_of (tree_of node.now)) (tree_of node.now) place) }
+{
+    let operands = operands_of(alloc, node)?;
+    match operands.get(place) {
+        Some(operand) => Ok(operand.start()),
+        None => Ok(node.start()),
     }
 }
 
 // Where a part of a node starts; where there is no such part, where the node does.
 fn part_start(node: &Node, place: usize) -> usize
-    ensures { result ≡ part_start (tree_of node.now) place }
+    ensures { result ≡ start_among (list_of (parts_of (tree_of node.now))) (tree_of node.now) place }
 {
     match part_at(node.parts(), place) {
         Some(part) => part.start(),

@@ -9,7 +9,7 @@ ghost use Rattle.go_module.specs.Order.{IsListOf};
 ghost use Rattle.go_model.specs.Outcomes.Records.{header_as};
 ghost use Rattle.go_model.specs.Outcomes.Walked.{AreNumbered, NodesAreNumbered};
 ghost use Rattle.go_model.specs.Types.Own.{IsOwnHeader, KeepsTypes};
-ghost use Rattle.go_model.specs.Values.Meaning.{AreThere, meaning_by};
+ghost use Rattle.go_model.specs.Values.Meaning.{AreThere};
 ghost use Rattle.go_model.specs.Values.Records.{header_over};
 ghost use Rattle.go_expr.specs.Read.{nodes_under, outcome_read};
 ghost use Rattle.go_decl.specs.Parts.{Part, broken_part, broken_part_by, part_named, part_view};
@@ -49,10 +49,10 @@ pub fn elaborate<R: Rules, L: Ledger>(
     requires numbered { NodesAreNumbered (module_view «module».now) }
     ensures header { IfOk result (λ made. (part : Part) → part_named (module_view «module».now) d.0 ≡ Some part
         → option_map (header_as (R.tree rules.new)) made.header
-        ≡ header_over (meaning_by (R.names rules.old)) (R.headers rules.old) part.declaration) }
+        ≡ header_over (R.names rules.old) (R.headers rules.old) part.declaration) }
     ensures own { IfOk result (λ made. IfSome made.header (IsOwnHeader (R.is_type rules.new))) }
     ensures broken { IfOk result (λ made. (part : Part) → part_named (module_view «module».now) d.0 ≡ Some part
-        → IsListOf (broken_part (meaning_by (R.names rules.old)) (R.headers rules.old) part) made.broken.items) }
+        → IsListOf (broken_part (R.names rules.old) (R.headers rules.old) part) made.broken.items) }
     ensures none { IfOk result (λ made. part_named (module_view «module».now) d.0 ≡ None
         → (made.header ≡ None) × (made.broken.items ≡ [])) }
     ensures same { R.headers rules.new ≡ R.headers rules.old }
@@ -83,10 +83,10 @@ fn elaborate_part<R: Rules>(
     requires declared { Contains (declared_in (part_view part.now).spec) (part_view part.now).declaration }
     requires numbered { AreNumbered (nodes_under (part_view part.now).declaration) }
     ensures header { IfOk result (λ made. option_map (header_as (R.tree rules.new)) made.header
-        ≡ header_over (meaning_by (R.names rules.old)) (R.headers rules.old) (part_view part.now).declaration) }
+        ≡ header_over (R.names rules.old) (R.headers rules.old) (part_view part.now).declaration) }
     ensures own { IfOk result (λ made. IfSome made.header (IsOwnHeader (R.is_type rules.new))) }
     ensures broken { IfOk result (λ made. IsListOf
-        (broken_part (meaning_by (R.names rules.old)) (R.headers rules.old) (part_view part.now)) made.broken.items) }
+        (broken_part (R.names rules.old) (R.headers rules.old) (part_view part.now)) made.broken.items) }
     ensures same { R.headers rules.new ≡ R.headers rules.old }
     ensures names { R.names rules.new ≡ R.names rules.old }
     ensures world { R.world rules.new ≡ R.world rules.old }
@@ -94,7 +94,7 @@ fn elaborate_part<R: Rules>(
 {
     let declaration = &part.declaration;
     walk_parts(alloc, rules, declaration.types, declaration.values)?;
-    let header = header_by(rules, declaration)?;
+    let header = header_by(alloc, rules, declaration)?;
     let broken = broken_part(alloc, rules, part)?;
     Ok(Elaborated { header, broken })
 }

@@ -8,7 +8,7 @@ ghost use Rattle.go_model.specs.Outcomes.Records.{HeaderData, header_as};
 ghost use Rattle.go_model.specs.Types.Own.{IsOwnHeader, KeepsTypes};
 ghost use Rattle.go_model.specs.Values.Headers.{Known, headers_of};
 ghost use Rattle.go_model.specs.Values.HeadersView.{AreOwnHeaders, header_in, headers_as};
-ghost use Rattle.go_model.specs.Values.Meaning.{AreThere, meaning_by};
+ghost use Rattle.go_model.specs.Values.Meaning.{AreThere};
 ghost use Rattle.go_decl.specs.Places.{ArePlaces};
 ghost use Rattle.go_decl.specs.Rounds.{IsBacked, IsSettled, IsToldOrNot, open_in};
 ghost use Rattle.go_names.specs.Views.{declarations_view};
@@ -37,12 +37,12 @@ pub fn add_rounds<R: Rules, L: Ledger>(
     requires own { AreOwnHeaders (R.is_type rules.old) known.old }
     requires places { ArePlaces (declarations_view declarations.now) places.now.entries }
     ensures exact { OnOk result ((d : ℕ) (h : HeaderData) → (R.headers rules.new d ≡ Some h)
-        ↔ Known (R.headers rules.old) (meaning_by (R.names rules.old)) (declarations_view declarations.now) d h) }
-    ensures backed { IsBacked (R.headers rules.old) (meaning_by (R.names rules.old))
+        ↔ Known (R.headers rules.old) (R.names rules.old) (declarations_view declarations.now) d h) }
+    ensures backed { IsBacked (R.headers rules.old) (R.names rules.old)
         (declarations_view declarations.now) (R.headers rules.new) }
     ensures known { OnOk result (headers_as (R.tree rules.new) known.new ≡ R.headers rules.new) }
     ensures own { AreOwnHeaders (R.is_type rules.new) known.new }
-    ensures kept { OnErr result (IsBacked (R.headers rules.old) (meaning_by (R.names rules.old))
+    ensures kept { OnErr result (IsBacked (R.headers rules.old) (R.names rules.old)
         (declarations_view declarations.now) (headers_as (R.tree rules.new) known.new)) }
     ensures names { R.names rules.new ≡ R.names rules.old }
     ensures world { R.world rules.new ≡ R.world rules.old }
@@ -65,16 +65,16 @@ fn add_round<R: Rules, L: Ledger>(
     requires same { headers_as (R.tree rules.old) known.old ≡ R.headers rules.old }
     requires own { AreOwnHeaders (R.is_type rules.old) known.old }
     requires places { ArePlaces (declarations_view declarations.now) places.now.entries }
-    ensures backed { IsBacked (R.headers rules.old) (meaning_by (R.names rules.old))
+    ensures backed { IsBacked (R.headers rules.old) (R.names rules.old)
         (declarations_view declarations.now) (R.headers rules.new) }
     ensures fewer { IfOk result (λ added. IsTrue added
         → open_in (R.headers rules.new) (declarations_view declarations.now)
         < open_in (R.headers rules.old) (declarations_view declarations.now)) }
     ensures settled { IfOk result (λ added. added ≡ false → (d : ℕ) → IsSettled (R.headers rules.new)
-        (meaning_by (R.names rules.old)) (declarations_view declarations.now) (R.headers rules.new) d) }
+        (R.names rules.old) (declarations_view declarations.now) (R.headers rules.new) d) }
     ensures known { OnOk result (headers_as (R.tree rules.new) known.new ≡ R.headers rules.new) }
     ensures own { AreOwnHeaders (R.is_type rules.new) known.new }
-    ensures kept { OnErr result (IsBacked (R.headers rules.old) (meaning_by (R.names rules.old))
+    ensures kept { OnErr result (IsBacked (R.headers rules.old) (R.names rules.old)
         (declarations_view declarations.now) (headers_as (R.tree rules.new) known.new)) }
     ensures names { R.names rules.new ≡ R.names rules.old }
     ensures world { R.world rules.new ≡ R.world rules.old }
@@ -104,7 +104,7 @@ fn add_one<R: Rules, L: Ledger>(
     requires own { AreOwnHeaders (R.is_type rules.old) known.old }
     requires places { ArePlaces (declarations_view declarations.now) places.now.entries }
     requires within { place < length declarations.now }
-    ensures backed { IsBacked (R.headers rules.old) (meaning_by (R.names rules.old))
+    ensures backed { IsBacked (R.headers rules.old) (R.names rules.old)
         (declarations_view declarations.now) (R.headers rules.new) }
     ensures fewer { IfOk result (λ added. IsTrue added
         → open_in (R.headers rules.new) (declarations_view declarations.now)
@@ -112,10 +112,10 @@ fn add_one<R: Rules, L: Ledger>(
     ensures same { IfOk result (λ added. added ≡ false → R.headers rules.new ≡ R.headers rules.old) }
     ensures settled { IfOk result (λ added. added ≡ false → (d : Object)
         → lookup (same_object d) places.now.entries ≡ Some place → IsSettled (R.headers rules.new)
-        (meaning_by (R.names rules.old)) (declarations_view declarations.now) (R.headers rules.new) d.0) }
+        (R.names rules.old) (declarations_view declarations.now) (R.headers rules.new) d.0) }
     ensures known { OnOk result (headers_as (R.tree rules.new) known.new ≡ R.headers rules.new) }
     ensures own { AreOwnHeaders (R.is_type rules.new) known.new }
-    ensures kept { OnErr result (IsBacked (R.headers rules.old) (meaning_by (R.names rules.old))
+    ensures kept { OnErr result (IsBacked (R.headers rules.old) (R.names rules.old)
         (declarations_view declarations.now) (headers_as (R.tree rules.new) known.new)) }
     ensures names { R.names rules.new ≡ R.names rules.old }
     ensures world { R.world rules.new ≡ R.world rules.old }

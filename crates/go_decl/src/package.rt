@@ -8,7 +8,7 @@ ghost use Rattle.go_model.specs.Outcomes.Walked.{AreNumbered, AreWalked, NodesAr
 ghost use Rattle.go_model.specs.Types.Own.{KeepsTypes};
 ghost use Rattle.go_model.specs.Values.Headers.{Known};
 ghost use Rattle.go_model.specs.Values.HeadersView.{AreOwnHeaders, headers_as};
-ghost use Rattle.go_model.specs.Values.Meaning.{AreThere, meaning_by};
+ghost use Rattle.go_model.specs.Values.Meaning.{AreThere};
 ghost use Rattle.go_names.specs.Views.{specs_view};
 ghost use Rattle.go_decl.specs.Broken.{AreBroken};
 ghost use Rattle.go_decl.specs.Rounds.{IsBacked};
@@ -48,16 +48,16 @@ pub fn rounds<R: Rules, L: Ledger>(
     requires own { AreOwnHeaders (R.is_type rules.old) known.old }
     ensures exact { OnOk result ((p : PackageData) → slice_get (module_view «module».now).packages «package» ≡ Some p
         → (d : ℕ) (h : HeaderData) → (R.headers rules.new d ≡ Some h)
-        ↔ Known (R.headers rules.old) (meaning_by (R.names rules.old)) (declarations_of p) d h) }
+        ↔ Known (R.headers rules.old) (R.names rules.old) (declarations_of p) d h) }
     ensures known { OnOk result (headers_as (R.tree rules.new) known.new ≡ R.headers rules.new) }
     ensures own { AreOwnHeaders (R.is_type rules.new) known.new }
     ensures nodes { OnOk result ((p : PackageData) → slice_get (module_view «module».now).packages «package» ≡ Some p
-        → AreWalked (meaning_by (R.names rules.old)) (R.headers rules.new) (nodes_of p) (R.outcomes rules.new)) }
+        → AreWalked (R.names rules.old) (R.headers rules.new) (nodes_of p) (R.outcomes rules.new)) }
     ensures list { IfOk result (λ list. (p : PackageData)
         → slice_get (module_view «module».now).packages «package» ≡ Some p
-        → AreBroken (meaning_by (R.names rules.old)) (R.headers rules.new) p list.items) }
+        → AreBroken (R.names rules.old) (R.headers rules.new) p list.items) }
     ensures err { OnErr result ((p : PackageData) → slice_get (module_view «module».now).packages «package» ≡ Some p
-        → IsBacked (R.headers rules.old) (meaning_by (R.names rules.old)) (declarations_of p)
+        → IsBacked (R.headers rules.old) (R.names rules.old) (declarations_of p)
         (headers_as (R.tree rules.new) known.new)) }
     ensures names { R.names rules.new ≡ R.names rules.old }
     ensures world { R.world rules.new ≡ R.world rules.old }
@@ -79,14 +79,14 @@ fn rounds_in<R: Rules, L: Ledger>(
     requires same { headers_as (R.tree rules.old) known.old ≡ R.headers rules.old }
     requires own { AreOwnHeaders (R.is_type rules.old) known.old }
     ensures exact { OnOk result ((d : ℕ) (h : HeaderData) → (R.headers rules.new d ≡ Some h)
-        ↔ Known (R.headers rules.old) (meaning_by (R.names rules.old)) (declarations_of (package_view own.now)) d h) }
+        ↔ Known (R.headers rules.old) (R.names rules.old) (declarations_of (package_view own.now)) d h) }
     ensures known { OnOk result (headers_as (R.tree rules.new) known.new ≡ R.headers rules.new) }
     ensures own { AreOwnHeaders (R.is_type rules.new) known.new }
-    ensures nodes { OnOk result (AreWalked (meaning_by (R.names rules.old)) (R.headers rules.new)
+    ensures nodes { OnOk result (AreWalked (R.names rules.old) (R.headers rules.new)
         (nodes_of (package_view own.now)) (R.outcomes rules.new)) }
-    ensures list { IfOk result (λ list. AreBroken (meaning_by (R.names rules.old)) (R.headers rules.new)
+    ensures list { IfOk result (λ list. AreBroken (R.names rules.old) (R.headers rules.new)
         (package_view own.now) list.items) }
-    ensures err { OnErr result (IsBacked (R.headers rules.old) (meaning_by (R.names rules.old))
+    ensures err { OnErr result (IsBacked (R.headers rules.old) (R.names rules.old)
         (declarations_of (package_view own.now)) (headers_as (R.tree rules.new) known.new)) }
     ensures names { R.names rules.new ≡ R.names rules.old }
     ensures world { R.world rules.new ≡ R.world rules.old }

@@ -7,7 +7,7 @@ ghost use Rattle.go_module.specs.Modules.Module.{package_view};
 ghost use Rattle.go_module.specs.Names.Declarations.{declarations_of, specs_of};
 ghost use Rattle.go_model.specs.Values.Rules as rules;
 ghost use Rattle.go_names.specs.Views.{declaration_view, declarations_view, specs_view};
-ghost use Rattle.go_model.specs.declared.meaning.Meaning.{Meaning};
+ghost use Rattle.go_model.specs.Values.Meaning.{Naming};
 ghost use Rattle.go_model.specs.Outcomes.Walk.{Headers};
 ghost use Rattle.go_model.specs.Outcomes.Walked.{AreWalked, nodes_of};
 ghost use Rattle.go_expr.specs.Read.{outcome_read};
@@ -39,9 +39,9 @@ pub fn broken_values<W: ExprWalk>(
 ) -> Result<Vec<Broken>, NoMemory>
     requires specs { specs_view specs.now ≡ specs_of (package_view own.now) }
     requires declarations { declarations_view declarations.now ≡ declarations_of (package_view own.now) }
-    ensures { IfOk result (λ list. (means : ℕ → Meaning) (headers : Headers)
-        → AreWalked means headers (nodes_of (package_view own.now)) (W.outcomes walks.now)
-        → IsListOf (rules.broken_values means headers (marked_by (placed_by places.now.entries) cyclic.now)
+    ensures { IfOk result (λ list. (naming : Naming) (headers : Headers)
+        → AreWalked naming headers (nodes_of (package_view own.now)) (W.outcomes walks.now)
+        → IsListOf (rules.broken_values naming headers (marked_by (placed_by places.now.entries) cyclic.now)
         (package_view own.now)) list.items) }
 {
     let mut found = Vec::new(alloc);

@@ -3,7 +3,7 @@ ghost use Rattle.std.specs.Prelude.{◌≡◌, ◌++◌, ◌↔◌, ℕ, true, I
 ghost use Rattle.std.specs.List.{flat_map};
 ghost use Rattle.go_names.specs.Views.{declaration_view, declarations_view};
 ghost use Rattle.go_tree.specs.Tree.{tree_of};
-ghost use Rattle.go_model.specs.declared.meaning.Meaning.{Meaning};
+ghost use Rattle.go_model.specs.Values.Meaning.{Naming};
 ghost use Rattle.go_model.specs.Outcomes.Readings.{awaited_in};
 ghost use Rattle.go_model.specs.Outcomes.Walk.{Headers};
 ghost use Rattle.go_model.specs.Outcomes.Walked.{AreWalked};
@@ -17,7 +17,8 @@ use go_base::NoMemory;
 use go_graph::{Numbers, cyclic_vertices, is_marked};
 use go_model::{ExprWalk, Outcome};
 use go_module::ObjId;
-use go_names::{Declaration, nodes_in};
+use go_names::Declaration;
+use go_operands::expressions_in;
 use go_tree::Node;
 use std::alloc::Global;
 
@@ -31,10 +32,10 @@ pub fn cyclic_declarations<W: ExprWalk>(
 ) -> Result<Vec<bool>, NoMemory>
     requires { ArePlaces (declarations_view declarations.now) places.now.entries }
     ensures length { IfOk result (λ cyclic. length cyclic.items ≡ length declarations.now) }
-    ensures exact { IfOk result (λ cyclic. (means : ℕ → Meaning) (headers : Headers) → AreWalked means headers
+    ensures exact { IfOk result (λ cyclic. (naming : Naming) (headers : Headers) → AreWalked naming headers
         (flat_map nodes_under (declarations_view declarations.now)) (W.outcomes walks.now)
         → (d : ℕ) → (marked_by (placed_by places.now.entries) cyclic.items d ≡ true)
-        ↔ Chain means (declarations_view declarations.now) headers d d) }
+        ↔ Chain naming (declarations_view declarations.now) headers d d) }
 {
     let waits = waits_of(alloc, places, walks, declarations)?;
     cyclic_vertices(alloc, &waits)
@@ -143,7 +144,7 @@ fn push_awaited_in<W: ExprWalk>(
     ensures { OnOk result (numbers.new ≡ numbers.old
         ++ awaited_among (outcome_read (W.outcomes walks.now)) (tree_of node.now)) }
 {
-    let nodes = nodes_in(alloc, node)?;
+    let nodes = expressions_in(alloc, node)?;
     for inner in &nodes {
         push_one(walks, inner, numbers)?;
     }

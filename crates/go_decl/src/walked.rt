@@ -2,10 +2,10 @@
 ghost use Rattle.std.specs.Prelude.{◌≡◌, ◌++◌, ℕ, OnOk, map};
 ghost use Rattle.std.specs.List.{flat_map};
 ghost use Rattle.go_tree.specs.Tree.{tree_of};
-ghost use Rattle.go_module.specs.Names.Occurrences.{nodes_in, nodes_in_parts};
+ghost use Rattle.go_operands.specs.Operands.{expressions_in, expressions_in_parts};
 ghost use Rattle.go_model.specs.Outcomes.Walked.{walked_over};
 ghost use Rattle.go_model.specs.Types.Own.{KeepsTypes};
-ghost use Rattle.go_model.specs.Values.Meaning.{AreThere, meaning_by};
+ghost use Rattle.go_model.specs.Values.Meaning.{AreThere};
 ghost use Rattle.go_names.specs.Views.{specs_view};
 
 use go_base::NoMemory;
@@ -19,8 +19,8 @@ use std::alloc::Global;
 pub fn walk_specs<W: ExprWalk>(alloc: Global, walks: &mut W, specs: &[Spec]) -> Result<(), NoMemory>
     requires { AreThere (W.names walks.old) }
     ensures reached { OnOk result ((n : ℕ) → W.outcomes walks.new n
-        ≡ walked_over (meaning_by (W.names walks.old)) (W.headers walks.old)
-        (flat_map nodes_in_parts (specs_view specs.now)) (W.outcomes walks.old) n) }
+        ≡ walked_over (W.names walks.old) (W.headers walks.old)
+        (flat_map expressions_in_parts (specs_view specs.now)) (W.outcomes walks.old) n) }
     ensures same { W.headers walks.new ≡ W.headers walks.old }
     ensures names { W.names walks.new ≡ W.names walks.old }
     ensures world { W.world walks.new ≡ W.world walks.old }
@@ -43,8 +43,8 @@ pub fn walk_parts<W: ExprWalk>(
 ) -> Result<(), NoMemory>
     requires { AreThere (W.names walks.old) }
     ensures reached { OnOk result ((n : ℕ) → W.outcomes walks.new n
-        ≡ walked_over (meaning_by (W.names walks.old)) (W.headers walks.old)
-        (flat_map nodes_in (map tree_of types.now ++ map tree_of values.now)) (W.outcomes walks.old) n) }
+        ≡ walked_over (W.names walks.old) (W.headers walks.old)
+        (flat_map expressions_in (map tree_of types.now ++ map tree_of values.now)) (W.outcomes walks.old) n) }
     ensures same { W.headers walks.new ≡ W.headers walks.old }
     ensures names { W.names walks.new ≡ W.names walks.old }
     ensures world { W.world walks.new ≡ W.world walks.old }
@@ -58,7 +58,7 @@ pub fn walk_parts<W: ExprWalk>(
 fn walk_nodes<W: ExprWalk>(alloc: Global, walks: &mut W, nodes: &[Node]) -> Result<(), NoMemory>
     requires { AreThere (W.names walks.old) }
     ensures reached { OnOk result ((n : ℕ) → W.outcomes walks.new n
-        ≡ walked_over (meaning_by (W.names walks.old)) (W.headers walks.old) (flat_map nodes_in (map tree_of nodes.now))
+        ≡ walked_over (W.names walks.old) (W.headers walks.old) (flat_map expressions_in (map tree_of nodes.now))
         (W.outcomes walks.old) n) }
     ensures same { W.headers walks.new ≡ W.headers walks.old }
     ensures names { W.names walks.new ≡ W.names walks.old }
@@ -75,7 +75,7 @@ fn walk_nodes<W: ExprWalk>(alloc: Global, walks: &mut W, nodes: &[Node]) -> Resu
 fn walk_one<W: ExprWalk>(alloc: Global, walks: &mut W, node: &Node) -> Result<(), NoMemory>
     requires { AreThere (W.names walks.old) }
     ensures reached { OnOk result ((n : ℕ) → W.outcomes walks.new n
-        ≡ walked_over (meaning_by (W.names walks.old)) (W.headers walks.old) (nodes_in (tree_of node.now))
+        ≡ walked_over (W.names walks.old) (W.headers walks.old) (expressions_in (tree_of node.now))
         (W.outcomes walks.old) n) }
     ensures same { W.headers walks.new ≡ W.headers walks.old }
     ensures names { W.names walks.new ≡ W.names walks.old }

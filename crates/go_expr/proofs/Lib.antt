@@ -1,6 +1,10 @@
 pub mod BasicLemmas
+pub mod GivenLemmas
+pub mod InterfaceLemmas
 pub mod NodeOutcomeLemmas
 pub mod OwnOutcomesLemmas
 pub mod ReadLemmas
 pub mod ResultLemmas
+pub mod SignatureLemmas
+pub mod TypedLemmas
 pub mod WalkerLemmas

@@ -12,7 +12,6 @@ use Rattle.go_model.specs.Types.Own.{IsOwnOutcome, KeepsTypes}
 use Rattle.go_model.proofs.EntryLemmas.{chosen}
 use Rattle.go_model.proofs.OwnDataLemmas.{outcome_agrees, outcome_stays_own}
 use Rattle.go_expr.specs.declared.walker.Walker.{Walker}
-use Rattle.go_expr.specs.Outcomes.{both_of, only_of}
 use Rattle.go_expr.specs.Walker.{AreOwnOutcomes, outcome_in, outcomes_as}
 
 -- over types that stay
@@ -61,14 +60,3 @@ module _ {X : Type 0} (P : X → Type 0) where
   all-reverse [] are = tt
   all-reverse (x ∷ xs) are =
       subst (AllByRecursion P) (sym (reverse-append (x ∷ []) xs)) (all-append (reverse xs) (x ∷ []) (all-reverse xs are.1) (are.0, tt))
-
-  pub only_holds : (xs : List X) (x : X) → only_of xs ≡ Some x → AllByRecursion P xs → P x
-  only_holds [] x e are = cc
-  only_holds (y ∷ []) x e are = let same : y ≡ x = cc in subst P same are.0
-  only_holds (y ∷ (z ∷ ys)) x e are = cc
-
-  pub both_hold : (xs : List X) (x y : X) → both_of xs ≡ Some (x, y) → AllByRecursion P xs → P x × P y
-  both_hold [] x y e are = cc
-  both_hold (a ∷ []) x y e are = cc
-  both_hold (a ∷ (b ∷ [])) x y e are = let same : ◌≡◌ {A = X × X} (a, b) (x, y) = cc in (subst P (ap (λ p. p.0) same) are.0, subst P (ap (λ p. p.1) same) are.1.0)
-  both_hold (a ∷ (b ∷ (c ∷ cs))) x y e are = cc

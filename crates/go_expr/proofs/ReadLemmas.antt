@@ -1,8 +1,8 @@
 -- Outcomes that are read agree with those of the nodes.
-use Rattle.std.proofs.Common.{◌≡◌, ℕ, List, Option, ap}
+use Rattle.std.proofs.Common.{◌≡◌, List, Option, ap}
 use Rattle.std.specs.Prelude.{Contains, unwrap_or}
 use Rattle.go_tree.specs.Tree.{Tree}
-use Rattle.go_model.specs.declared.meaning.Meaning.{Meaning}
+use Rattle.go_model.specs.Values.Meaning.{Naming}
 use Rattle.go_model.specs.Outcomes.Judged.{Nothing, OutcomeData}
 use Rattle.go_model.specs.Outcomes.Records.{RecData}
 use Rattle.go_model.specs.Outcomes.Walk.{Headers, outcome}
@@ -10,5 +10,5 @@ use Rattle.go_model.specs.Outcomes.Walked.{AreWalked, Outcomes}
 use Rattle.go_expr.specs.Read.{outcome_read}
 
 -- the outcome that is read at a node that was walked
-pub read_is : (means : ℕ → Meaning) (headers : Headers) (nodes : List Tree) (outcomes : Outcomes) → AreWalked means headers nodes outcomes → (t : Tree) → Contains nodes t → outcome_read outcomes t ≡ outcome means headers t
-read_is means headers nodes outcomes walked t h = ap (λ (o : Option (OutcomeData RecData)). unwrap_or o Nothing) (walked t h)
+pub read_is : (naming : Naming) (headers : Headers) (nodes : List Tree) (outcomes : Outcomes) → AreWalked naming headers nodes outcomes → (t : Tree) → Contains nodes t → outcome_read outcomes t ≡ outcome naming headers t
+read_is naming headers nodes outcomes walked t h = ap (λ (o : Option (OutcomeData RecData)). unwrap_or o Nothing) (walked t h)

@@ -2,3 +2,7 @@
 pub mod Outcomes
 pub mod Walker
 pub mod Read
+-- what inner functions promise each other
+pub mod Given
+pub mod Elements
+pub mod TypeLiteral

@@ -1,57 +1,72 @@
--- The outcome of a node as the code finds it: from those of its inner parts. That it is the outcome of the node:
--- `NodeOutcomeLemmas`.
-use Rattle.std.specs.Prelude.{ℕ, ℤ, Option, Some, None, List, [], ◌∷◌}
-use Rattle.std.specs.Option.{option_map_or}
+-- The outcome of a node as the code finds it, by what its operands are and by its first part. That it is the outcome of the
+-- node: `NodeOutcomeLemmas`.
+use Rattle.std.specs.Prelude.{ℤ, Bool, true, false, ◌&&◌, ◌||◌, if◌then◌else◌, is_some, not, Option, Some, None, List, [], ◌∷◌, slice_get}
+use Rattle.std.specs.Option.{option_map}
 use Rattle.go_num.specs.Arithmetic.{binary_value, limited}
 use Rattle.go_num.specs.declared.arithmetic.IntOp.TheVariants.{Add}
-use Rattle.go_tree.specs.declared.node_kind.NodeKind.TheVariants.{AddExpr, IntLit, Name, ParenExpr, SelectorExpr}
-use Rattle.go_tree.specs.Tree.{Tree, branch, id_of, more_trees, no_trees}
-use Rattle.go_model.specs.declared.meaning.Meaning.{Meaning}
-use Rattle.go_model.specs.declared.outcome.Spot.TheVariants.{Whole}
+use Rattle.go_term.specs.declared.term.Dir.{Dir}
+use Rattle.go_term.specs.declared.term.Dir.TheVariants.{Both, Receive, Send}
+use Rattle.go_tree.specs.declared.node_kind.NodeKind.{NodeKind}
+use Rattle.go_tree.specs.declared.node_kind.NodeKind.TheVariants.{ArrowExpr, ChanType}
+use Rattle.go_tree.specs.Tree.{Tree, kind_of, list_of, parts_of}
+use Rattle.go_module.specs.Rules.{unbuilt_form}
+use Rattle.go_model.specs.declared.outcome.Spot.{Spot}
+use Rattle.go_model.specs.declared.outcome.Spot.TheVariants.{Part, Whole}
+use Rattle.go_model.specs.Outcomes.Constructs.Channel.{channel}
+use Rattle.go_model.specs.Outcomes.Constructs.Kinds.{no_value}
 use Rattle.go_model.specs.Outcomes.Constructs.Limits.{wide_integer}
-use Rattle.go_model.specs.Outcomes.Constructs.Literal.{literal}
-use Rattle.go_model.specs.Outcomes.Constructs.Name.{name}
-use Rattle.go_model.specs.Outcomes.Constructs.Parentheses.{parentheses}
-use Rattle.go_model.specs.Outcomes.Constructs.Selector.{selector}
-use Rattle.go_model.specs.Outcomes.Constructs.Sum.{sum}
-use Rattle.go_model.specs.Outcomes.Judged.{OutcomeData, judged}
+use Rattle.go_model.specs.Outcomes.Judged.{Construct, OutcomeData}
 use Rattle.go_model.specs.Outcomes.Judged as outcomes
-use Rattle.go_model.specs.Outcomes.Records.{RecData, integer_record}
-use Rattle.go_model.specs.Outcomes.Walk.{Headers}
+use Rattle.go_model.specs.Outcomes.Operands.{is_value, no_construct}
+use Rattle.go_model.specs.Outcomes.Records.{HeaderData, RecData, integer_in, integer_record}
+use Rattle.go_expr.specs.declared.sum.Operand.{Operand}
 
 -- a value within the limits, or the rule that it breaks
 abbrev pub limited_view : Option ℤ → OutcomeData RecData
 limited_view (Some v) = outcomes.Found (integer_record v)
 limited_view None = outcomes.Broken wide_integer (Whole ∷ [])
 
--- what two operands add up to where both are untyped integer constants, which have these values
-abbrev pub sum_of_integers : Option ℤ → Option ℤ → OutcomeData RecData
-sum_of_integers (Some x) (Some y) = limited_view (limited (binary_value Add x y))
-sum_of_integers x y = outcomes.Nothing
+-- SUMS
 
--- the only item of a list of one; the two of a list of two
-abbrev pub only_of : {X : Type 0} → List X → Option X
-only_of (x ∷ []) = Some x
-only_of xs = None
+-- the places of two operands where the answer is No
+abbrev pub spots_of_two : Bool → Bool → List Spot
+spots_of_two true true = []
+spots_of_two true false = Part 1 ∷ []
+spots_of_two false true = Part 0 ∷ []
+spots_of_two false false = Part 0 ∷ (Part 1 ∷ [])
 
-abbrev pub both_of : {X : Type 0} → List X → Option (X × X)
-both_of (x ∷ (y ∷ [])) = Some (x, y)
-both_of xs = None
+-- what an operand with this record is
+abbrev pub operand_in : RecData → Operand
+operand_in r = record { value = is_value r; integer = integer_in r }
 
--- from the outcomes of its inner parts
-abbrev pub selector_by_parts : Headers → Meaning → List (OutcomeData RecData) → OutcomeData RecData
-selector_by_parts headers meaning xs = option_map_or (λ x. judged headers (selector meaning) (x ∷ [])) (only_of xs) outcomes.Nothing
+abbrev pub is_taken : Operand → Bool
+is_taken x = not x.value || is_some x.integer
 
-abbrev pub parentheses_by_parts : Headers → List (OutcomeData RecData) → OutcomeData RecData
-parentheses_by_parts headers xs = option_map_or (λ x. judged headers parentheses (x ∷ [])) (only_of xs) outcomes.Nothing
+-- of operands that are not both untyped integer constants
+abbrev pub sum_of_others : Operand → Operand → OutcomeData RecData
+sum_of_others x y =
+    if is_taken x && is_taken y then outcomes.Broken no_value (spots_of_two x.value y.value)
+    else outcomes.Broken unbuilt_form (Whole ∷ [])
 
-abbrev pub sum_by_parts : Headers → List (OutcomeData RecData) → OutcomeData RecData
-sum_by_parts headers xs = option_map_or (λ p. judged headers sum (p.0 ∷ (p.1 ∷ []))) (both_of xs) outcomes.Nothing
+abbrev pub sum_by_integers : Operand → Operand → Option ℤ → Option ℤ → OutcomeData RecData
+sum_by_integers x y (Some a) (Some b) = limited_view (limited (binary_value Add a b))
+sum_by_integers x y a b = sum_of_others x y
 
-abbrev pub outcome_by_parts : (ℕ → Meaning) → Headers → Tree → List (OutcomeData RecData) → OutcomeData RecData
-outcome_by_parts means headers (branch id from to IntLit text parts) xs = judged headers (literal text) []
-outcome_by_parts means headers (branch id from to Name text parts) xs = judged headers (name (means id)) []
-outcome_by_parts means headers (branch id from to SelectorExpr text (more_trees x (more_trees f no_trees))) xs = selector_by_parts headers (means (id_of f)) xs
-outcome_by_parts means headers (branch id from to ParenExpr text parts) xs = parentheses_by_parts headers xs
-outcome_by_parts means headers (branch id from to AddExpr text parts) xs = sum_by_parts headers xs
-outcome_by_parts means headers t xs = outcomes.Nothing
+abbrev pub sum_by_kinds : Operand → Operand → OutcomeData RecData
+sum_by_kinds x y = sum_by_integers x y x.integer y.integer
+
+-- CHANNELS
+
+-- the kind of the first part of a node
+abbrev pub first_kind : Tree → Option NodeKind
+first_kind t = option_map kind_of (slice_get (list_of (parts_of t)) 0)
+
+-- behind `chan`, by what stands first there
+abbrev pub direction_by : Option NodeKind → Dir
+direction_by (Some ArrowExpr) = Send
+direction_by kind = Both
+
+-- behind an arrow, by what stands first there
+abbrev pub arrow_by : Option NodeKind → Construct HeaderData RecData
+arrow_by (Some ChanType) = channel Receive
+arrow_by kind = no_construct

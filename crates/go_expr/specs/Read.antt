@@ -3,7 +3,7 @@ use Rattle.std.specs.Prelude.{List, unwrap_or}
 use Rattle.std.specs.List.{flat_map}
 use Rattle.go_tree.specs.Tree.{Tree, id_of}
 use Rattle.go_module.specs.Names.Declarations.{Declaration, rests_on}
-use Rattle.go_module.specs.Names.Occurrences.{nodes_in}
+use Rattle.go_operands.specs.Operands.{expressions_in}
 use Rattle.go_model.specs.Outcomes.Judged.{Nothing, OutcomeData}
 use Rattle.go_model.specs.Outcomes.Records.{RecData}
 use Rattle.go_model.specs.Outcomes.Walked.{Outcomes}
@@ -14,4 +14,4 @@ outcome_read outcomes t = unwrap_or (outcomes (id_of t)) Nothing
 
 -- the nodes of the parts on which the header of a declaration rests
 abbrev pub nodes_under : Declaration → List Tree
-nodes_under d = flat_map nodes_in (rests_on d)
+nodes_under d = flat_map expressions_in (rests_on d)

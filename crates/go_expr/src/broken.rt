@@ -4,6 +4,7 @@ ghost use Rattle.go_model.specs.declared.outcome.Spot.TheVariants as spots;
 ghost use Rattle.go_model.specs.Outcomes.Judged as outcomes;
 ghost use Rattle.go_model.specs.Outcomes.View.{outcome_as};
 ghost use Rattle.go_model.specs.Types.Own.{IsOwnOutcome};
+ghost use Rattle.go_expr.specs.Outcomes.{spots_of_two};
 
 use go_base::{NoMemory, Rule};
 use go_model::{Judge, Outcome, Spot};
@@ -15,7 +16,43 @@ pub fn broken<J: Judge>(alloc: Global, judge: &J, rule: Rule) -> Result<Outcome,
         ≡ outcomes.Broken rule (spots.Whole ∷ [])) }
     ensures own { IfOk result (IsOwnOutcome (J.is_type judge.now)) }
 {
+    broken_at(alloc, judge, rule, Spot::Whole)
+}
+
+/// A node that breaks a rule, here. An error is want of memory.
+pub fn broken_at<J: Judge>(
+    alloc: Global,
+    judge: &J,
+    rule: Rule,
+    spot: Spot,
+) -> Result<Outcome, NoMemory>
+    ensures outcome { IfOk result (λ outcome. outcome_as (J.tree judge.now) outcome
+        ≡ outcomes.Broken rule (spot ∷ [])) }
+    ensures own { IfOk result (IsOwnOutcome (J.is_type judge.now)) }
+{
     let mut list = Vec::new(alloc);
-    list.push(Spot::Whole)?;
+    list.push(spot)?;
+    Ok(Outcome::Broken(rule, list))
+}
+
+/// A node that breaks a rule at its first two operands, at each of which the answer is No. An error is want of memory.
+pub fn broken_at_two<J: Judge>(
+    alloc: Global,
+    judge: &J,
+    rule: Rule,
+    first: bool,
+    second: bool,
+) -> Result<Outcome, NoMemory>
+    ensures outcome { IfOk result (λ outcome. outcome_as (J.tree judge.now) outcome
+        ≡ outcomes.Broken rule (spots_of_two first second)) }
+    ensures own { IfOk result (IsOwnOutcome (J.is_type judge.now)) }
+{
+    let mut list = Vec::new(alloc);
+    if !first {
+        list.push(Spot::Part(0))?;
+    }
+    if !second {
+        list.push(Spot::Part(1))?;
+    }
     Ok(Outcome::Broken(rule, list))
 }

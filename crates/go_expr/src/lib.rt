@@ -2,7 +2,7 @@
 //!
 //! A `Walker` walks over expressions and types and keeps the outcome of each node, by the node's number: a judge
 //! answers which headers are known and what identifiers denote, makes each type and sees its form, and each construct
-//! has a file of its own.
+//! has a file of its own, which says its outcome by those of its operands.
 //! `header_over` reads the header of a declaration off a walk, `header_by` off outcomes that are kept. How headers are
 //! found is left to go_decl, which rules are told where to go_check.
 #![tactic(auto)]
@@ -12,7 +12,9 @@ mod rules;
 // What identifiers mean.
 mod meaning;
 
-// Types that the judge makes.
+// Types that the judge makes, integers that it sees, and what is read off the records of operands.
+mod given;
+mod integer;
 mod types;
 
 // What a node comes to: each construct.
@@ -23,9 +25,23 @@ mod parentheses;
 mod selector;
 mod sum;
 
-// Walks over expressions, and what is read off them.
+// Type literals: what they share, and each construct.
+mod array;
+mod channel;
+mod function;
+mod interface;
+mod map_type;
+mod one_type;
+mod pointer;
+mod signature;
+mod slice;
+mod type_literal;
+mod typed;
+
+// Walks over expressions and types, and what is read off them.
 mod headers;
 mod walker;
 
 pub use headers::{header_by, header_over};
+pub use rules::{NO_TYPE, NO_VALUE};
 pub use walker::Walker;

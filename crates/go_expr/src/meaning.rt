@@ -6,6 +6,7 @@ ghost use Rattle.go_model.specs.Values.Meaning.{AreThere};
 
 use go_model::{Forms, Meaning};
 use go_module::{FIRST_NUMBER, ObjId, ObjKind, Object};
+use go_term::Basic;
 use go_tree::NodeId;
 
 /// What an identifier means, by the object that it denotes, which must be there.
@@ -25,21 +26,56 @@ fn object_meaning(d: ObjId, object: &Object) -> Meaning
         → result ≡ spec.object_meaning objects d }
 {
     if d.0 < FIRST_NUMBER {
-        Meaning::Predeclared
+        predeclared_meaning(d)
     } else {
         kind_meaning(d, object.kind)
     }
 }
 
-// What an object of that kind means that is no universe name.
+// What a universe name means: the types are listed in the order of `PREDECLARED` of go_module.
+fn predeclared_meaning(d: ObjId) -> Meaning
+    ensures { result ≡ spec.predeclared_meaning d }
+{
+    let types = [
+        Meaning::AnyType(d),
+        Meaning::BasicType(d, Basic::Bool),
+        Meaning::BasicType(d, Basic::Uint8),
+        Meaning::Predeclared,
+        Meaning::Predeclared,
+        Meaning::Predeclared,
+        Meaning::BasicType(d, Basic::Error),
+        Meaning::BasicType(d, Basic::Float32),
+        Meaning::BasicType(d, Basic::Float64),
+        Meaning::BasicType(d, Basic::Int),
+        Meaning::BasicType(d, Basic::Int8),
+        Meaning::BasicType(d, Basic::Int16),
+        Meaning::BasicType(d, Basic::Int32),
+        Meaning::BasicType(d, Basic::Int64),
+        Meaning::BasicType(d, Basic::Int32),
+        Meaning::BasicType(d, Basic::String),
+        Meaning::BasicType(d, Basic::Uint),
+        Meaning::BasicType(d, Basic::Uint8),
+        Meaning::BasicType(d, Basic::Uint16),
+        Meaning::BasicType(d, Basic::Uint32),
+        Meaning::BasicType(d, Basic::Uint64),
+        Meaning::BasicType(d, Basic::Uintptr),
+    ];
+    match types.get(d.0) {
+        Some(meaning) => *meaning,
+        None => Meaning::Predeclared,
+    }
+}
+
+// What an object of that kind means that is no universe name: a constant, a variable and an alias are asked for their
+// headers.
 fn kind_meaning(d: ObjId, kind: ObjKind) -> Meaning
     ensures { result ≡ spec.kind_meaning d kind }
 {
     match kind {
         ObjKind::Const => Meaning::Declared(d),
-        ObjKind::Defined => Meaning::Other,
-        ObjKind::Alias => Meaning::Other,
-        ObjKind::Var => Meaning::Other,
+        ObjKind::Var => Meaning::Declared(d),
+        ObjKind::Alias => Meaning::Declared(d),
+        ObjKind::Defined => Meaning::DefinedType(d),
         ObjKind::Package => Meaning::Other,
         ObjKind::Builtin => Meaning::Other,
         ObjKind::Nil => Meaning::Other,

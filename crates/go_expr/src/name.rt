@@ -3,21 +3,24 @@ ghost use Rattle.std.specs.Prelude.{◌≡◌, List, IfOk, IfSome};
 ghost use Rattle.std.specs.Option.{option_map};
 ghost use Rattle.go_model.specs.declared.meaning.Meaning.TheVariants as meanings;
 ghost use Rattle.go_model.specs.Outcomes.Constructs.Name as spec;
+ghost use Rattle.go_model.specs.declared.rec.Mode.TheVariants as modes;
+ghost use Rattle.go_model.specs.Outcomes.Judged as outcomes;
 ghost use Rattle.go_model.specs.Outcomes.Judged.{OutcomeData, judged};
 ghost use Rattle.go_model.specs.Outcomes.Records.{RecData, header_as, named_record, rec_as, typed_record};
 ghost use Rattle.go_model.specs.Outcomes.View.{outcome_as};
 ghost use Rattle.go_model.specs.Types.Own.{IsOwnHeader, IsOwnOutcome, IsOwnRec, Keeps};
 
 use crate::broken::broken;
-use crate::types::named_type;
+use crate::types::{any_type, basic_type, named_type};
 use go_base::NoMemory;
 use go_model::{Header, Judge, Meaning, Mode, Outcome, Rec};
 use go_module::{ObjId, UNBUILT_FORM};
 use go_term::Ty;
 use std::alloc::Global;
 
-/// An identifier by its meaning: a declaration has the record that its header gives, or waits for it, and a
-/// predeclared identifier breaks U0. An error is want of memory.
+/// An identifier by its meaning: a constant, a variable and an alias have the record that their header gives, or wait for
+/// it; a type that is defined or predeclared is itself; another predeclared identifier breaks U0. An error is want of
+/// memory.
 pub fn name<J: Judge>(alloc: Global, judge: &mut J, meaning: Meaning) -> Result<Outcome, NoMemory>
     ensures outcome { IfOk result (λ outcome. (parts : List (OutcomeData RecData))
         → outcome_as (J.tree judge.new) outcome ≡ judged (J.headers judge.old) (spec.name meaning) parts) }
@@ -32,9 +35,31 @@ pub fn name<J: Judge>(alloc: Global, judge: &mut J, meaning: Meaning) -> Result<
             let header = judge.ask(d)?;
             declared(alloc, judge, d, header)
         }
+        Meaning::DefinedType(d) => {
+            let ty = named_type(alloc, judge, d)?;
+            Ok(name_of_type(judge, d, ty))
+        }
+        Meaning::BasicType(d, basic) => {
+            let ty = basic_type(alloc, judge, basic)?;
+            Ok(name_of_type(judge, d, ty))
+        }
+        Meaning::AnyType(d) => {
+            let ty = any_type(alloc, judge)?;
+            Ok(name_of_type(judge, d, ty))
+        }
         Meaning::Predeclared => broken(alloc, judge, UNBUILT_FORM),
         Meaning::Other => Ok(Outcome::Nothing),
     }
+}
+
+// The name of a type.
+fn name_of_type<J: Judge>(judge: &J, d: ObjId, ty: Ty) -> Outcome
+    requires { J.is_type judge.now ty }
+    ensures outcome { outcome_as (J.tree judge.now) result
+        ≡ outcomes.Found (typed_record d modes.IsType (J.tree judge.now ty)) }
+    ensures own { IsOwnOutcome (J.is_type judge.now) result }
+{
+    Outcome::Found(typed_record(judge, d, Mode::IsType, ty))
 }
 
 // A declaration, by the header that it may have. An error is want of memory.

@@ -1,5 +1,5 @@
 // Qualified identifiers and selectors (Go specification, "Qualified identifiers", "Selectors").
-ghost use Rattle.std.specs.Prelude.{◌≡◌, List, ◌∷◌, IfOk};
+ghost use Rattle.std.specs.Prelude.{◌≡◌, List, ◌∷◌, IfOk, map};
 ghost use Rattle.go_model.specs.declared.meaning.Meaning.TheVariants as meanings;
 ghost use Rattle.go_model.specs.Outcomes.Constructs.Selector as spec;
 ghost use Rattle.go_model.specs.Outcomes.Judged.{OutcomeData, judged};
@@ -15,17 +15,16 @@ use go_model::{Judge, Meaning, Outcome};
 use go_module::UNBUILT_FORM;
 use std::alloc::Global;
 
-/// `x.f`, by what f means and by the outcome of x: a name of a package is as that name; a selector of a value breaks
-/// U0. An error is want of memory.
+/// `x.f`, by what f means and by the outcome of x, the first of these: a name of a package is as that name; a selector of
+/// a value breaks U0. An error is want of memory.
 pub fn selector<J: Judge>(
     alloc: Global,
     judge: &mut J,
     meaning: Meaning,
-    operand: &Outcome,
+    outcomes: &[Outcome],
 ) -> Result<Outcome, NoMemory>
-    ensures outcome { IfOk result (λ outcome. (parts : List (OutcomeData RecData))
-        → outcome_as (J.tree judge.new) outcome
-        ≡ judged (J.headers judge.old) (spec.selector meaning) (outcome_as (J.tree judge.old) operand.now ∷ parts)) }
+    ensures outcome { IfOk result (λ outcome. outcome_as (J.tree judge.new) outcome
+        ≡ judged (J.headers judge.old) (spec.selector meaning) (map (outcome_as (J.tree judge.old)) outcomes.now)) }
     ensures own { IfOk result (IsOwnOutcome (J.is_type judge.new)) }
     ensures keeps { Keeps (J.headers judge.old) (J.headers judge.new) (J.names judge.old) (J.names judge.new)
         (J.outcomes judge.old) (J.outcomes judge.new) (J.is_spent judge.old) (J.is_spent judge.new)
@@ -33,9 +32,24 @@ pub fn selector<J: Judge>(
         (J.tree judge.old) (J.tree judge.new) }
 {
     match meaning {
-        Meaning::Other => of_value(alloc, judge, operand),
+        Meaning::Other => of_first(alloc, judge, outcomes),
         Meaning::Declared(_) => name(alloc, judge, meaning),
+        Meaning::DefinedType(_) => name(alloc, judge, meaning),
+        Meaning::BasicType(_, _) => name(alloc, judge, meaning),
+        Meaning::AnyType(_) => name(alloc, judge, meaning),
         Meaning::Predeclared => name(alloc, judge, meaning),
+    }
+}
+
+// A selector of a value, by the outcome of its operand, the first of these.
+fn of_first<J: Judge>(alloc: Global, judge: &J, outcomes: &[Outcome]) -> Result<Outcome, NoMemory>
+    ensures outcome { IfOk result (λ outcome. (headers : walk.Headers) → outcome_as (J.tree judge.now) outcome
+        ≡ judged headers (spec.selector meanings.Other) (map (outcome_as (J.tree judge.now)) outcomes.now)) }
+    ensures own { IfOk result (IsOwnOutcome (J.is_type judge.now)) }
+{
+    match outcomes {
+        [operand, ..] => of_value(alloc, judge, operand),
+        [] => Ok(Outcome::Nothing),
     }
 }
 

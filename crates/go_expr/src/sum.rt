@@ -1,29 +1,59 @@
 // Sums (Go specification, "Arithmetic operators", "Constant expressions").
-ghost use Rattle.std.specs.Prelude.{◌≡◌, List, ◌∷◌, IfOk, Some};
+ghost use Rattle.std.specs.Prelude.{◌≡◌, List, ◌∷◌, IfOk, map};
+ghost use Rattle.std.specs.List.{AllByRecursion};
 ghost use Rattle.go_num.specs.Arithmetic.{binary_value, limited};
 ghost use Rattle.go_num.specs.declared.arithmetic.IntOp.TheVariants as ops;
-ghost use Rattle.go_term.specs.Shapes.{shape_tree};
-ghost use Rattle.go_term.specs.Types.{TypeData, basic_type};
-ghost use Rattle.go_term.specs.declared.term.Term.{Term};
 ghost use Rattle.go_model.specs.Outcomes.Constructs.Sum as spec;
 ghost use Rattle.go_model.specs.Outcomes.Judged.{OutcomeData, judged};
 ghost use Rattle.go_model.specs.Outcomes.Judged as outcomes;
-ghost use Rattle.go_model.specs.Outcomes.Records.{RecData, integer_by, integer_in, rec_as, untyped_int};
+ghost use Rattle.go_model.specs.Outcomes.Operands.{is_value_mode};
+ghost use Rattle.go_model.specs.Outcomes.Records.{RecData, rec_as};
 ghost use Rattle.go_model.specs.Outcomes.View.{outcome_as};
 ghost use Rattle.go_model.specs.Outcomes.Walk as walk;
 ghost use Rattle.go_model.specs.Types.Own.{IsOwnOutcome, IsOwnRec, Keeps};
-ghost use Rattle.go_expr.specs.Outcomes.{sum_of_integers};
+ghost use Rattle.go_expr.specs.Outcomes.{is_taken, operand_in, sum_by_kinds, sum_of_others};
 
+use crate::broken::{broken, broken_at_two};
+use crate::integer::integer_in;
 use crate::literal::limited_outcome;
+use crate::rules::NO_VALUE;
 use go_base::NoMemory;
-use go_model::{Judge, Outcome, Rec};
-use go_module::ObjId;
-use go_num::{IntOp, Value, int_binary};
-use go_term::{Basic, Shape};
+use go_model::{Judge, Mode, Outcome, Rec};
+use go_module::{ObjId, UNBUILT_FORM};
+use go_num::{IntOp, int_binary};
 use std::alloc::Global;
 
-/// A sum, by the outcomes of its operands: L2 where its value is outside the limits. An error is want of memory.
+// What an operand of a sum is: whether it is a value, and the integer that it is where it is an untyped integer constant.
+#[derive(Clone, Copy)]
+struct Operand {
+    value: bool,
+    integer: Option<i128>,
+}
+
+/// A sum, by the outcomes of its operands, the first two of these: U0 where one is a value that no operator takes yet,
+/// else R1 at what is no value; L2 where its value is outside the limits. An error is want of memory.
 pub fn sum<J: Judge>(
+    alloc: Global,
+    judge: &mut J,
+    outcomes: &[Outcome],
+) -> Result<Outcome, NoMemory>
+    requires { AllByRecursion (IsOwnOutcome (J.is_type judge.old)) outcomes.now }
+    ensures outcome { IfOk result (λ outcome. (headers : walk.Headers) → outcome_as (J.tree judge.new) outcome
+        ≡ judged headers spec.sum (map (outcome_as (J.tree judge.old)) outcomes.now)) }
+    ensures own { IfOk result (IsOwnOutcome (J.is_type judge.new)) }
+    ensures keeps { Keeps (J.headers judge.old) (J.headers judge.new) (J.names judge.old) (J.names judge.new)
+        (J.outcomes judge.old) (J.outcomes judge.new) (J.is_spent judge.old) (J.is_spent judge.new)
+        (J.world judge.old) (J.world judge.new) (J.is_type judge.old) (J.is_type judge.new)
+        (J.tree judge.old) (J.tree judge.new) }
+{
+    match outcomes {
+        [left, right, ..] => sum_of_two(alloc, judge, left, right),
+        _ => Ok(Outcome::Nothing),
+    }
+}
+
+// A sum, by the outcomes of both operands.
+fn sum_of_two<J: Judge>(
     alloc: Global,
     judge: &mut J,
     left: &Outcome,
@@ -93,114 +123,95 @@ fn sum_of_records<J: Judge>(
         (J.world judge.old) (J.world judge.new) (J.is_type judge.old) (J.is_type judge.new)
         (J.tree judge.old) (J.tree judge.new) }
 {
-    let first = integer_in(alloc, judge, left)?;
+    let first = operand_of(alloc, judge, left)?;
     sum_with_record(alloc, judge, first, right)
 }
 
-// A sum of the left operand, where it is an untyped integer constant, and a record.
+// A sum of the left operand and a record.
 fn sum_with_record<J: Judge>(
     alloc: Global,
     judge: &mut J,
-    first: Option<i128>,
+    first: Operand,
     right: &Rec,
 ) -> Result<Outcome, NoMemory>
     requires { IsOwnRec (J.is_type judge.old) right.now }
     ensures outcome { IfOk result (λ outcome. outcome_as (J.tree judge.new) outcome
-        ≡ sum_of_integers first (integer_in (rec_as (J.tree judge.old) right.now))) }
+        ≡ sum_by_kinds first (operand_in (rec_as (J.tree judge.old) right.now))) }
     ensures own { IfOk result (IsOwnOutcome (J.is_type judge.new)) }
     ensures keeps { Keeps (J.headers judge.old) (J.headers judge.new) (J.names judge.old) (J.names judge.new)
         (J.outcomes judge.old) (J.outcomes judge.new) (J.is_spent judge.old) (J.is_spent judge.new)
         (J.world judge.old) (J.world judge.new) (J.is_type judge.old) (J.is_type judge.new)
         (J.tree judge.old) (J.tree judge.new) }
 {
-    let second = integer_in(alloc, judge, right)?;
-    sum_of_integers(alloc, judge, first, second)
+    let second = operand_of(alloc, judge, right)?;
+    sum_by_kinds(alloc, judge, first, second)
 }
 
-// A sum of the operands, where both are untyped integer constants.
-fn sum_of_integers<J: Judge>(
+// A sum of these operands.
+fn sum_by_kinds<J: Judge>(
     alloc: Global,
     judge: &mut J,
-    first: Option<i128>,
-    second: Option<i128>,
+    first: Operand,
+    second: Operand,
 ) -> Result<Outcome, NoMemory>
-    ensures outcome { IfOk result (λ outcome. outcome_as (J.tree judge.new) outcome ≡ sum_of_integers first second) }
+    ensures outcome { IfOk result (λ outcome. outcome_as (J.tree judge.new) outcome ≡ sum_by_kinds first second) }
     ensures own { IfOk result (IsOwnOutcome (J.is_type judge.new)) }
     ensures keeps { Keeps (J.headers judge.old) (J.headers judge.new) (J.names judge.old) (J.names judge.new)
         (J.outcomes judge.old) (J.outcomes judge.new) (J.is_spent judge.old) (J.is_spent judge.new)
         (J.world judge.old) (J.world judge.new) (J.is_type judge.old) (J.is_type judge.new)
         (J.tree judge.old) (J.tree judge.new) }
 {
-    match first {
-        Some(first) => match second {
-            Some(second) => limited_outcome(alloc, judge, sum_of(first, second)),
-            None => Ok(Outcome::Nothing),
-        },
-        None => Ok(Outcome::Nothing),
+    match (first.integer, second.integer) {
+        (Some(left), Some(right)) => limited_outcome(alloc, judge, sum_of(left, right)),
+        _ => sum_of_others(alloc, judge, first, second),
     }
 }
 
-// The value of a record that is one of an untyped integer constant. An error is want of memory.
-fn integer_in<J: Judge>(alloc: Global, judge: &mut J, rec: &Rec) -> Result<Option<i128>, NoMemory>
+// A sum of operands that are not both untyped integer constants.
+fn sum_of_others<J: Judge>(
+    alloc: Global,
+    judge: &J,
+    first: Operand,
+    second: Operand,
+) -> Result<Outcome, NoMemory>
+    ensures outcome { IfOk result (λ outcome. outcome_as (J.tree judge.now) outcome
+        ≡ sum_of_others first second) }
+    ensures own { IfOk result (IsOwnOutcome (J.is_type judge.now)) }
+{
+    if is_taken(first) && is_taken(second) {
+        broken_at_two(alloc, judge, NO_VALUE, first.value, second.value)
+    } else {
+        broken(alloc, judge, UNBUILT_FORM)
+    }
+}
+
+// Whether it is no value that no operator takes.
+fn is_taken(operand: Operand) -> bool
+    ensures { result ≡ is_taken operand }
+{
+    !operand.value || operand.integer.is_some()
+}
+
+// What an operand with this record is. An error is want of memory.
+fn operand_of<J: Judge>(alloc: Global, judge: &mut J, rec: &Rec) -> Result<Operand, NoMemory>
     requires { IsOwnRec (J.is_type judge.old) rec.now }
-    ensures value { IfOk result (λ value. value ≡ integer_in (rec_as (J.tree judge.old) rec.now)) }
+    ensures operand { IfOk result (λ operand. operand ≡ operand_in (rec_as (J.tree judge.old) rec.now)) }
     ensures keeps { Keeps (J.headers judge.old) (J.headers judge.new) (J.names judge.old) (J.names judge.new)
         (J.outcomes judge.old) (J.outcomes judge.new) (J.is_spent judge.old) (J.is_spent judge.new)
         (J.world judge.old) (J.world judge.new) (J.is_type judge.old) (J.is_type judge.new)
         (J.tree judge.old) (J.tree judge.new) }
 {
-    match &rec.ty {
-        Some(ty) => {
-            let shape = judge.see(alloc, ty)?;
-            Ok(integer_of(&shape, &rec.value))
-        }
-        None => Ok(None),
-    }
+    Ok(Operand {
+        value: is_value(rec.mode),
+        integer: integer_in(alloc, judge, rec)?,
+    })
 }
 
-// The value, where its type is that of an untyped integer.
-fn integer_of(shape: &Shape, value: &Option<Value>) -> Option<i128>
-    ensures { (tree : Term → TypeData) → result ≡ integer_by (Some (shape_tree tree shape.now)) value.now }
+// Whether that stands for a value.
+fn is_value(mode: Mode) -> bool
+    ensures { result ≡ is_value_mode mode }
 {
-    match shape {
-        Shape::Basic(basic) => basic_integer(*basic, value),
-        Shape::Pointer(_) => None,
-        Shape::Slice(_) => None,
-        Shape::Array(_, _) => None,
-        Shape::Map(_, _) => None,
-        Shape::Chan(_, _) => None,
-        Shape::Func(_) => None,
-        Shape::Struct(_) => None,
-        Shape::Interface(_) => None,
-        Shape::Tuple(_) => None,
-        Shape::Named(_, _) => None,
-        Shape::Param(_, _) => None,
-        Shape::Bound(_) => None,
-    }
-}
-
-// The value of a basic type, where that is the kind of an untyped integer.
-#[tactic(auto, using(crate::proofs::BasicLemmas::other_basic))]
-fn basic_integer(basic: Basic, value: &Option<Value>) -> Option<i128>
-    ensures { result ≡ integer_by (Some (basic_type basic)) value.now }
-{
-    if basic == Basic::UntypedInt {
-        integer(value)
-    } else {
-        None
-    }
-}
-
-// The value, where it is an integer.
-fn integer(value: &Option<Value>) -> Option<i128>
-    ensures { result ≡ integer_by (Some untyped_int) value.now }
-{
-    match value {
-        Some(Value::Int(number)) => Some(*number),
-        Some(Value::Bool(_)) => None,
-        Some(Value::Text(_)) => None,
-        None => None,
-    }
+    !matches!(mode, Mode::NoValue | Mode::Builtin | Mode::IsType)
 }
 
 // A sum whose left operand waits for this declaration.

@@ -2,7 +2,7 @@
 ghost use Rattle.std.specs.Prelude.{◌≡◌, [], None, IfOk};
 ghost use Rattle.go_term.specs.Shapes.{shape_tree};
 ghost use Rattle.go_term.specs.Size.{size_fault};
-ghost use Rattle.go_term.specs.Types.{basic_type, named, of_list};
+ghost use Rattle.go_term.specs.Types.{basic_type, interface_type, named, of_list};
 ghost use Rattle.go_model.specs.Types.Own.{AreOwn, Keeps};
 
 use go_base::NoMemory;
@@ -33,6 +33,18 @@ pub fn named_type<J: Judge>(alloc: Global, judge: &mut J, d: ObjId) -> Result<Ty
         (J.tree judge.old) (J.tree judge.new) }
 {
     made(alloc, judge, Shape::Named(d, Vec::new(alloc)))
+}
+
+/// The interface without elements, for which `any` stands. An error is want of memory.
+pub fn any_type<J: Judge>(alloc: Global, judge: &mut J) -> Result<Ty, NoMemory>
+    ensures made { IfOk result (λ ty. J.tree judge.new ty ≡ of_list interface_type []) }
+    ensures own { IfOk result (J.is_type judge.new) }
+    ensures keeps { Keeps (J.headers judge.old) (J.headers judge.new) (J.names judge.old) (J.names judge.new)
+        (J.outcomes judge.old) (J.outcomes judge.new) (J.is_spent judge.old) (J.is_spent judge.new)
+        (J.world judge.old) (J.world judge.new) (J.is_type judge.old) (J.is_type judge.new)
+        (J.tree judge.old) (J.tree judge.new) }
+{
+    made(alloc, judge, Shape::Interface(Vec::new(alloc)))
 }
 
 // The type of a form that fits. An error is want of memory.

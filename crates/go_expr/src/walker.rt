@@ -1,33 +1,42 @@
 // Walks over expressions and types, node by node (Go specification, "Expressions").
-ghost use Rattle.std.specs.Prelude.{◌≡◌, ◌==◌, ℕ, None, Some, IfOk, IfSome, OnErr, OnOk, if◌then◌else◌, map};
+ghost use Rattle.std.specs.Prelude.{◌≡◌, ◌==◌, ℕ, None, Some, IfOk, IfSome, OnErr, OnOk, if◌then◌else◌, length, map};
 ghost use Rattle.std.specs.Prelude.{option_and_then};
 ghost use Rattle.std.specs.List.{AllByRecursion};
 ghost use Rattle.std.specs.Option.{option_map};
-ghost use Rattle.go_tree.specs.Tree.{id_of, tree_of};
+ghost use Rattle.go_tree.specs.Tree.{id_of, kind_of, tree_of};
+ghost use Rattle.go_tree.specs.declared.node_kind.NodeKind.TheVariants as kinds;
 ghost use Rattle.go_term.specs.Types.{TypeData};
 ghost use Rattle.go_term.specs.declared.term.Term.{Term};
-ghost use Rattle.go_module.specs.Names.Occurrences.{nodes_in};
+ghost use Rattle.go_operands.specs.Operands.{expressions_in, operands_of};
+ghost use Rattle.go_model.specs.Outcomes.Judged.{judged};
 ghost use Rattle.go_model.specs.Outcomes.Readings.{record_in};
 ghost use Rattle.go_model.specs.Outcomes.Records.{rec_as};
 ghost use Rattle.go_model.specs.Outcomes.View.{outcome_as};
 ghost use Rattle.go_model.specs.Outcomes.Walk as walk;
 ghost use Rattle.go_model.specs.Outcomes.Walked.{ArePartly, walked_over};
 ghost use Rattle.go_model.specs.Types.Own.{IsOwnOutcome, Keeps, KeepsTypes};
-ghost use Rattle.go_model.specs.Values.Meaning.{AreThere, meaning_by};
-ghost use Rattle.go_expr.specs.Outcomes.{both_of, only_of, outcome_by_parts};
-ghost use Rattle.go_expr.specs.Outcomes.{parentheses_by_parts, selector_by_parts, sum_by_parts};
+ghost use Rattle.go_model.specs.Values.Meaning.{AreThere};
+ghost use Rattle.go_expr.specs.Outcomes.{arrow_by, direction_by, first_kind};
 ghost use Rattle.go_expr.specs.Walker.{AreOwnOutcomes, outcome_in, outcomes_as};
 
+use crate::array::array_type;
+use crate::channel::channel_type;
+use crate::function::function_type;
+use crate::interface::interface_type;
 use crate::literal::literal;
+use crate::map_type::map_type;
 use crate::meaning::meaning;
 use crate::name::name;
 use crate::parentheses::parentheses;
+use crate::pointer::{embedded_pointer, star};
 use crate::selector::selector;
+use crate::slice::slice_type;
 use crate::sum::sum;
 use go_base::NoMemory;
-use go_model::{Judge, Meaning, NumberHasher, Outcome, Rec};
-use go_names::inner_parts;
-use go_term::Ty;
+use go_model::{Judge, NumberHasher, Outcome, Rec};
+use go_module::part_list;
+use go_operands::operands_of;
+use go_term::{Dir, Ty};
 use go_tree::{Node, NodeId, NodeKind};
 use indexmap::IndexMap;
 use std::alloc::Global;
@@ -50,8 +59,8 @@ impl Walker {
 
     /// The outcome of a node over the headers of the judge, which stays as it is, also on an error. It asks that each
     /// object that is denoted is there, and that the outcomes that are kept have types of the judge's own; so have then
-    /// that of the node and all that are kept. The walk reaches the node and all nodes in it, the name of a package
-    /// before a `.` too. `_want` is the type of the variable or the result to which the value is given; nothing is built
+    /// that of the node and all that are kept. The walk reaches the node and all that stands in its operands, the name of
+    /// a package before a `.` too. `_want` is the type of the variable or the result to which the value is given; nothing is built
     /// yet that looks at it. An error is want of memory; some of these nodes may have their outcomes then.
     pub fn walk_node<J: Judge>(
         &mut self,
@@ -64,13 +73,13 @@ impl Walker {
         requires wanted { IfSome _want (J.is_type judge.old) }
         requires own { AreOwnOutcomes (J.is_type judge.old) self.old }
         ensures outcome { IfOk result (λ found. outcome_as (J.tree judge.new) found
-            ≡ walk.outcome (meaning_by (J.names judge.old)) (J.headers judge.old) (tree_of node.now)) }
+            ≡ walk.outcome (J.names judge.old) (J.headers judge.old) (tree_of node.now)) }
         ensures own { IfOk result (IsOwnOutcome (J.is_type judge.new)) }
         ensures reached { OnOk result ((n : ℕ) → outcomes_as (J.tree judge.new) self.new n
-            ≡ walked_over (meaning_by (J.names judge.old)) (J.headers judge.old) (nodes_in (tree_of node.now))
+            ≡ walked_over (J.names judge.old) (J.headers judge.old) (expressions_in (tree_of node.now))
             (outcomes_as (J.tree judge.old) self.old) n) }
-        ensures err { OnErr result (ArePartly (meaning_by (J.names judge.old)) (J.headers judge.old)
-            (nodes_in (tree_of node.now)) (outcomes_as (J.tree judge.old) self.old)
+        ensures err { OnErr result (ArePartly (J.names judge.old) (J.headers judge.old)
+            (expressions_in (tree_of node.now)) (outcomes_as (J.tree judge.old) self.old)
             (outcomes_as (J.tree judge.new) self.new)) }
         ensures owned { AreOwnOutcomes (J.is_type judge.new) self.new }
         ensures same { J.headers judge.new ≡ J.headers judge.old }
@@ -104,7 +113,7 @@ impl Walker {
     }
 }
 
-// Walks over a node, its last part first, and puts each outcome into the table once, from those of the parts.
+// Walks over a node, its last operand first, and puts each outcome into the table once, from those of the operands.
 fn walk<J: Judge>(
     alloc: Global,
     judge: &mut J,
@@ -114,13 +123,13 @@ fn walk<J: Judge>(
     requires there { AreThere (J.names judge.old) }
     requires own { AreOwnOutcomes (J.is_type judge.old) walker.old }
     ensures outcome { IfOk result (λ found. outcome_as (J.tree judge.new) found
-        ≡ walk.outcome (meaning_by (J.names judge.old)) (J.headers judge.old) (tree_of node.now)) }
+        ≡ walk.outcome (J.names judge.old) (J.headers judge.old) (tree_of node.now)) }
     ensures own { IfOk result (IsOwnOutcome (J.is_type judge.new)) }
     ensures reached { OnOk result ((n : ℕ) → outcomes_as (J.tree judge.new) walker.new n
-        ≡ walked_over (meaning_by (J.names judge.old)) (J.headers judge.old) (nodes_in (tree_of node.now))
+        ≡ walked_over (J.names judge.old) (J.headers judge.old) (expressions_in (tree_of node.now))
         (outcomes_as (J.tree judge.old) walker.old) n) }
-    ensures err { OnErr result (ArePartly (meaning_by (J.names judge.old)) (J.headers judge.old)
-        (nodes_in (tree_of node.now)) (outcomes_as (J.tree judge.old) walker.old)
+    ensures err { OnErr result (ArePartly (J.names judge.old) (J.headers judge.old)
+        (expressions_in (tree_of node.now)) (outcomes_as (J.tree judge.old) walker.old)
         (outcomes_as (J.tree judge.new) walker.new)) }
     ensures owned { AreOwnOutcomes (J.is_type judge.new) walker.new }
     ensures keeps { Keeps (J.headers judge.old) (J.headers judge.new) (J.names judge.old) (J.names judge.new)
@@ -128,16 +137,16 @@ fn walk<J: Judge>(
         (J.world judge.old) (J.world judge.new) (J.is_type judge.old) (J.is_type judge.new)
         (J.tree judge.old) (J.tree judge.new) }
 {
-    let inner = inner_parts(alloc, node)?;
+    let operands = operands_of(alloc, node)?;
     let mut outcomes = Vec::new(alloc);
-    for place in (0..inner.len()).rev() {
-        outcomes.push(walk(alloc, judge, inner[place], walker)?)?;
+    for place in (0..operands.len()).rev() {
+        outcomes.push(walk(alloc, judge, operands[place], walker)?)?;
     }
     outcomes.reverse();
     step_and_keep(alloc, judge, node, &outcomes, walker)
 }
 
-// The outcome of a node from those of its inner parts; the table then has it too.
+// The outcome of a node from those of its operands; the table then has it too.
 fn step_and_keep<J: Judge>(
     alloc: Global,
     judge: &mut J,
@@ -146,10 +155,11 @@ fn step_and_keep<J: Judge>(
     walker: &mut Walker,
 ) -> Result<Outcome, NoMemory>
     requires there { AreThere (J.names judge.old) }
+    requires many { length outcomes.now ≡ length (operands_of (tree_of node.now)) }
     requires parts { AllByRecursion (IsOwnOutcome (J.is_type judge.old)) outcomes.now }
     requires own { AreOwnOutcomes (J.is_type judge.old) walker.old }
     ensures outcome { IfOk result (λ found. outcome_as (J.tree judge.new) found
-        ≡ outcome_by_parts (meaning_by (J.names judge.old)) (J.headers judge.old) (tree_of node.now)
+        ≡ judged (J.headers judge.old) (walk.construct (J.names judge.old) (tree_of node.now))
         (map (outcome_as (J.tree judge.old)) outcomes.now)) }
     ensures own { IfOk result (IsOwnOutcome (J.is_type judge.new)) }
     ensures entered { IfOk result (λ found. (n : ℕ) → outcomes_as (J.tree judge.new) walker.new n
@@ -187,7 +197,7 @@ fn keep<J: Judge>(
     Ok(made)
 }
 
-// The outcome of a node, by its kind, from those of its inner parts.
+// The outcome of a node, by its kind, from those of its operands.
 fn step<J: Judge>(
     alloc: Global,
     judge: &mut J,
@@ -195,9 +205,10 @@ fn step<J: Judge>(
     outcomes: &[Outcome],
 ) -> Result<Outcome, NoMemory>
     requires there { AreThere (J.names judge.old) }
+    requires many { length outcomes.now ≡ length (operands_of (tree_of node.now)) }
     requires own { AllByRecursion (IsOwnOutcome (J.is_type judge.old)) outcomes.now }
     ensures outcome { IfOk result (λ found. outcome_as (J.tree judge.new) found
-        ≡ outcome_by_parts (meaning_by (J.names judge.old)) (J.headers judge.old) (tree_of node.now)
+        ≡ judged (J.headers judge.old) (walk.construct (J.names judge.old) (tree_of node.now))
         (map (outcome_as (J.tree judge.old)) outcomes.now)) }
     ensures own { IfOk result (IsOwnOutcome (J.is_type judge.new)) }
     ensures keeps { Keeps (J.headers judge.old) (J.headers judge.new) (J.names judge.old) (J.names judge.new)
@@ -214,83 +225,89 @@ fn step<J: Judge>(
         NodeKind::SelectorExpr => match node.both_parts() {
             Some((_, f)) => {
                 let meaning = meaning(judge, f.id());
-                selector_by_parts(alloc, judge, meaning, outcomes)
+                selector(alloc, judge, meaning, outcomes)
             }
             None => Ok(Outcome::Nothing),
         },
-        NodeKind::ParenExpr => parentheses_by_parts(judge, outcomes),
-        NodeKind::AddExpr => sum_by_parts(alloc, judge, outcomes),
+        NodeKind::ParenExpr => parentheses(judge, outcomes),
+        NodeKind::AddExpr => sum(alloc, judge, outcomes),
+        NodeKind::StarExpr => star(alloc, judge, outcomes),
+        NodeKind::EmbeddedPointer => embedded_pointer(alloc, judge, outcomes),
+        NodeKind::SliceType => slice_type(alloc, judge, outcomes),
+        NodeKind::ArrayType => array_type(alloc, judge, outcomes),
+        NodeKind::MapType => map_type(alloc, judge, outcomes),
+        NodeKind::ChanType => channel_type(alloc, judge, direction_of(node), outcomes),
+        NodeKind::ArrowExpr => arrow(alloc, judge, node, outcomes),
+        NodeKind::FuncType => function(alloc, judge, node, outcomes),
+        NodeKind::InterfaceType => interface_type(alloc, judge, node, outcomes),
         _ => Ok(Outcome::Nothing),
     }
 }
 
-fn selector_by_parts<J: Judge>(
+// A function type, by the outcomes of its operands.
+fn function<J: Judge>(
     alloc: Global,
     judge: &mut J,
-    meaning: Meaning,
+    node: &Node,
     outcomes: &[Outcome],
 ) -> Result<Outcome, NoMemory>
+    requires kind { kind_of (tree_of node.now) ≡ kinds.FuncType }
+    requires many { length outcomes.now ≡ length (operands_of (tree_of node.now)) }
+    requires own { AllByRecursion (IsOwnOutcome (J.is_type judge.old)) outcomes.now }
     ensures outcome { IfOk result (λ found. outcome_as (J.tree judge.new) found
-        ≡ selector_by_parts (J.headers judge.old) meaning (map (outcome_as (J.tree judge.old)) outcomes.now)) }
+        ≡ judged (J.headers judge.old) (walk.construct (J.names judge.old) (tree_of node.now))
+        (map (outcome_as (J.tree judge.old)) outcomes.now)) }
     ensures own { IfOk result (IsOwnOutcome (J.is_type judge.new)) }
     ensures keeps { Keeps (J.headers judge.old) (J.headers judge.new) (J.names judge.old) (J.names judge.new)
         (J.outcomes judge.old) (J.outcomes judge.new) (J.is_spent judge.old) (J.is_spent judge.new)
         (J.world judge.old) (J.world judge.new) (J.is_type judge.old) (J.is_type judge.new)
         (J.tree judge.old) (J.tree judge.new) }
 {
-    match only(outcomes) {
-        Some(operand) => selector(alloc, judge, meaning, operand),
-        None => Ok(Outcome::Nothing),
+    match node.parts() {
+        [signature, ..] => function_type(alloc, judge, signature, outcomes),
+        [] => Ok(Outcome::Nothing),
     }
 }
 
-fn parentheses_by_parts<J: Judge>(judge: &J, outcomes: &[Outcome]) -> Result<Outcome, NoMemory>
-    requires { AllByRecursion (IsOwnOutcome (J.is_type judge.now)) outcomes.now }
-    ensures outcome { IfOk result (λ found. (headers : walk.Headers) → outcome_as (J.tree judge.now) found
-        ≡ parentheses_by_parts headers (map (outcome_as (J.tree judge.now)) outcomes.now)) }
-    ensures own { IfOk result (IsOwnOutcome (J.is_type judge.now)) }
-{
-    match only(outcomes) {
-        Some(part) => parentheses(judge, part),
-        None => Ok(Outcome::Nothing),
-    }
-}
-
-fn sum_by_parts<J: Judge>(
+// What stands behind an arrow, by the outcomes of its operands: a channel type, or no type.
+fn arrow<J: Judge>(
     alloc: Global,
     judge: &mut J,
+    node: &Node,
     outcomes: &[Outcome],
 ) -> Result<Outcome, NoMemory>
     requires { AllByRecursion (IsOwnOutcome (J.is_type judge.old)) outcomes.now }
-    ensures outcome { IfOk result (λ found. (headers : walk.Headers) → outcome_as (J.tree judge.new) found
-        ≡ sum_by_parts headers (map (outcome_as (J.tree judge.old)) outcomes.now)) }
+    ensures outcome { IfOk result (λ found. outcome_as (J.tree judge.new) found
+        ≡ judged (J.headers judge.old) (arrow_by (first_kind (tree_of node.now)))
+        (map (outcome_as (J.tree judge.old)) outcomes.now)) }
     ensures own { IfOk result (IsOwnOutcome (J.is_type judge.new)) }
     ensures keeps { Keeps (J.headers judge.old) (J.headers judge.new) (J.names judge.old) (J.names judge.new)
         (J.outcomes judge.old) (J.outcomes judge.new) (J.is_spent judge.old) (J.is_spent judge.new)
         (J.world judge.old) (J.world judge.new) (J.is_type judge.old) (J.is_type judge.new)
         (J.tree judge.old) (J.tree judge.new) }
 {
-    match both(outcomes) {
-        Some((left, right)) => sum(alloc, judge, left, right),
-        None => Ok(Outcome::Nothing),
+    match first_kind(node) {
+        Some(NodeKind::ChanType) => channel_type(alloc, judge, Dir::Receive, outcomes),
+        _ => Ok(Outcome::Nothing),
     }
 }
 
-// The one outcome, and the two outcomes, where there are so many.
-fn only(outcomes: &[Outcome]) -> Option<&Outcome>
-    ensures { option_map (λ x. x.now) result ≡ only_of outcomes.now }
+// The direction of a channel type that begins with `chan`: `chan<- T` is for sending.
+fn direction_of(node: &Node) -> Dir
+    ensures { result ≡ direction_by (first_kind (tree_of node.now)) }
 {
-    match outcomes {
-        [x] => Some(x),
-        _ => None,
+    match first_kind(node) {
+        Some(NodeKind::ArrowExpr) => Dir::Send,
+        _ => Dir::Both,
     }
 }
 
-fn both(outcomes: &[Outcome]) -> Option<(&Outcome, &Outcome)>
-    ensures { option_map (λ pair. (pair.0.now, pair.1.now)) result ≡ both_of outcomes.now }
+// The kind of the first part of a node.
+fn first_kind(node: &Node) -> Option<NodeKind>
+    ensures { result ≡ first_kind (tree_of node.now) }
 {
-    match outcomes {
-        [x, y] => Some((x, y)),
-        _ => None,
+    match part_list(node) {
+        [first, ..] => Some(first.kind()),
+        [] => None,
     }
 }

@@ -35,9 +35,9 @@ use Rattle.go_module.specs.Names.Rules.OccurrenceRules.{blank_at, blank_value, b
 use Rattle.go_module.specs.Names.Tables.{Member, member_of, members_at, occurrences_from, uses_at, uses_of}
 use Rattle.go_module.specs.Scopes.{same_object}
 use Rattle.go_module.proofs.MemberLemmas.{contains_head}
-use Rattle.go_model.specs.declared.meaning.Meaning.TheVariants.{Declared, Other, Predeclared}
+use Rattle.go_model.specs.declared.meaning.Meaning.TheVariants.{Declared, Other}
 use Rattle.go_model.specs.Outline.{is_predeclared}
-use Rattle.go_model.specs.Values.Meaning.{denoted_meaning, kind_meaning, meaning_in, names_in as package_names, objects_table}
+use Rattle.go_model.specs.Values.Meaning.{denoted_meaning, kind_meaning, meaning_by, names_in as package_names, objects_table, predeclared_meaning}
 use Rattle.go_laws.specs.BuiltTrees.{IsBuilt}
 use Rattle.go_laws.specs.Complete.{asked_in, values_in}
 use Rattle.go_laws.specs.NodeNumbers.{NodeNumbersAscend, numbers_in_files}
@@ -47,6 +47,7 @@ use Rattle.go_laws.proofs.FileLemmas.{AtFile, at_file, spec_file}
 use Rattle.go_model.proofs.FlatLemmas.{flat_cases, flat_contains, map_contains}
 use Rattle.go_laws.proofs.KindLemmas.{IsConst, block_const, export_const, file_entry, member_entry}
 use Rattle.go_laws.proofs.ListLemmas.{left_is_empty, map_is_empty, none_of_each, not_told, right_is_empty}
+use Rattle.go_laws.proofs.MeantLemmas.{is_universal, predeclared_universal}
 use Rattle.go_laws.proofs.OccursLemmas.{Occurs, asked_occurs}
 use Rattle.go_laws.proofs.ResolvedLemmas.{Denotes, Stands, held_denotes}
 use Rattle.go_laws.proofs.UseLemmas.{use_found}
@@ -66,8 +67,8 @@ none_found None e = refl
 none_found (Some x) e = absurd (let never : true ≡ false = e in cc)
 
 -- what an object means is not nothing where it is a universe name, or the table has a constant of that number
-never_other : (a : Bool) (o : Option Object) (d : ObjId) → (a ≡ true) ⊎ ((x : Object) × (o ≡ Some x) × (x.kind ≡ Const)) → (if a then Predeclared else option_map_or (λ (x : Object). kind_meaning d x.kind) o Other) ≡ Other → ⊥
-never_other true o d fine e = let never : Predeclared ≡ Other = e in cc
+never_other : (a : Bool) (o : Option Object) (d : ObjId) → (a ≡ true) ⊎ ((x : Object) × (o ≡ Some x) × (x.kind ≡ Const)) → (if a then predeclared_meaning d else option_map_or (λ (x : Object). kind_meaning d x.kind) o Other) ≡ Other → ⊥
+never_other true o d fine e = let never : false ≡ true = ap is_universal (sym e) ∙ predeclared_universal d in cc
 never_other false o d (inl fine) e = let never : false ≡ true = fine in cc
 never_other false o d (inr c) e =
     let never : Declared d ≡ Other = sym (ap (λ (x : Option Object). option_map_or (λ (y : Object). kind_meaning d y.kind) x Other) c.1 ∙ ap (kind_meaning d) c.2) ∙ e in
@@ -89,7 +90,7 @@ module _ (m : ModuleData) (k : ℕ) (p : PackageData)
   abbrev IsFine : ObjId → Type 0
   IsFine d = (is_predeclared d ≡ true) ⊎ IsConst m k p d
 
-  use_fine : (id : NodeId) (d : ObjId) → Contains (uses_of (known_in m) k p) (id, d) → IsFine d → meaning_in m k p id.0 ≡ Other → ⊥
+  use_fine : (id : NodeId) (d : ObjId) → Contains (uses_of (known_in m) k p) (id, d) → IsFine d → meaning_by (package_names m k p) id.0 ≡ Other → ⊥
   use_fine id d used fine e =
       never_other (is_predeclared d) (lookup (same_object d) (objects_table m k p)) d (by_cases fine)
       (sym (ap (denoted_meaning (package_names m k p).objects) (use_found m k p (up.ascend k p here) id d used)) ∙ e)
@@ -230,14 +231,14 @@ module _ (m : ModuleData) (k : ℕ) (p : PackageData)
             (member_entry m k p member (flat_contains (members_at (known_in m) regions) (occurrences_from 0 p.files) x member (file.occurs x among) member_here)))
 
       -- by itself it denotes no package
-      alone_fine : x.selected ≡ None → meaning_in m k p x.id.0 ≡ Other → ⊥
+      alone_fine : x.selected ≡ None → meaning_by (package_names m k p) x.id.0 ≡ Other → ⊥
       alone_fine selected e =
           let misplaced : (is_none x.selected && is_some (denoted_package regions x)) ≡ false = not_told (is_none x.selected && is_some (denoted_package regions x)) (broken_at x.file x.at misplaced_package) not_misplaced in
           let none : is_some (denoted_package regions x) ≡ false = ap (λ (o : Option Selected). is_none o && is_some (denoted_package regions x)) (sym selected) ∙ misplaced in
           use_fine x.id (object_id denoted.region.object) own_use ((good denoted.region denoted.stands).object (sym package_is ∙ none_found (denoted_package regions x) none)) e
 
       -- before a `.` it denotes none where what stands behind denotes nothing
-      before_fine : (s : Selected) → x.selected ≡ Some s → meaning_in m k p s.id.0 ≡ Other → meaning_in m k p x.id.0 ≡ Other → ⊥
+      before_fine : (s : Selected) → x.selected ≡ Some s → meaning_by (package_names m k p) s.id.0 ≡ Other → meaning_by (package_names m k p) x.id.0 ≡ Other → ⊥
       before_fine s selected behind e = by_denoted denoted.region.denotes refl
         where
           by_denoted : (o : Option ℕ) → denoted.region.denotes ≡ o → ⊥
@@ -248,13 +249,13 @@ module _ (m : ModuleData) (k : ℕ) (p : PackageData)
               let found = some_found (((known_in m) q).exported s.name) (not_told (is_none (((known_in m) q).exported s.name)) (broken_at x.file s.at missing_member) missing) in
               use_fine s.id (object_id found.0) (member_use q s found.0 at selected found.1) (member_fine q s found.0 at selected found.1 ((good denoted.region denoted.stands).imported q named)) behind
 
-  asked_fine : (t : Tree) → Contains (values_in p) t → IsBuilt t → (s : Tree) → Contains (asked_in (meaning_in m k p) t) s → kind_of s ≡ Name → meaning_in m k p (id_of s) ≡ Other → ⊥
+  asked_fine : (t : Tree) → Contains (values_in p) t → IsBuilt t → (s : Tree) → Contains (asked_in (package_names m k p) t) s → kind_of s ≡ Name → meaning_by (package_names m k p) (id_of s) ≡ Other → ⊥
   asked_fine t among built s asked is e =
       let from = flat_cases (λ (spec : Spec). spec.values) (specs_of p) t among in
       in_spec from.0 from.2 (at_file (known_in m) k is_main regions block 0 p.files p.imports from.0 from.1 files_sound)
     where
       in_spec : (spec : Spec) → Contains spec.values t → AtFile (known_in m) k is_main regions block 0 p.files p.imports spec → ⊥
-      in_spec spec value file = by_cases (asked_occurs (meaning_in m k p) spec.file spec.told_at built s is asked)
+      in_spec spec value file = by_cases (asked_occurs (package_names m k p) spec.file spec.told_at built s is asked)
         where
           placed : spec.file ≡ file.number
           placed = spec_file file.number file.file.tree spec file.among
@@ -262,7 +263,7 @@ module _ (m : ModuleData) (k : ℕ) (p : PackageData)
           inside : (x : Occurrence) → Contains (names_in spec.file spec.told_at t) x → Contains (occurrences_in_file file.number file.file.tree) x
           inside x h = flat_contains names_in_parts (specs_in_file file.number file.file.tree) spec x file.among (flat_contains (names_in spec.file spec.told_at) (spec.types ++ spec.values) t x (Contains-append_right spec.types spec.values t value) h)
 
-          by_cases : Occurs (meaning_in m k p) spec.file spec.told_at (names_in spec.file spec.told_at t) (occurrence spec.file spec.told_at (id_of s) (start_of s) (text_of s)) → ⊥
+          by_cases : Occurs (package_names m k p) spec.file spec.told_at (names_in spec.file spec.told_at t) (occurrence spec.file spec.told_at (id_of s) (start_of s) (text_of s)) → ⊥
           by_cases (inl alone) =
               let x = occurrence spec.file spec.told_at (id_of s) (start_of s) (text_of s) in
               alone_fine spec file x (inside x alone) placed refl e
@@ -275,8 +276,8 @@ module _ (m : ModuleData) (k : ℕ) (p : PackageData)
 pub names_denote : (m : ModuleData) (k : ℕ) (p : PackageData) → DeclareConstants m → NodeNumbersAscend m → slice_get m.packages k ≡ Some p → ImportsStandBefore m
     → broken_names (known_in m) k p ≡ []
     → ((t : Tree) → Contains (values_in p) t → IsBuilt t)
-    → (t : Tree) → Contains (values_in p) t → (s : Tree) → Contains (asked_in (meaning_in m k p) t) s
+    → (t : Tree) → Contains (values_in p) t → (s : Tree) → Contains (asked_in (package_names m k p) t) s
     → (id from to : ℕ) (text : List ℕ) (parts : Trees) → s ≡ branch id from to Name text parts
-    → meaning_in m k p id ≡ Other → ⊥
+    → meaning_by (package_names m k p) id ≡ Other → ⊥
 names_denote m k p constants up at stand sound built t among s asked id from to text parts is e =
-    asked_fine m k p constants up at stand sound t among (built t among) s asked (ap kind_of is) (ap (λ (r : Tree). meaning_in m k p (id_of r)) is ∙ e)
+    asked_fine m k p constants up at stand sound t among (built t among) s asked (ap kind_of is) (ap (λ (r : Tree). meaning_by (package_names m k p) (id_of r)) is ∙ e)

@@ -2,7 +2,7 @@ pub mod Asked
 pub mod Denoting
 pub mod Constants
 pub mod ListLemmas
-pub mod IntegerLemmas
+pub mod RecordLemmas
 pub mod AskedLemmas
 pub mod AwaitedLemmas
 pub mod WalkLemmas

@@ -6,7 +6,9 @@ use Rattle.go_tree.specs.Tree.{Tree, Trees, branch, list_of, more_trees, no_tree
 use Rattle.go_module.specs.Modules.Module.{FileData, ModuleData, PackageData}
 use Rattle.go_module.specs.Names.Declarations.{Spec, behind_names, list_behind, specs_in, specs_in_file, specs_of, type_before, types_behind, values_behind}
 use Rattle.go_module.specs.Names.Inner.{inner_by, inner_of}
-use Rattle.go_module.specs.Names.Occurrences.{found_in, nodes_in, nodes_in_parts, nodes_of_each}
+use Rattle.go_module.specs.Names.Occurrences.{found_in, nodes_in, nodes_of_each}
+use Rattle.go_operands.specs.Operands.{expressions_in, expressions_in_parts}
+use Rattle.go_operands.proofs.OperandLemmas.{expressions_within}
 use Rattle.go_model.specs.Outcomes.Walked.{NodesAreNumbered, nodes_of}
 use Rattle.go_module.specs.NodeParts.{all_but_first}
 use Rattle.go_module.proofs.MemberLemmas.{cons_cases, contains_head, contains_none, contains_tail}
@@ -151,10 +153,10 @@ nodes_are_there p t h s i = let there = file_of_value p t h in (there.file, ther
 -- so is each node of a type or an expression
 node_there : (p : PackageData) (s : Tree) → Contains (nodes_of p) s → (f : FileData) × Contains p.files f × Contains (nodes_by_end f.tree) s
 node_there p s h =
-    let spec = flat_cases nodes_in_parts (specs_of p) s h in
-    let part = flat_cases nodes_in (spec.0.types ++ spec.0.values) s spec.2 in
+    let spec = flat_cases expressions_in_parts (specs_of p) s h in
+    let part = flat_cases expressions_in (spec.0.types ++ spec.0.values) s spec.2 in
     let there = file_of_part p spec.0 spec.1 part.0 part.1 in
-    (there.file, there.among, there.under s (inside part.0 s part.2))
+    (there.file, there.among, there.under s (inside part.0 s (expressions_within part.0 s part.2)))
 
 -- and no two of these have one number
 pub nodes_are_numbered : (m : ModuleData) → NodeNumbersAscend m → NodesAreNumbered m

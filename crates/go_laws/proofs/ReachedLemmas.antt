@@ -19,7 +19,7 @@ use Rattle.go_model.specs.Outcomes.Records.{HeaderData}
 use Rattle.go_model.specs.Outcomes.Walk.{Headers}
 use Rattle.go_model.specs.Phases.{AreReports, BreaksValues, IsVerdict, ReportOf, all_told, by_names, by_values, checks as checks_report, imports_accepted, is_accepted, package_report, skips as skips_report, sound}
 use Rattle.go_model.specs.Report.{LineData, NamedData, PackageReportData, ReportData, VerdictData, accepted, refused, skipped}
-use Rattle.go_model.specs.Values.Meaning.{meaning_in}
+use Rattle.go_model.specs.Values.Meaning.{names_in}
 use Rattle.go_model.specs.Values.Quests.{IsPart}
 use Rattle.go_laws.specs.BuiltTrees.{ValuesAreBuilt}
 use Rattle.go_laws.specs.Complete.{IsAcceptedAt, IsComplete, IsReached, checks, first, skips, values_in}
@@ -31,7 +31,6 @@ use Rattle.go_laws.proofs.CompleteLemmas.{complete_where_asked}
 use Rattle.go_laws.proofs.Constants.{DeclareConstants}
 use Rattle.go_laws.proofs.Denoting.{ImportsHaveHeaders}
 use Rattle.go_laws.proofs.DenotingLemmas.{names_denote}
-use Rattle.go_laws.proofs.IntegerLemmas.{HaveIntegers, known_integer}
 use Rattle.go_laws.proofs.NodeNumberLemmas.{node_numbers_ascend}
 
 -- MARKS
@@ -58,8 +57,7 @@ some_part before after d part some = by_header (before d) refl some
     by_header None e is = absurd (let never : false ≡ true = is in cc)
     by_header (Some h) e is = ap is_some (part d h e)
 
--- STATES: as many marks as packages before the place; headers of integers; one of each declaration of an accepted
--- package
+-- STATES: as many marks as packages before the place; a header of each declaration of an accepted package
 
 abbrev AreDeclared : PackageData → Headers → Type 0
 AreDeclared p headers = (d : Declaration) → Contains (declarations_of p) d → IsSome (headers (number_of d).0)
@@ -67,14 +65,12 @@ AreDeclared p headers = (d : Declaration) → Contains (declarations_of p) d →
 module _ (m : ModuleData) where
   record IsKnown (k : ℕ) (marks : List Bool) (before : Headers) : Type 0 where
     pub many : length marks ≡ k
-    pub integers : HaveIntegers before
     pub declared : (i : ℕ) (q : PackageData) → is_marked marks i ≡ true → slice_get m.packages i ≡ Some q → AreDeclared q before
 
   -- behind a package that is not accepted there may be more headers, and those of its declarations are not owed
-  not_accepted : (k : ℕ) (marks : List Bool) (before after : Headers) → IsKnown k marks before → IsPart before after → HaveIntegers after → IsKnown (k + 1) (marks ++ false ∷ []) after
-  not_accepted k marks before after is part integers = record {
+  not_accepted : (k : ℕ) (marks : List Bool) (before after : Headers) → IsKnown k marks before → IsPart before after → IsKnown (k + 1) (marks ++ false ∷ []) after
+  not_accepted k marks before after is part = record {
     many = more_marks marks false ∙ ap (λ n. n + 1) is.many;
-    integers = integers;
     declared = λ i q marked at. by_cases i q at (marked_more marks false i marked);
   }
     where
@@ -83,14 +79,13 @@ module _ (m : ModuleData) where
       by_cases i q at (inr never) = absurd (let not : false ≡ true = never.1 in cc)
 
   same_headers : (k : ℕ) (marks : List Bool) (before : Headers) → IsKnown k marks before → IsKnown (k + 1) (marks ++ false ∷ []) before
-  same_headers k marks before is = not_accepted k marks before before is (λ d h e. e) is.integers
+  same_headers k marks before is = not_accepted k marks before before is (λ d h e. e)
 
   -- behind an accepted one those of its declarations are
   known_more : (k : ℕ) (marks : List Bool) (p : PackageData) (before after : Headers) → IsKnown k marks before → slice_get m.packages k ≡ Some p
-      → IsPart before after → HaveIntegers after → AreDeclared p after → IsKnown (k + 1) (marks ++ true ∷ []) after
-  known_more k marks p before after is here part integers declared = record {
+      → IsPart before after → AreDeclared p after → IsKnown (k + 1) (marks ++ true ∷ []) after
+  known_more k marks p before after is here part declared = record {
     many = more_marks marks true ∙ ap (λ n. n + 1) is.many;
-    integers = integers;
     declared = λ i q marked at. by_cases i q at (marked_more marks true i marked);
   }
     where
@@ -104,40 +99,36 @@ module _ (m : ModuleData) where
   imports_known k marks p before is imports i q among at = is.declared i q (All-contains (λ j. is_marked marks j ≡ true) p.imports i (AllPass-from_list_all (is_marked marks) p.imports imports) among) at
 
   module _ (ascend : NodeNumbersAscend m) (stand : ImportsStandBefore m) (constants : DeclareConstants m) (built : ValuesAreBuilt m) where
-    all_asked : (k : ℕ) (p : PackageData) → slice_get m.packages k ≡ Some p → broken_names (known_in m) k p ≡ [] → AreAsked (meaning_in m k p) (values_in p)
+    all_asked : (k : ℕ) (p : PackageData) → slice_get m.packages k ≡ Some p → broken_names (known_in m) k p ≡ [] → AreAsked (names_in m k p) (values_in p)
     all_asked k p at names t among s asked =
-        built_asked (meaning_in m k p) (built k p at t among) s
+        built_asked (names_in m k p) (built k p at t among) s
         (names_denote m k p constants ascend at stand names (built k p at) t among s asked)
         asked
 
     -- an accepted package is complete
     complete_at : (k : ℕ) (marks : List Bool) (p : PackageData) (before after : Headers) (lines : List LineData) (named : List NamedData)
         → IsKnown k marks before → slice_get m.packages k ≡ Some p → imports_accepted marks p ≡ true → IsVerdict m k p before (accepted lines named) after
-        → broken_names (known_in m) k p ≡ [] → IsComplete (meaning_in m k p) after p
+        → broken_names (known_in m) k p ≡ [] → IsComplete (names_in m k p) after p
     complete_at k marks p before after lines named is at imports verdict names =
-        complete_where_asked m k p before after lines named verdict (constants k p at) (imports_known k marks p before is imports) is.integers (all_asked k p at names)
+        complete_where_asked m k p before after lines named verdict (constants k p at) (imports_known k marks p before is imports) (built k p at) (all_asked k p at names)
 
     -- the headers behind a package whose names are sound
     part_of : (k : ℕ) (p : PackageData) (before headers : Headers) (list : List Broken) → BreaksValues m k p before headers list → IsPart before headers
     part_of k p before headers list breaks d h e = (breaks.has_headers.known d h).1 (record { list = []; justified = tt; has = e })
-
-    integers_of : (k : ℕ) (p : PackageData) (before headers : Headers) (list : List Broken) → BreaksValues m k p before headers list → HaveIntegers before → HaveIntegers headers
-    integers_of k p before headers list breaks integers d h e = known_integer (meaning_in m k p) before (declarations_of p) integers d h ((breaks.has_headers.known d h).0 e)
 
     known_checked : (k : ℕ) (marks : List Bool) (p : PackageData) (before after : Headers) (verdict : VerdictData)
         → IsKnown k marks before → slice_get m.packages k ≡ Some p → imports_accepted marks p ≡ true → IsVerdict m k p before verdict after
         → IsKnown (k + 1) (marks ++ is_accepted verdict ∷ []) after
     known_checked k marks p before after verdict is at imports (by_names b bs list) = same_headers k marks before is
     known_checked k marks p before after verdict is at imports (by_values headers b bs breaks) =
-        not_accepted k marks before headers is (part_of k p before headers (b ∷ bs) breaks) (integers_of k p before headers (b ∷ bs) breaks is.integers)
+        not_accepted k marks before headers is (part_of k p before headers (b ∷ bs) breaks)
     known_checked k marks p before after verdict is at imports (sound headers lines breaks told) =
         let complete = complete_at k marks p before headers lines _ is at imports (sound headers lines breaks told) breaks.sound_names in
-        known_more k marks p before headers is at (part_of k p before headers [] breaks) (integers_of k p before headers [] breaks is.integers) complete.declared
+        known_more k marks p before headers is at (part_of k p before headers [] breaks) complete.declared
 
     known_reached : {k : ℕ} {marks : List Bool} {before : Headers} → IsReached m k marks before → IsKnown k marks before
     known_reached first = record {
       many = refl;
-      integers = λ d h e. absurd (let never : None ≡ Some h = e in cc);
       declared = λ i q marked at. absurd (let never : false ≡ true = marked in cc);
     }
     known_reached (skips k marks before p reached at imports) = same_headers k marks before (known_reached reached)
@@ -150,7 +141,7 @@ pub accepted_complete : (own stubs : Folder) (m : ModuleData) → IsModule own s
     → (k : ℕ) (marks : List Bool) (p : PackageData) (before after : Headers) (lines : List LineData) (named : List NamedData)
     → IsReached m k marks before → slice_get m.packages k ≡ Some p → imports_accepted marks p ≡ true
     → IsVerdict m k p before (accepted lines named) after
-    → IsComplete (meaning_in m k p) after p
+    → IsComplete (names_in m k p) after p
 accepted_complete own stubs m is k marks p before after lines named reached at imports verdict =
     let ascend = node_numbers_ascend own stubs m is in
     let stand = stand_before own stubs m is in

@@ -4,35 +4,34 @@
 use Rattle.std.specs.Prelude.{◌≡◌, ℕ, ◌+◌, Bool, true, false, Some, List, [], ◌∷◌, ◌++◌, Contains, IsSome, slice_get}
 use Rattle.std.specs.List.{flat_map}
 use Rattle.go_graph.specs.Graph.{row_at}
-use Rattle.go_tree.specs.Tree.{Tree, Trees, branch, list_of, more_trees, no_trees}
+use Rattle.go_tree.specs.Tree.{Tree}
 use Rattle.go_module.specs.Modules.Module.{ModuleData, PackageData}
 use Rattle.go_module.specs.Names.Declarations.{Declaration, declarations_of, number_of, specs_of}
-use Rattle.go_model.specs.declared.meaning.Meaning.{Meaning}
+use Rattle.go_operands.specs.Operands.{folded}
+use Rattle.go_model.specs.Values.Meaning.{Naming}
 use Rattle.go_model.specs.Outcomes.Walk.{Headers, construct}
 use Rattle.go_model.specs.Phases.{IsVerdict, imports_accepted, is_accepted, no_headers}
 use Rattle.go_model.specs.Report.{LineData, NamedData, VerdictData, accepted}
 use Rattle.go_model.specs.Values.Records.{record_of}
 
--- the nodes of an expression that are asked for records: itself, and those of its operands
-abbrev mutual
-  pub asked_in : (ℕ → Meaning) → Tree → List Tree
-  asked_in means (branch id from to kind text parts) =
-      branch id from to kind text parts
-      ∷ flat_map (row_at (asked_in_each means parts)) (construct means id kind text (list_of parts)).operands
+-- the nodes that are asked in a node, by those in each of its operands: itself, and those in the operands that its
+-- construct asks
+abbrev pub with_asked : Naming → Tree → List (List Tree) → List Tree
+with_asked naming node operands = node ∷ flat_map (row_at operands) (construct naming node).operands
 
-  pub asked_in_each : (ℕ → Meaning) → Trees → List (List Tree)
-  asked_in_each means no_trees = []
-  asked_in_each means (more_trees t ts) = asked_in means t ∷ asked_in_each means ts
+-- the nodes of an expression that are asked for records: itself, and those of its operands
+abbrev pub asked_in : Naming → Tree → List Tree
+asked_in naming t = (folded (with_asked naming) t).own
 
 -- the expressions of the declarations of a package, with the copies that stand for omitted lists; no types
 abbrev pub values_in : PackageData → List Tree
 values_in p = flat_map (λ spec. spec.values) (specs_of p)
 
 -- each declaration of the package has a header, and each node of these expressions that is asked for a record has one
-pub record IsComplete (means : ℕ → Meaning) (headers : Headers) (p : PackageData) : Type 0 where
+pub record IsComplete (naming : Naming) (headers : Headers) (p : PackageData) : Type 0 where
   pub declared : (d : Declaration) → Contains (declarations_of p) d → IsSome (headers (number_of d).0)
-  pub recorded : (t : Tree) → Contains (values_in p) t → (s : Tree) → Contains (asked_in means t) s
-      → IsSome (record_of means headers s)
+  pub recorded : (t : Tree) → Contains (values_in p) t → (s : Tree) → Contains (asked_in naming t) s
+      → IsSome (record_of naming headers s)
 
 -- STATES OF THE CHECK
 

@@ -7,7 +7,7 @@ ghost use Rattle.go_load.specs.Loading.{IsModule};
 ghost use Rattle.go_model.specs.Outcomes.Walk.{Headers};
 ghost use Rattle.go_model.specs.Phases.{IsVerdict, ReportOf, imports_accepted, is_accepted};
 ghost use Rattle.go_model.specs.Report.{LineData, NamedData, PackageReportData, ReportData, accepted};
-ghost use Rattle.go_model.specs.Values.Meaning.{meaning_in};
+ghost use Rattle.go_model.specs.Values.Meaning.{names_in};
 ghost use Rattle.go_laws.specs.Complete.{IsAcceptedAt, IsComplete, IsReached};
 
 /// Where the check of a module that is loaded comes to a package whose imports are accepted, and accepts it, each
@@ -19,7 +19,7 @@ pub fn accepted_is_complete()
         → (lines : List LineData) (named : List NamedData)
         → IsReached m k marks before → slice_get m.packages k ≡ Some p → imports_accepted marks p ≡ true
         → IsVerdict m k p before (accepted lines named) after
-        → IsComplete (meaning_in m k p) after p }
+        → IsComplete (names_in m k p) after p }
 {}
 
 /// To each package that the report of a module calls accepted the check comes with its imports accepted, and accepts it

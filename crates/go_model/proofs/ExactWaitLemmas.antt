@@ -3,18 +3,17 @@ use Rattle.std.specs.Prelude.{Contains}
 use Rattle.std.proofs.Common.{◌≡◌, ℕ, Option, Some, None, List, [], ◌∷◌, ◌++◌, map, ◌⊎◌, inl, inr, refl, sym, subst, ◌∙◌, ap}
 use Rattle.std.specs.List.{AllByRecursion}
 use Rattle.go_base.specs.declared.rule.Rule.{Rule}
-use Rattle.go_tree.specs.declared.node_kind.NodeKind.{NodeKind}
-use Rattle.go_tree.specs.Tree.{Trees, list_of}
-use Rattle.go_model.specs.declared.meaning.Meaning.{Meaning}
+use Rattle.go_tree.specs.Tree.{Tree}
+use Rattle.go_model.specs.Values.Meaning.{Naming}
 use Rattle.go_model.specs.Outcomes.Exactly.{AllYes, FirstWaits, OutcomeExactly, HasNothing, TestLacks, WaitsFor}
 use Rattle.go_model.specs.Outcomes.Judged.{All, Asks, Broken, First, Found, Gone, Lacking, No, Nothing, Operands, OutcomeData, Construct, RuleTest, RuleEnd, Waits, Yes, asked, first_lack, joined, judged, made, no_spots, outcome_at, ruled, tested, together, end_on, with_records}
 use Rattle.go_model.specs.Outcomes.Stays.{HasFailed}
 use Rattle.go_model.specs.Values.Quests.{Asked, Decided, Lacks, Quest, run}
-use Rattle.go_model.specs.Outcomes.Walk.{Headers, construct, outcomes}
+use Rattle.go_model.specs.Outcomes.Walk.{Headers, construct, operand_outcomes}
 use Rattle.go_model.proofs.ExactLemmas.{all_together, asked_judged, broken_judged, found_judged, judged_broken, judged_found, places_yes, together_all, end-Yes, yes_places}
 use Rattle.go_module.proofs.MemberLemmas.{cons_cases, contains_head, contains_none, contains_tail}
 use Rattle.go_model.proofs.EndLemmas.{end-Lacking}
-use Rattle.go_model.proofs.OutcomeLemmas.{joined_gone}
+use Rattle.go_model.proofs.OutcomeLemmas.{joined_gone, outcome-operands}
 
 -- OPERANDS
 
@@ -221,13 +220,14 @@ module _ {H R : Type 0} (headers : ℕ → Option H) where
   nothing_judged s xs (inr w) =
       ap (λ y. with_records headers y s.asks) (ap together w.1 ∙ all_together w.0) ∙ ap (asked headers) w.2
 
-pub outcome_exactly : (means : ℕ → Meaning) (headers : Headers) (id from to : ℕ) (kind : NodeKind) (text : List ℕ) (parts : Trees) → OutcomeExactly means headers id from to kind text parts
-outcome_exactly means headers id from to kind text parts =
-    let s = construct means id kind text (list_of parts) in
-    let xs = outcomes means headers parts in
+pub outcome_exactly : (naming : Naming) (headers : Headers) (t : Tree) → OutcomeExactly naming headers t
+outcome_exactly naming headers t =
+    let s = construct naming t in
+    let xs = operand_outcomes naming headers t in
+    let is = outcome-operands naming headers t in
     record {
-      found = λ v. (judged_found headers s xs v, found_judged headers s xs v);
-      broken = λ rule spots. (judged_broken headers s xs rule spots, broken_judged headers s xs rule spots);
-      waits = λ d. (judged_waits headers s xs d, waits_judged headers s xs d);
-      nothing = (judged_nothing headers s xs, nothing_judged headers s xs);
+      found = λ v. ((λ e. judged_found headers s xs v (sym is ∙ e)), (λ h. is ∙ found_judged headers s xs v h));
+      broken = λ rule spots. ((λ e. judged_broken headers s xs rule spots (sym is ∙ e)), (λ h. is ∙ broken_judged headers s xs rule spots h));
+      waits = λ d. ((λ e. judged_waits headers s xs d (sym is ∙ e)), (λ h. is ∙ waits_judged headers s xs d h));
+      nothing = ((λ e. judged_nothing headers s xs (sym is ∙ e)), (λ h. is ∙ nothing_judged headers s xs h));
     }

@@ -3,10 +3,9 @@ use Rattle.std.proofs.Common.{◌≡◌, ℕ, ◌+◌, Bool, true, false, List, 
 use Rattle.std.specs.Prelude.{◌↔◌}
 use Rattle.std.proofs.Math.Path.{fun_ext}
 use Rattle.go_base.specs.declared.rule.Broken.{Broken}
-use Rattle.go_model.specs.declared.meaning.Meaning.{Meaning}
 use Rattle.go_module.specs.Names.Declarations.{Declaration, declarations_of}
 use Rattle.go_module.specs.Order.{IsListOf}
-use Rattle.go_model.specs.Values.Meaning.{meaning_in}
+use Rattle.go_model.specs.Values.Meaning.{Naming, names_in}
 use Rattle.go_module.specs.Modules.Module.{ModuleData, PackageData}
 use Rattle.go_module.specs.Places.{placed_by}
 use Rattle.go_model.specs.Outcomes.Walk.{Headers}
@@ -35,27 +34,27 @@ same_bool false false f g = refl
 no_list : (found : List Broken) (b : Broken) (bs : List Broken) → found ≡ [] → IsListOf found (b ∷ bs) → ⊥
 no_list found b bs e i = let none = none_of_none (b ∷ bs) (subst (λ (f : List Broken). IsListOf f (b ∷ bs)) e i) in cc none
 
-module _ (before : Headers) (means : ℕ → Meaning) (declarations : List Declaration) where
+module _ (before : Headers) (naming : Naming) (declarations : List Declaration) where
   -- there is one map of headers at most
-  one_map : (v w : Headers) (c d : ℕ → Bool) → HasHeaders before means declarations v c → HasHeaders before means declarations w d → v ≡ w
+  one_map : (v w : Headers) (c d : ℕ → Bool) → HasHeaders before naming declarations v c → HasHeaders before naming declarations w d → v ≡ w
   one_map v w c d has other = fun_ext (λ n. same_option (v n) (w n) (λ h e. (other.known n h).1 ((has.known n h).0 e)) (λ h e. (has.known n h).1 ((other.known n h).0 e)))
 
-  one_mark : (v w : Headers) (c d : ℕ → Bool) → HasHeaders before means declarations v c → HasHeaders before means declarations w d → c ≡ d
+  one_mark : (v w : Headers) (c d : ℕ → Bool) → HasHeaders before naming declarations v c → HasHeaders before naming declarations w d → c ≡ d
   one_mark v w c d has other =
-      let over = subst (λ (hs : Headers). (n : ℕ) → (d n ≡ true) ↔ Chain means declarations hs n n) (sym (one_map v w c d has other)) other.is_cyclic in
+      let over = subst (λ (hs : Headers). (n : ℕ) → (d n ≡ true) ↔ Chain naming declarations hs n n) (sym (one_map v w c d has other)) other.is_cyclic in
       fun_ext (λ n. same_bool (c n) (d n) (λ e. (over n).1 ((has.is_cyclic n).0 e)) (λ e. (has.is_cyclic n).1 ((over n).0 e)))
 
 module _ (m : ModuleData) (k : ℕ) (p : PackageData) (before : Headers) where
   same_headers : (v w : Headers) (xs ys : List Broken) → BreaksValues m k p before v xs → BreaksValues m k p before w ys → v ≡ w
-  same_headers v w xs ys a b = one_map before (meaning_in m k p) (declarations_of p) v w a.cyclic b.cyclic a.has_headers b.has_headers
+  same_headers v w xs ys a b = one_map before (names_in m k p) (declarations_of p) v w a.cyclic b.cyclic a.has_headers b.has_headers
 
   same_values : (v w : Headers) (xs ys : List Broken) → BreaksValues m k p before v xs → BreaksValues m k p before w ys → xs ≡ ys
   same_values v w xs ys a b =
-      let means = meaning_in m k p in
+      let naming = names_in m k p in
       let headers = same_headers v w xs ys a b in
-      let marks = one_mark before means (declarations_of p) v w a.cyclic b.cyclic a.has_headers b.has_headers in
-      let there : IsListOf (broken_values means v a.cyclic p) ys = subst (λ (c : ℕ → Bool). IsListOf (broken_values means v c p) ys) (sym marks) (subst (λ (hs : Headers). IsListOf (broken_values means hs b.cyclic p) ys) (sym headers) b.is_list) in
-      one_list (broken_values means v a.cyclic p) xs ys a.is_list there
+      let marks = one_mark before naming (declarations_of p) v w a.cyclic b.cyclic a.has_headers b.has_headers in
+      let there : IsListOf (broken_values naming v a.cyclic p) ys = subst (λ (c : ℕ → Bool). IsListOf (broken_values naming v c p) ys) (sym marks) (subst (λ (hs : Headers). IsListOf (broken_values naming hs b.cyclic p) ys) (sym headers) b.is_list) in
+      one_list (broken_values naming v a.cyclic p) xs ys a.is_list there
 
   -- a package has one list of lines at most
   one_lines : (headers : Headers) (xs ys : List LineData) → ArePackageLines m k p headers xs → ArePackageLines m k p headers ys → xs ≡ ys

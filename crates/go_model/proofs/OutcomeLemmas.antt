@@ -1,12 +1,16 @@
 -- What stays of the outcome of a node as the map of headers grows.
-use Rattle.std.proofs.Common.{◌≡◌, ℕ, zero, suc, Option, Some, None, List, [], ◌∷◌, map, refl, ap, subst, ◌⊎◌, inl, inr}
+use Rattle.std.proofs.Common.{◌≡◌, ℕ, zero, suc, Option, Some, None, List, [], ◌∷◌, map, refl, sym, ap, subst, ◌⊎◌, inl, inr}
 use Rattle.go_base.specs.declared.rule.Rule.{Rule}
-use Rattle.go_tree.specs.Tree.{Tree, Trees, branch, list_of, more_trees, no_trees}
-use Rattle.go_model.specs.declared.meaning.Meaning.{Meaning}
+use Rattle.std.specs.Prelude.{Contains}
+use Rattle.go_tree.specs.Tree.{Tree}
+use Rattle.go_module.proofs.MemberLemmas.{contains_head, contains_tail}
+use Rattle.go_operands.specs.Operands.{operands_of}
+use Rattle.go_operands.proofs.OperandLemmas.{by_operands, folded-operands}
+use Rattle.go_model.specs.Values.Meaning.{Naming}
 use Rattle.go_model.specs.Outcomes.Judged.{All, Asks, Broken, First, Found, Gone, Lacking, No, Nothing, Operands, OutcomeData, Construct, RuleTest, RuleEnd, Waits, Yes, asked, joined, judged, made, outcome_at, ruled, tested, together, end_on, with_records}
 use Rattle.go_model.specs.Outcomes.Stays.{HasFailed, OutcomeStays, StillBroken}
 use Rattle.go_model.specs.Values.Quests.{Asked, Decided, IsPart, Lacks, Quest, Stays, run}
-use Rattle.go_model.specs.Outcomes.Walk.{Headers, construct, outcome, outcomes}
+use Rattle.go_model.specs.Outcomes.Walk.{Headers, construct, operand_outcomes, outcome}
 use Rattle.go_model.proofs.QuestLemmas.{run-Lacks, run-stays}
 use Rattle.go_model.proofs.EndLemmas.{EndStays, end_on-Lacking, end_on-stays}
 
@@ -181,23 +185,33 @@ module _ {H R : Type 0} (known : ℕ → Option H) where
 
 -- THE WALK
 
-module _ (means : ℕ → Meaning) (known more : Headers) (part : IsPart known more) where
-  mutual
-    outcome-lasts : (t : Tree) → Lasts more (outcome means known t) (outcome means more t)
-    outcome-lasts (branch id from to kind text parts) = judged-lasts known more part (construct means id kind text (list_of parts)) (outcomes means known parts) (outcomes means more parts) (outcomes-last parts)
+-- a node by its operands
+pub outcome-operands : (naming : Naming) (headers : Headers) (t : Tree) → outcome naming headers t ≡ judged headers (construct naming t) (operand_outcomes naming headers t)
+outcome-operands naming headers t = folded-operands (λ node operands. judged headers (construct naming node) operands) t
 
-    outcomes-last : (ts : Trees) → AllLast more (outcomes means known ts) (outcomes means more ts)
-    outcomes-last no_trees = tt
-    outcomes-last (more_trees t ts) = (outcome-lasts t, outcomes-last ts)
+module _ (naming : Naming) (known more : Headers) (part : IsPart known more) where
+  abbrev LastsAt : Tree → Type 0
+  LastsAt t = Lasts more (outcome naming known t) (outcome naming more t)
 
-module _ (means : ℕ → Meaning) (known : Headers) where
-  mutual
-    outcome-lacking : (t : Tree) → WaitsLacking known (outcome means known t)
-    outcome-lacking (branch id from to kind text parts) = judged-lacking known (construct means id kind text (list_of parts)) (outcomes means known parts) (outcomes-lacking parts)
+  all-last : (ts : List Tree) → ((u : Tree) → Contains ts u → LastsAt u) → AllLast more (map (outcome naming known) ts) (map (outcome naming more) ts)
+  all-last [] each = tt
+  all-last (t ∷ ts) each = (each t (contains_head t ts t refl), all-last ts (λ u h. each u (contains_tail t ts u h)))
 
-    outcomes-lacking : (ts : Trees) → EachLacking known (outcomes means known ts)
-    outcomes-lacking no_trees = tt
-    outcomes-lacking (more_trees t ts) = (outcome-lacking t, outcomes-lacking ts)
+  outcome-lasts : (t : Tree) → LastsAt t
+  outcome-lasts = by_operands LastsAt (λ t each.
+      subst (λ x. Lasts more x (outcome naming more t)) (sym (outcome-operands naming known t))
+      (subst (λ y. Lasts more (judged known (construct naming t) (operand_outcomes naming known t)) y) (sym (outcome-operands naming more t))
+      (judged-lasts known more part (construct naming t) (operand_outcomes naming known t) (operand_outcomes naming more t) (all-last (operands_of t) each))))
+
+module _ (naming : Naming) (known : Headers) where
+  each-lacking : (ts : List Tree) → ((u : Tree) → Contains ts u → WaitsLacking known (outcome naming known u)) → EachLacking known (map (outcome naming known) ts)
+  each-lacking [] each = tt
+  each-lacking (t ∷ ts) each = (each t (contains_head t ts t refl), each-lacking ts (λ u h. each u (contains_tail t ts u h)))
+
+  outcome-lacking : (t : Tree) → WaitsLacking known (outcome naming known t)
+  outcome-lacking = by_operands (λ t. WaitsLacking known (outcome naming known t)) (λ t each.
+      subst (WaitsLacking known) (sym (outcome-operands naming known t))
+      (judged-lacking known (construct naming t) (operand_outcomes naming known t) (each-lacking (operands_of t) each)))
 
 either : {R : Type 0} (d : ℕ) (x : OutcomeData R) → WaitsOrFailed d x → (x ≡ Waits d) ⊎ HasFailed x
 either d (Found r) w = absurd w
@@ -206,13 +220,13 @@ either d (Waits e) w = inl (ap Waits w)
 either d Nothing w = inr tt
 
 -- the laws, for every map and every larger one
-pub outcome_stays : (means : ℕ → Meaning) (known more : Headers) → IsPart known more → (t : Tree) → OutcomeStays means known more t
-outcome_stays means known more part t =
-    let lasts = outcome-lasts means known more part t in
+pub outcome_stays : (naming : Naming) (known more : Headers) → IsPart known more → (t : Tree) → OutcomeStays naming known more t
+outcome_stays naming known more part t =
+    let lasts = outcome-lasts naming known more part t in
     record {
-      found = λ v e. subst (λ x. Lasts more x (outcome means more t)) e lasts;
-      broken = λ rule spots e. subst (λ x. Lasts more x (outcome means more t)) e lasts;
-      nothing = λ e. subst (λ x. Lasts more x (outcome means more t)) e lasts;
-      waits = λ d e missing. either d (outcome means more t) (subst (λ x. Lasts more x (outcome means more t)) e lasts missing);
-      lacks = λ d e. subst (WaitsLacking known) e (outcome-lacking means known t);
+      found = λ v e. subst (λ x. Lasts more x (outcome naming more t)) e lasts;
+      broken = λ rule spots e. subst (λ x. Lasts more x (outcome naming more t)) e lasts;
+      nothing = λ e. subst (λ x. Lasts more x (outcome naming more t)) e lasts;
+      waits = λ d e missing. either d (outcome naming more t) (subst (λ x. Lasts more x (outcome naming more t)) e lasts missing);
+      lacks = λ d e. subst (WaitsLacking known) e (outcome-lacking naming known t);
     }

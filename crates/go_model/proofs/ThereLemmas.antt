@@ -125,8 +125,8 @@ module _ (m : ModuleData) (k : ℕ) (p : PackageData) where
       present_in same_object object_self [] entries d entry.0 entry.1
 
   -- the tables that are collected are these
-  pub collected_names : (scopes : Scopes) → HasTables m k p scopes → names_by scopes.uses.entries scopes.objects.entries ≡ names_in m k p
-  collected_names scopes tables = λ i. names_by (tables.uses i) (tables.objects i)
+  pub collected_names : (scopes : Scopes) → HasTables m k p scopes → names_by scopes.uses.entries scopes.objects.entries p.path ≡ names_in m k p
+  collected_names scopes tables = λ i. names_by (tables.uses i) (tables.objects i) p.path
 
-  pub collected_there : (scopes : Scopes) → HasTables m k p scopes → AreThere (names_by scopes.uses.entries scopes.objects.entries)
+  pub collected_there : (scopes : Scopes) → HasTables m k p scopes → AreThere (names_by scopes.uses.entries scopes.objects.entries p.path)
   collected_there scopes tables = let same = collected_names scopes tables in subst AreThere (sym same) are_there

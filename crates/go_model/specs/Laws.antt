@@ -10,15 +10,15 @@ use Rattle.go_module.specs.Names.Imports.{known_in}
 use Rattle.go_module.specs.Names.Tables.{uses_of}
 use Rattle.go_module.specs.Scopes.{same_object}
 use Rattle.go_model.specs.Outline.{is_predeclared, outline_of}
-use Rattle.go_model.specs.declared.meaning.Meaning.{Meaning}
+use Rattle.go_model.specs.Values.Meaning.{Naming}
 use Rattle.go_module.specs.Names.Declarations.{Declaration}
 use Rattle.go_model.specs.Outcomes.Records.{HeaderData}
 use Rattle.go_model.specs.Outcomes.Walk.{Headers}
 use Rattle.go_model.specs.Values.Headers.{Known}
 
 -- a declaration has at most one header
-abbrev pub OneHeader : Headers → (ℕ → Meaning) → List Declaration → Type 0
-OneHeader before means declarations = (d : ℕ) (h k : HeaderData) → Known before means declarations d h → Known before means declarations d k → h ≡ k
+abbrev pub OneHeader : Headers → Naming → List Declaration → Type 0
+OneHeader before naming declarations = (d : ℕ) (h k : HeaderData) → Known before naming declarations d h → Known before naming declarations d k → h ≡ k
 
 -- a universe name, or an object whose declaration the outline of the module has
 abbrev pub IsDeclared : ModuleData → ObjId → Type 0

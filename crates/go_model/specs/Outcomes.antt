@@ -2,6 +2,7 @@
 pub mod Records
 pub mod Judged
 pub mod Operands
+pub mod Signatures
 pub mod Constructs
 pub mod Walk
 pub mod Readings

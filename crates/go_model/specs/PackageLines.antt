@@ -16,10 +16,11 @@ use Rattle.go_module.specs.declared.block.Selected.{Selected}
 use Rattle.go_module.specs.Modules.Module.{FileData, PackageData}
 use Rattle.go_module.specs.Names.Declarations.{Declaration, Spec, declarations_in, name_text, specs_in_file}
 use Rattle.go_module.specs.Names.Imports.{Importing, imports_of, is_dot}
-use Rattle.go_module.specs.Names.Occurrences.{names_in_parts, nodes_in_parts}
+use Rattle.go_module.specs.Names.Occurrences.{names_in_parts}
+use Rattle.go_operands.specs.Operands.{expressions_in_parts}
 use Rattle.go_module.specs.Places.{at_offset}
 use Rattle.go_module.specs.Scopes.{same_object}
-use Rattle.go_model.specs.declared.meaning.Meaning.{Meaning}
+use Rattle.go_model.specs.Values.Meaning.{Naming}
 use Rattle.go_model.specs.Outline.{Outline, declared_at, named_by, path_at}
 use Rattle.go_model.specs.LineOrder.{AreInOrder}
 use Rattle.go_model.specs.Report.{DefinedData, constant, imported, WhatData, defined, used, expression, LineData, NamedData}
@@ -57,17 +58,17 @@ abbrev pub def_by : (Tree → OutcomeData RecData) → Bool → FileData → Dec
 def_by outcome stub f d =
     option_map_or (λ kind. line_at stub f (start_of d.name) (defined (name_text d.name) kind) ∷ []) (option_and_then told_as (header_by outcome d)) []
 
-abbrev pub declaration_defs : Bool → FileData → (ℕ → Meaning) → Headers → Declaration → List LineData
-declaration_defs stub f means headers d = def_by (outcome means headers) stub f d
+abbrev pub declaration_defs : Bool → FileData → Naming → Headers → Declaration → List LineData
+declaration_defs stub f naming headers d = def_by (outcome naming headers) stub f d
 
-abbrev pub defs_in : Outline → Bool → (ℕ → Meaning) → Headers → ℕ → FileData → List Importing → List LineData
-defs_in outline stub means headers file f imports =
-    flat_map (import_defs outline stub f) imports ++ flat_map (declaration_defs stub f means headers) (declarations_in (specs_in_file file f.tree))
+abbrev pub defs_in : Outline → Bool → Naming → Headers → ℕ → FileData → List Importing → List LineData
+defs_in outline stub naming headers file f imports =
+    flat_map (import_defs outline stub f) imports ++ flat_map (declaration_defs stub f naming headers) (declarations_in (specs_in_file file f.tree))
 
 -- those of each of these files, of which the first has this place
-abbrev pub defs_from : Outline → Bool → (ℕ → Meaning) → Headers → ℕ → List FileData → List (List Importing) → List (List LineData)
-defs_from outline stub means headers file (f ∷ files) (imports ∷ others) = defs_in outline stub means headers file f imports ∷ defs_from outline stub means headers (file + 1) files others
-defs_from outline stub means headers file files imports = []
+abbrev pub defs_from : Outline → Bool → Naming → Headers → ℕ → List FileData → List (List Importing) → List (List LineData)
+defs_from outline stub naming headers file (f ∷ files) (imports ∷ others) = defs_in outline stub naming headers file f imports ∷ defs_from outline stub naming headers (file + 1) files others
+defs_from outline stub naming headers file files imports = []
 
 -- an identifier that denotes an object: its name, and where that is declared
 abbrev pub use_at : Outline → Bool → FileData → (NodeId → Option ObjId) → NodeId → ℕ → List ℕ → List LineData
@@ -96,24 +97,24 @@ record_line stub f from to found =
 abbrev pub expr_by : (Tree → OutcomeData RecData) → Bool → FileData → Tree → List LineData
 expr_by outcome stub f t = record_line stub f (start_of t) (end_of t) (record_by outcome t)
 
-abbrev pub expr_at : Bool → FileData → (ℕ → Meaning) → Headers → Tree → List LineData
-expr_at stub f means headers t = expr_by (outcome means headers) stub f t
+abbrev pub expr_at : Bool → FileData → Naming → Headers → Tree → List LineData
+expr_at stub f naming headers t = expr_by (outcome naming headers) stub f t
 
-abbrev pub exprs_in : Bool → (ℕ → Meaning) → Headers → ℕ → FileData → List LineData
-exprs_in stub means headers file f = flat_map (expr_at stub f means headers) (flat_map nodes_in_parts (written (specs_in_file file f.tree)))
+abbrev pub exprs_in : Bool → Naming → Headers → ℕ → FileData → List LineData
+exprs_in stub naming headers file f = flat_map (expr_at stub f naming headers) (flat_map expressions_in_parts (written (specs_in_file file f.tree)))
 
-abbrev pub exprs_from : Bool → (ℕ → Meaning) → Headers → ℕ → List FileData → List (List LineData)
-exprs_from stub means headers file [] = []
-exprs_from stub means headers file (f ∷ files) = exprs_in stub means headers file f ∷ exprs_from stub means headers (file + 1) files
+abbrev pub exprs_from : Bool → Naming → Headers → ℕ → List FileData → List (List LineData)
+exprs_from stub naming headers file [] = []
+exprs_from stub naming headers file (f ∷ files) = exprs_in stub naming headers file f ∷ exprs_from stub naming headers (file + 1) files
 
 -- the lines of the package at a place of the module: each kind in order
-pub record AreLines (outline : Outline) (k : ℕ) (p : PackageData) (denotes : NodeId → Option ObjId) (means : ℕ → Meaning) (headers : Headers) (lines : List LineData) : Type 0 where
+pub record AreLines (outline : Outline) (k : ℕ) (p : PackageData) (denotes : NodeId → Option ObjId) (naming : Naming) (headers : Headers) (lines : List LineData) : Type 0 where
   pub defs : List LineData
   pub uses : List LineData
   pub exprs : List LineData
-  pub are_defs : AreInOrder (defs_from outline p.stub means headers 0 p.files (imports_of k p)) defs
+  pub are_defs : AreInOrder (defs_from outline p.stub naming headers 0 p.files (imports_of k p)) defs
   pub are_uses : AreInOrder (uses_from outline p.stub denotes 0 p.files) uses
-  pub are_exprs : AreInOrder (exprs_from p.stub means headers 0 p.files) exprs
+  pub are_exprs : AreInOrder (exprs_from p.stub naming headers 0 p.files) exprs
   pub all : lines ≡ defs ++ (uses ++ exprs)
 
 -- the objects that a type names: declarations, and those of type parameters

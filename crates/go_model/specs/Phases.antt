@@ -7,11 +7,10 @@ use Rattle.std.specs.Prelude.{◌≡◌, ℕ, ◌+◌, ◌↔◌, Bool, true, fa
 use Rattle.std.specs.List.{list_all}
 use Rattle.std.specs.Map.{lookup}
 use Rattle.go_base.specs.declared.rule.Broken.{Broken}
-use Rattle.go_model.specs.declared.meaning.Meaning.{Meaning}
 use Rattle.go_module.specs.Names.Declarations.{Declaration, declarations_of}
 use Rattle.go_module.specs.Order.{IsListOf}
 use Rattle.go_model.specs.Values.Headers.{Known}
-use Rattle.go_model.specs.Values.Meaning.{meaning_in, uses_table}
+use Rattle.go_model.specs.Values.Meaning.{Naming, names_in, uses_table}
 use Rattle.go_module.specs.Modules.Module.{ModuleData, PackageData}
 use Rattle.go_model.specs.Outline.{outline_of}
 use Rattle.go_model.specs.PackageLines.{AreLines, named_in}
@@ -28,20 +27,20 @@ use Rattle.go_module.specs.Names.Imports.{known_in}
 
 -- the headers that are known, those before and those of a package's declarations; and which declarations wait for
 -- themselves
-pub record HasHeaders (before : Headers) (means : ℕ → Meaning) (declarations : List Declaration) (headers : Headers) (cyclic : ℕ → Bool) : Type 0 where
-  pub known : (d : ℕ) (h : HeaderData) → (headers d ≡ Some h) ↔ Known before means declarations d h
-  pub is_cyclic : (d : ℕ) → (cyclic d ≡ true) ↔ Chain means declarations headers d d
+pub record HasHeaders (before : Headers) (naming : Naming) (declarations : List Declaration) (headers : Headers) (cyclic : ℕ → Bool) : Type 0 where
+  pub known : (d : ℕ) (h : HeaderData) → (headers d ≡ Some h) ↔ Known before naming declarations d h
+  pub is_cyclic : (d : ℕ) → (cyclic d ≡ true) ↔ Chain naming declarations headers d d
 
 -- what the values of a package break, as one list
 pub record BreaksValues (m : ModuleData) (k : ℕ) (p : PackageData) (before headers : Headers) (list : List Broken) : Type 0 where
   pub sound_names : broken_names (known_in m) k p ≡ []
   pub cyclic : ℕ → Bool
-  pub has_headers : HasHeaders before (meaning_in m k p) (declarations_of p) headers cyclic
-  pub is_list : IsListOf (broken_values (meaning_in m k p) headers cyclic p) list
+  pub has_headers : HasHeaders before (names_in m k p) (declarations_of p) headers cyclic
+  pub is_list : IsListOf (broken_values (names_in m k p) headers cyclic p) list
 
 -- the lines of the package at a place, over these headers
 abbrev pub ArePackageLines : ModuleData → ℕ → PackageData → Headers → List LineData → Type 0
-ArePackageLines m k p headers lines = AreLines (outline_of m) k p (λ id. lookup (same_node id) (uses_table m k p)) (meaning_in m k p) headers lines
+ArePackageLines m k p headers lines = AreLines (outline_of m) k p (λ id. lookup (same_node id) (uses_table m k p)) (names_in m k p) headers lines
 
 -- the verdict on the package at a place, whose imports are accepted, and the headers that are known behind it: those of
 -- a package whose names are sound too, accepted or not

@@ -2,12 +2,12 @@
 ghost use Rattle.std.specs.Prelude.{◌≡◌, ℕ, false, IfOk, IfSome, OnErr, OnOk};
 ghost use Rattle.std.specs.Option.{option_map};
 ghost use Rattle.go_tree.specs.Tree.{tree_of};
-ghost use Rattle.go_module.specs.Names.Occurrences.{nodes_in};
+ghost use Rattle.go_operands.specs.Operands.{expressions_in};
 ghost use Rattle.go_model.specs.Outcomes.View.{outcome_as};
 ghost use Rattle.go_model.specs.Outcomes.Walk as walk;
 ghost use Rattle.go_model.specs.Outcomes.Walked.{ArePartly, walked_over};
 ghost use Rattle.go_model.specs.Types.Own.{IsOwnOutcome, KeepsTypes};
-ghost use Rattle.go_model.specs.Values.Meaning.{AreThere, meaning_by};
+ghost use Rattle.go_model.specs.Values.Meaning.{AreThere};
 
 use crate::ask::Ask;
 use crate::outcome::Outcome;
@@ -26,13 +26,13 @@ pub trait ExprWalk: Ask {
         requires there { AreThere (Self.names self.old) }
         requires wanted { IfSome want (Self.is_type self.old) }
         ensures outcome { IfOk result (λ found. outcome_as (Self.tree self.new) found
-            ≡ walk.outcome (meaning_by (Self.names self.old)) (Self.headers self.old) (tree_of node.now)) }
+            ≡ walk.outcome (Self.names self.old) (Self.headers self.old) (tree_of node.now)) }
         ensures own { IfOk result (IsOwnOutcome (Self.is_type self.new)) }
         ensures reached { OnOk result ((n : ℕ) → Self.outcomes self.new n
-            ≡ walked_over (meaning_by (Self.names self.old)) (Self.headers self.old) (nodes_in (tree_of node.now))
+            ≡ walked_over (Self.names self.old) (Self.headers self.old) (expressions_in (tree_of node.now))
             (Self.outcomes self.old) n) }
-        ensures err { OnErr result (ArePartly (meaning_by (Self.names self.old)) (Self.headers self.old)
-            (nodes_in (tree_of node.now)) (Self.outcomes self.old) (Self.outcomes self.new)) }
+        ensures err { OnErr result (ArePartly (Self.names self.old) (Self.headers self.old)
+            (expressions_in (tree_of node.now)) (Self.outcomes self.old) (Self.outcomes self.new)) }
         ensures same { Self.headers self.new ≡ Self.headers self.old }
         ensures names { Self.names self.new ≡ Self.names self.old }
         ensures unspent { IfOk result (λ found. Self.is_spent self.old ≡ false) }

@@ -17,7 +17,7 @@ use crate::expr_walk::ExprWalk;
 use crate::form::Form;
 use crate::header::Header;
 use crate::outcome::Answer;
-use go_base::NoMemory;
+use go_base::{Name, NoMemory};
 use go_module::{ObjId, Object};
 use go_term::{Shape, TermFault, Ty};
 use go_tree::NodeId;
@@ -36,6 +36,10 @@ pub trait Forms: Ask {
     fn object(&self, d: ObjId) -> &Object
         requires { IsSome ((Self.names self.now).objects d.0) }
         ensures { (Self.names self.now).objects d.0 ≡ Some result.now };
+
+    /// The path of the package in which a node stands that is judged.
+    fn package_of(&self, id: NodeId) -> &Name
+        ensures { result.now ≡ (Self.names self.now).home };
 
     /// The outer form of a type.
     fn see(&mut self, alloc: Global, t: &Ty) -> Result<Shape, NoMemory>

@@ -1,15 +1,14 @@
 // Laws of the maps of headers, which hold of every map, and of the report and the objects of a module: each
 // is the contract of a function that does nothing.
 ghost use Rattle.std.specs.Prelude.{◌≡◌, ℕ, List, Option};
-ghost use Rattle.go_tree.specs.Tree.{Tree, Trees};
+ghost use Rattle.go_tree.specs.Tree.{Tree};
 ghost use Rattle.go_model.specs.Values.Quests.{IsPart, Quest, Stays, run};
-ghost use Rattle.go_model.specs.declared.meaning.Meaning.{Meaning};
+ghost use Rattle.go_model.specs.Values.Meaning.{Naming};
 ghost use Rattle.go_module.specs.Names.Declarations.{Declaration};
 ghost use Rattle.go_module.specs.Modules.Module.{ModuleData};
 ghost use Rattle.go_model.specs.Outcomes.Walk.{Headers};
 ghost use Rattle.go_model.specs.Phases.{ReportOf};
 ghost use Rattle.go_model.specs.Report.{ReportData};
-ghost use Rattle.go_tree.specs.declared.node_kind.NodeKind.{NodeKind};
 ghost use Rattle.go_model.specs.Outcomes.Exactly.{OutcomeExactly};
 ghost use Rattle.go_model.specs.Outcomes.Stays.{OutcomeStays};
 ghost use Rattle.go_model.specs.Laws.{DeclaredEverywhere, OneHeader};
@@ -25,8 +24,8 @@ pub fn decided_stays<H, A>()
 /// maybe more, and `Nothing` stays `Nothing`. What a node waits for is missing; it waits for that or has failed as
 /// long as that is missing.
 pub fn outcomes_stay()
-    ensures { (means : ℕ → Meaning) (known more : Headers) → IsPart known more
-        → (t : Tree) → OutcomeStays means known more t }
+    ensures { (naming : Naming) (known more : Headers) → IsPart known more
+        → (t : Tree) → OutcomeStays naming known more t }
 {}
 
 /// A node has a record exactly where its operands have, its tests are all Yes and what its record asks is decided. It
@@ -35,14 +34,14 @@ pub fn outcomes_stay()
 /// where its first test that is not Yes is No nowhere and lacks a header, or where what its record asks lacks one. It
 /// has nothing exactly where an operand has failed or nothing is asked.
 pub fn outcomes_exactly()
-    ensures { (means : ℕ → Meaning) (headers : Headers) (id from to : ℕ) (kind : NodeKind) (text : List ℕ)
-        (parts : Trees) → OutcomeExactly means headers id from to kind text parts }
+    ensures { (naming : Naming) (headers : Headers) (t : Tree)
+        → OutcomeExactly naming headers t }
 {}
 
 /// A declaration has at most one header, whatever headers are known before.
 pub fn one_header()
-    ensures { (before : Headers) (means : ℕ → Meaning) (declarations : List Declaration)
-        → OneHeader before means declarations }
+    ensures { (before : Headers) (naming : Naming) (declarations : List Declaration)
+        → OneHeader before naming declarations }
 {}
 
 /// A module has at most one report.

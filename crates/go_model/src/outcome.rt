@@ -46,7 +46,7 @@ fn copied(spots: &Vec<Spot>) -> Result<Vec<Spot>, AllocError>
     spots.clone()
 }
 
-/// Where in a node a rule is broken: at the node, at the name after its `.`, or at a part, counted from 0.
+/// Where in a node a rule is broken: at the node, at the name after its `.`, or at an operand, counted from 0.
 #[derive(Clone, Copy, Debug, PartialEq, Eq)]
 pub enum Spot {
     Whole,

@@ -7,7 +7,8 @@ use Rattle.go_tree.specs.Tree.{Tree, parts_of}
 use Rattle.go_module.specs.Modules.Heads.{import_specs}
 use Rattle.go_module.specs.Modules.Module.{FileData, PackageData, file_view}
 use Rattle.go_module.specs.Names.Declarations.{Spec, declarations_in, specs_in_file}
-use Rattle.go_module.specs.Names.Occurrences.{names_in_parts, nodes_in_parts}
+use Rattle.go_module.specs.Names.Occurrences.{names_in_parts}
+use Rattle.go_operands.specs.Operands.{expressions_in_parts}
 use Rattle.go_module.specs.NodeParts.{first_part}
 use Rattle.go_model.specs.declared.declared_object.DeclaredObject.{DeclaredObject}
 use Rattle.go_model.specs.Outcomes.Judged.{OutcomeData}
@@ -55,7 +56,7 @@ all_specs_in files = flat_map (λ f. f.specs) files
 
 -- the nodes behind the names of all specs
 abbrev pub nodes_of_files : List OwnFileData → List Tree
-nodes_of_files files = flat_map nodes_in_parts (all_specs_in files)
+nodes_of_files files = flat_map expressions_in_parts (all_specs_in files)
 
 -- what a file declares, by the numbers of objects
 abbrev pub declared_in_file : ℕ → OwnFileData → List (ObjId × DeclaredObject)
@@ -73,4 +74,4 @@ abbrev pub use_lines : Outline → (NodeId → Option ObjId) → OwnFileData →
 use_lines outline denotes f = flat_map (occurrence_uses outline f.stub f.file denotes) (flat_map names_in_parts (written f.specs))
 
 abbrev pub expr_lines : (Tree → OutcomeData RecData) → OwnFileData → List LineData
-expr_lines outcome f = flat_map (expr_by outcome f.stub f.file) (flat_map nodes_in_parts (written f.specs))
+expr_lines outcome f = flat_map (expr_by outcome f.stub f.file) (flat_map expressions_in_parts (written f.specs))

@@ -16,16 +16,21 @@ pub record Standing : Type 0 where
 abbrev pub standing_of : ModuleJudge → Standing
 standing_of judge = record { «module» = judge.module.now; scopes = judge.scopes.now; place = judge.place }
 
--- what the scopes of a package say of identifiers and objects
-abbrev pub scope_names : Scopes → Naming
-scope_names scopes = names_by scopes.uses.entries scopes.objects.entries
+-- the path of the package at a place; where there is none, that of the module
+abbrev pub home_at : Module → ℕ → List ℕ
+home_at «module» place = option_map_or (λ p. p.path) (slice_get «module».packages.items place) «module».path
 
--- what those at a place say: nothing where there are none
-abbrev pub names_at : List Scopes → ℕ → Naming
-names_at scopes place = option_map_or scope_names (slice_get scopes place) no_names
+-- what the scopes of a package say of identifiers and objects
+abbrev pub scope_names : List ℕ → Scopes → Naming
+scope_names home scopes = names_by scopes.uses.entries scopes.objects.entries home
+
+-- what is known of identifiers in the package at a place: where there are no scopes, they denote nothing
+abbrev pub names_at : Module → List Scopes → ℕ → Naming
+names_at «module» scopes place =
+    option_map_or (scope_names (home_at «module» place)) (slice_get scopes place) (record no_names { home = home_at «module» place })
 
 abbrev pub book_names : ModuleJudge → Naming
-book_names judge = names_at judge.scopes.now judge.place
+book_names judge = names_at judge.«module».now judge.scopes.now judge.place
 
 -- the object that an identifier of the package that is entered denotes
 abbrev pub denotes_by : ModuleJudge → NodeId → Option ObjId

@@ -2,15 +2,14 @@
 use Rattle.std.specs.Prelude.{◌≡◌, ◌≢◌, ℕ, ◌⊎◌, ◌↔◌, true, Option, Some, None, List, [], ◌∷◌, ◌++◌, Contains, map}
 use Rattle.std.specs.List.{AllByRecursion}
 use Rattle.go_base.specs.declared.rule.Rule.{Rule}
-use Rattle.go_tree.specs.declared.node_kind.NodeKind.{NodeKind}
-use Rattle.go_tree.specs.Tree.{Trees, branch, list_of}
-use Rattle.go_model.specs.declared.meaning.Meaning.{Meaning}
+use Rattle.go_tree.specs.Tree.{Tree}
+use Rattle.go_model.specs.Values.Meaning.{Naming}
 use Rattle.go_model.specs.declared.outcome.Spot.{Spot}
 use Rattle.go_model.specs.Outcomes.Judged.{Asks, Broken, Found, Nothing, OutcomeData, Construct, RuleTest, Waits, first_lack, no_spots, outcome_at}
 use Rattle.go_model.specs.Outcomes.Records.{RecData}
 use Rattle.go_model.specs.Outcomes.Stays.{HasFailed}
 use Rattle.go_model.specs.Values.Quests.{Decided, Lacks, run}
-use Rattle.go_model.specs.Outcomes.Walk.{Headers, construct, outcome, outcomes}
+use Rattle.go_model.specs.Outcomes.Walk.{Headers, construct, operand_outcomes, outcome}
 
 -- each test is Yes at each of its places
 abbrev pub AllYes : {H : Type 0} → (ℕ → Option H) → List (RuleTest H) → Type 0
@@ -75,8 +74,8 @@ HasNothing {H} {R} construct parts =
     ⊎ ((records : List R) × (map (outcome_at parts) construct.operands ≡ map Found records) × (construct.asks records ≡ None))
 
 -- a node has a record exactly there, breaks a rule exactly there, waits exactly there, and has nothing exactly there
-pub record OutcomeExactly (means : ℕ → Meaning) (headers : Headers) (id from to : ℕ) (kind : NodeKind) (text : List ℕ) (parts : Trees) : Type 0 where
-  pub found : (r : RecData) → (outcome means headers (branch id from to kind text parts) ≡ Found r) ↔ HasRecord headers (construct means id kind text (list_of parts)) (outcomes means headers parts) r
-  pub broken : (rule : Rule) (spots : List Spot) → (outcome means headers (branch id from to kind text parts) ≡ Broken rule spots) ↔ Breaks headers (construct means id kind text (list_of parts)) (outcomes means headers parts) rule spots
-  pub waits : (d : ℕ) → (outcome means headers (branch id from to kind text parts) ≡ Waits d) ↔ WaitsFor headers (construct means id kind text (list_of parts)) (outcomes means headers parts) d
-  pub nothing : (outcome means headers (branch id from to kind text parts) ≡ Nothing) ↔ HasNothing (construct means id kind text (list_of parts)) (outcomes means headers parts)
+pub record OutcomeExactly (naming : Naming) (headers : Headers) (t : Tree) : Type 0 where
+  pub found : (r : RecData) → (outcome naming headers t ≡ Found r) ↔ HasRecord headers (construct naming t) (operand_outcomes naming headers t) r
+  pub broken : (rule : Rule) (spots : List Spot) → (outcome naming headers t ≡ Broken rule spots) ↔ Breaks headers (construct naming t) (operand_outcomes naming headers t) rule spots
+  pub waits : (d : ℕ) → (outcome naming headers t ≡ Waits d) ↔ WaitsFor headers (construct naming t) (operand_outcomes naming headers t) d
+  pub nothing : (outcome naming headers t ≡ Nothing) ↔ HasNothing (construct naming t) (operand_outcomes naming headers t)

@@ -1,6 +1,6 @@
 -- One outcome a node: its record, the rule that it breaks, the declaration whose header it waits for, or nothing.
--- Decides which outcome a node has, by its construct, which says which of its parts are operands and, from their
--- records, what is asked of it. A construct sees trees and records, never an outcome or a map of headers. Which one a
+-- Decides which outcome a node has, by its construct, which says which of its operands are asked for their records and,
+-- from these, what is asked of the node. A construct sees trees and records, never an outcome or a map of headers. Which one a
 -- node is: `Walk`.
 use Rattle.std.specs.Prelude.{ℕ, zero, suc, Bool, true, false, Option, Some, None, List, [], ◌∷◌, ◌++◌, map}
 use Rattle.go_base.specs.declared.rule.Rule.{Rule}
@@ -30,7 +30,7 @@ pub record Asks (H R : Type 0) : Type 0 where
   pub tests : List (RuleTest H)
   pub gives : Quest H R
 
--- which parts of a node are its operands, by their places, and what is asked with their records
+-- which of a node's operands are asked for their records, by their places among them, and what is asked with these
 pub record Construct (H R : Type 0) : Type 0 where
   pub operands : List ℕ
   pub asks : List R → Option (Asks H R)
@@ -120,6 +120,6 @@ with_records headers (All rs) asks = asked headers (asks rs)
 with_records headers (First d) asks = Waits d
 with_records headers Gone asks = Nothing
 
--- over these headers, where its parts have these outcomes
+-- over these headers, where its operands have these outcomes
 abbrev pub judged : {H R : Type 0} → (ℕ → Option H) → Construct H R → List (OutcomeData R) → OutcomeData R
 judged headers construct parts = with_records headers (together (map (outcome_at parts) construct.operands)) construct.asks

@@ -4,6 +4,7 @@ use Rattle.std.specs.Option.{option_map_or}
 use Rattle.go_base.specs.declared.rule.Broken.{Broken as BrokenAt}
 use Rattle.go_tree.specs.Tree.{Tree, list_of, parts_of, start_of}
 use Rattle.go_module.specs.Broken.{broken_at}
+use Rattle.go_operands.specs.Operands.{operands_of}
 use Rattle.go_model.specs.declared.outcome.Spot.{Spot}
 use Rattle.go_model.specs.declared.outcome.Spot.TheVariants.{Name, Part, Whole}
 use Rattle.go_model.specs.Outcomes.Judged.{Broken, Found, Nothing, OutcomeData, Waits}
@@ -22,15 +23,15 @@ awaited_in (Broken rule spots) = []
 awaited_in (Waits d) = d ∷ []
 awaited_in Nothing = []
 
--- the offset of a spot of a node: where the node starts, the name behind its `.`, or a part; where there is no such part,
--- where the node starts
-abbrev pub part_start : Tree → ℕ → ℕ
-part_start t n = option_map_or start_of (slice_get (list_of (parts_of t)) n) (start_of t)
+-- the offset of a spot of a node: where the node starts, the name behind its `.`, or an operand; where there is none, where the
+-- node starts
+abbrev pub start_among : List Tree → Tree → ℕ → ℕ
+start_among parts t n = option_map_or start_of (slice_get parts n) (start_of t)
 
 abbrev pub spot_start : Tree → Spot → ℕ
 spot_start t Whole = start_of t
-spot_start t Name = part_start t 1
-spot_start t (Part n) = part_start t n
+spot_start t Name = start_among (list_of (parts_of t)) t 1
+spot_start t (Part n) = start_among (operands_of t) t n
 
 -- what is broken in the file at a place among those of its package: the rule at each of its spots, or at the offset at
 -- which a copy is told

@@ -92,6 +92,18 @@ integer_in r = integer_by r.type r.value
 abbrev pub typed_record : ObjId → Mode → TypeData → RecData
 typed_record d mode type = record { mode = mode; type = Some type; value = None; object = Some d }
 
+-- the type that a record stands for, where it stands for one
+abbrev pub type_by : Mode → Option TypeData → Option TypeData
+type_by M.IsType type = type
+type_by mode type = None
+
+abbrev pub type_in : RecData → Option TypeData
+type_in r = type_by r.mode r.type
+
+-- the record of a type literal
+abbrev pub type_record : TypeData → RecData
+type_record type = record { mode = M.IsType; type = Some type; value = None; object = None }
+
 -- the record of a name, by the header of the declaration that it denotes
 abbrev pub named_record : ObjId → HeaderData → RecData
 named_record d (constant type value) = record (typed_record d M.Const type) { value = Some value }

@@ -2,7 +2,7 @@
 use Rattle.std.specs.Prelude.{◌≡◌, ℕ, ◌⊎◌, None, List, Contains}
 use Rattle.go_base.specs.declared.rule.Rule.{Rule}
 use Rattle.go_tree.specs.Tree.{Tree}
-use Rattle.go_model.specs.declared.meaning.Meaning.{Meaning}
+use Rattle.go_model.specs.Values.Meaning.{Naming}
 use Rattle.go_model.specs.declared.outcome.Spot.{Spot}
 use Rattle.go_model.specs.Outcomes.Judged.{Broken, Found, Nothing, OutcomeData, Waits}
 use Rattle.go_model.specs.Outcomes.Records.{RecData}
@@ -24,9 +24,9 @@ HasFailed Nothing = Unit {0}
 -- the outcome of each node over more headers: a record stays; a broken rule stays, at its places and maybe more; what
 -- has nothing has nothing; and what waits for d waits for d or has failed, as long as the header of d is missing. What
 -- a node waits for is missing
-pub record OutcomeStays (means : ℕ → Meaning) (known more : Headers) (t : Tree) : Type 0 where
-  pub found : (r : RecData) → outcome means known t ≡ Found r → outcome means more t ≡ Found r
-  pub broken : (rule : Rule) (spots : List Spot) → outcome means known t ≡ Broken rule spots → StillBroken rule spots (outcome means more t)
-  pub nothing : outcome means known t ≡ Nothing → outcome means more t ≡ Nothing
-  pub waits : (d : ℕ) → outcome means known t ≡ Waits d → more d ≡ None → (outcome means more t ≡ Waits d) ⊎ HasFailed (outcome means more t)
-  pub lacks : (d : ℕ) → outcome means known t ≡ Waits d → known d ≡ None
+pub record OutcomeStays (naming : Naming) (known more : Headers) (t : Tree) : Type 0 where
+  pub found : (r : RecData) → outcome naming known t ≡ Found r → outcome naming more t ≡ Found r
+  pub broken : (rule : Rule) (spots : List Spot) → outcome naming known t ≡ Broken rule spots → StillBroken rule spots (outcome naming more t)
+  pub nothing : outcome naming known t ≡ Nothing → outcome naming more t ≡ Nothing
+  pub waits : (d : ℕ) → outcome naming known t ≡ Waits d → more d ≡ None → (outcome naming more t ≡ Waits d) ⊎ HasFailed (outcome naming more t)
+  pub lacks : (d : ℕ) → outcome naming known t ≡ Waits d → known d ≡ None

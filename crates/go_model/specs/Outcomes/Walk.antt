@@ -1,37 +1,58 @@
--- Expressions (Go specification).
--- Decides the outcome of each node of an expression: its construct, by its kind, judged with the outcomes of its
--- parts. Each construct has a file of its own.
-use Rattle.std.specs.Prelude.{ℕ, Option, List, [], ◌∷◌}
-use Rattle.go_tree.specs.declared.node_kind.NodeKind.{NodeKind}
-use Rattle.go_tree.specs.declared.node_kind.NodeKind.TheVariants.{AddExpr, IntLit, Name, ParenExpr, SelectorExpr}
-use Rattle.go_tree.specs.Tree.{Tree, Trees, branch, id_of, list_of, more_trees, no_trees}
-use Rattle.go_model.specs.declared.meaning.Meaning.{Meaning}
+-- Expressions; Types (Go specification).
+-- Decides the outcome of each node of an expression or a type: its construct, by its kind, judged with the outcomes of its
+-- operands. Which nodes these are: `Operands` of go_operands. Each construct has a file of its own.
+use Rattle.std.specs.Prelude.{ℕ, Option, List, length, map}
+use Rattle.go_tree.specs.declared.node_kind.NodeKind.TheVariants.{AddExpr, ArrayType, ArrowExpr, ChanType, EmbeddedPointer, FuncType, IntLit, InterfaceType, MapType, Name, ParenExpr, SelectorExpr, SliceType, StarExpr}
+use Rattle.go_tree.specs.Tree.{Tree, branch, id_of, list_of, more_trees, no_trees}
+use Rattle.go_term.specs.declared.term.Dir.TheVariants.{Both, Receive, Send}
+use Rattle.go_operands.specs.Operands.{folded, operands_of}
+use Rattle.go_model.specs.Values.Meaning.{Naming, meaning_by}
 use Rattle.go_model.specs.Outcomes.Judged.{OutcomeData, Construct, judged}
+use Rattle.go_model.specs.Outcomes.Constructs.Array.{array}
+use Rattle.go_model.specs.Outcomes.Constructs.Channel.{channel}
+use Rattle.go_model.specs.Outcomes.Constructs.Function.{function}
+use Rattle.go_model.specs.Outcomes.Constructs.Interface.{interface_of}
 use Rattle.go_model.specs.Outcomes.Constructs.Literal.{literal}
+use Rattle.go_model.specs.Outcomes.Constructs.MapType.{map_of}
 use Rattle.go_model.specs.Outcomes.Constructs.Name.{name}
 use Rattle.go_model.specs.Outcomes.Constructs.Parentheses.{parentheses}
+use Rattle.go_model.specs.Outcomes.Constructs.Pointer.{embedded_pointer, star}
 use Rattle.go_model.specs.Outcomes.Constructs.Selector.{selector}
+use Rattle.go_model.specs.Outcomes.Constructs.Slice.{slice}
+use Rattle.go_model.specs.Outcomes.Constructs.Sum.{sum}
 use Rattle.go_model.specs.Outcomes.Operands.{no_construct}
 use Rattle.go_model.specs.Outcomes.Records.{HeaderData, RecData}
-use Rattle.go_model.specs.Outcomes.Constructs.Sum.{sum}
 
 -- a map of headers: what it has for each declaring node and universe name, by its number
 abbrev pub Headers : Type 0
 Headers = ℕ → Option HeaderData
 
--- the construct of a node, by its kind, its text, its parts, and what identifiers mean, by the numbers of their nodes
-abbrev pub construct : (ℕ → Meaning) → ℕ → NodeKind → List ℕ → List Tree → Construct HeaderData RecData
-construct means id IntLit text parts = literal text
-construct means id Name text parts = name (means id)
-construct means id SelectorExpr text (operand ∷ (selected ∷ [])) = selector (means (id_of selected))
-construct means id ParenExpr text (x ∷ []) = parentheses
-construct means id AddExpr text (x ∷ (y ∷ [])) = sum
-construct means id kind text parts = no_construct
+abbrev pub many_operands : Tree → ℕ
+many_operands t = length (operands_of t)
 
-abbrev mutual
-  pub outcome : (ℕ → Meaning) → Headers → Tree → OutcomeData RecData
-  outcome means headers (branch id from to kind text parts) = judged headers (construct means id kind text (list_of parts)) (outcomes means headers parts)
+-- the construct of a node, where this is known of identifiers
+abbrev pub construct : Naming → Tree → Construct HeaderData RecData
+construct naming (branch id from to IntLit text parts) = literal text
+construct naming (branch id from to Name text parts) = name (meaning_by naming id)
+construct naming (branch id from to SelectorExpr text (more_trees operand (more_trees selected no_trees))) = selector (meaning_by naming (id_of selected))
+construct naming (branch id from to ParenExpr text parts) = parentheses
+construct naming (branch id from to AddExpr text parts) = sum
+construct naming (branch id from to StarExpr text parts) = star
+construct naming (branch id from to EmbeddedPointer text parts) = embedded_pointer
+construct naming (branch id from to SliceType text parts) = slice
+construct naming (branch id from to ArrayType text parts) = array
+construct naming (branch id from to MapType text parts) = map_of
+construct naming (branch id from to ChanType text (more_trees (branch i f t ArrowExpr x element) parts)) = channel Send
+construct naming (branch id from to ChanType text parts) = channel Both
+construct naming (branch id from to ArrowExpr text (more_trees (branch i f t ChanType x element) parts)) = channel Receive
+construct naming (branch id from to FuncType text (more_trees signature parts)) = function (many_operands (branch id from to FuncType text (more_trees signature parts))) signature
+construct naming (branch id from to InterfaceType text elems) = interface_of naming.home (many_operands (branch id from to InterfaceType text elems)) (list_of elems)
+construct naming t = no_construct
 
-  pub outcomes : (ℕ → Meaning) → Headers → Trees → List (OutcomeData RecData)
-  outcomes means headers no_trees = []
-  outcomes means headers (more_trees t ts) = outcome means headers t ∷ outcomes means headers ts
+-- over these headers
+abbrev pub outcome : Naming → Headers → Tree → OutcomeData RecData
+outcome naming headers t = (folded (λ node operands. judged headers (construct naming node) operands) t).own
+
+-- those of a node's operands
+abbrev pub operand_outcomes : Naming → Headers → Tree → List (OutcomeData RecData)
+operand_outcomes naming headers t = map (outcome naming headers) (operands_of t)

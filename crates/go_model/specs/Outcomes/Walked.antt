@@ -6,8 +6,8 @@ use Rattle.std.specs.List.{flat_map}
 use Rattle.go_tree.specs.Tree.{Tree, id_of}
 use Rattle.go_module.specs.Modules.Module.{ModuleData, PackageData}
 use Rattle.go_module.specs.Names.Declarations.{specs_of}
-use Rattle.go_module.specs.Names.Occurrences.{nodes_in_parts}
-use Rattle.go_model.specs.declared.meaning.Meaning.{Meaning}
+use Rattle.go_operands.specs.Operands.{expressions_in_parts}
+use Rattle.go_model.specs.Values.Meaning.{Naming}
 use Rattle.go_model.specs.Outcomes.Judged.{OutcomeData}
 use Rattle.go_model.specs.Outcomes.Records.{RecData}
 use Rattle.go_model.specs.Outcomes.Walk.{Headers, outcome}
@@ -22,21 +22,21 @@ no_outcomes n = None
 
 -- behind a walk that reached these nodes: at the number of a node its outcome, of several with one number that of the
 -- first; a number of none of them keeps what it had
-abbrev pub walked_over : (ℕ → Meaning) → Headers → List Tree → Outcomes → Outcomes
-walked_over means headers [] before n = before n
-walked_over means headers (t ∷ ts) before n = if id_of t == n then Some (outcome means headers t) else walked_over means headers ts before n
+abbrev pub walked_over : Naming → Headers → List Tree → Outcomes → Outcomes
+walked_over naming headers [] before n = before n
+walked_over naming headers (t ∷ ts) before n = if id_of t == n then Some (outcome naming headers t) else walked_over naming headers ts before n
 
 -- what a number has behind a walk over these nodes that broke off: what it had, or the outcome of one of the nodes
-pub data IsLeft (means : ℕ → Meaning) (headers : Headers) (nodes : List Tree) (before after : Outcomes) (n : ℕ) : Type 0 where
-  as_before : after n ≡ before n → IsLeft means headers nodes before after n
-  of_node : (t : Tree) → Contains nodes t → id_of t ≡ n → after n ≡ Some (outcome means headers t) → IsLeft means headers nodes before after n
+pub data IsLeft (naming : Naming) (headers : Headers) (nodes : List Tree) (before after : Outcomes) (n : ℕ) : Type 0 where
+  as_before : after n ≡ before n → IsLeft naming headers nodes before after n
+  of_node : (t : Tree) → Contains nodes t → id_of t ≡ n → after n ≡ Some (outcome naming headers t) → IsLeft naming headers nodes before after n
 
-abbrev pub ArePartly : (ℕ → Meaning) → Headers → List Tree → Outcomes → Outcomes → Type 0
-ArePartly means headers nodes before after = (n : ℕ) → IsLeft means headers nodes before after n
+abbrev pub ArePartly : Naming → Headers → List Tree → Outcomes → Outcomes → Type 0
+ArePartly naming headers nodes before after = (n : ℕ) → IsLeft naming headers nodes before after n
 
 -- each of these nodes has its outcome over the headers
-abbrev pub AreWalked : (ℕ → Meaning) → Headers → List Tree → Outcomes → Type 0
-AreWalked means headers nodes outcomes = (t : Tree) → Contains nodes t → outcomes (id_of t) ≡ Some (outcome means headers t)
+abbrev pub AreWalked : Naming → Headers → List Tree → Outcomes → Type 0
+AreWalked naming headers nodes outcomes = (t : Tree) → Contains nodes t → outcomes (id_of t) ≡ Some (outcome naming headers t)
 
 -- no two of these nodes have one number
 abbrev pub AreNumbered : List Tree → Type 0
@@ -44,7 +44,7 @@ AreNumbered nodes = (s t : Tree) → Contains nodes s → Contains nodes t → i
 
 -- the nodes of the types and the expressions of a package's declarations
 abbrev pub nodes_of : PackageData → List Tree
-nodes_of p = flat_map nodes_in_parts (specs_of p)
+nodes_of p = flat_map expressions_in_parts (specs_of p)
 
 -- no two of these nodes have one number, package by package
 abbrev pub NodesAreNumbered : ModuleData → Type 0

@@ -2,7 +2,7 @@
 -- Decides which headers the declarations of a package have, where those of packages before are known: those that some
 -- justified list holds. No order of work is named.
 use Rattle.std.specs.Prelude.{◌≡◌, ℕ, ◌==◌, Some, None, List, [], ◌∷◌, if◌then◌else◌}
-use Rattle.go_model.specs.declared.meaning.Meaning.{Meaning}
+use Rattle.go_model.specs.Values.Meaning.{Naming}
 use Rattle.go_module.specs.Names.Declarations.{Declaration}
 use Rattle.go_model.specs.Outcomes.Records.{HeaderData}
 use Rattle.go_model.specs.Outcomes.Walk.{Headers}
@@ -10,11 +10,11 @@ use Rattle.go_model.specs.Values.Declared.{declared_as}
 use Rattle.go_model.specs.Values.Records.{header_over}
 
 -- the header h of d, which has none before, follows from the headers alone
-pub record Follows (before : Headers) (means : ℕ → Meaning) (declarations : List Declaration) (headers : Headers) (d : ℕ) (h : HeaderData) : Type 0 where
+pub record Follows (before : Headers) (naming : Naming) (declarations : List Declaration) (headers : Headers) (d : ℕ) (h : HeaderData) : Type 0 where
   pub declaration : Declaration
   pub declared : declared_as declarations d ≡ Some declaration
   pub fresh : before d ≡ None
-  pub tells : header_over means headers declaration ≡ Some h
+  pub tells : header_over naming headers declaration ≡ Some h
 
 -- the headers before, with those of a list of pairs, the newest first
 abbrev pub headers_of : Headers → List (ℕ × HeaderData) → Headers
@@ -22,12 +22,12 @@ headers_of before [] d = before d
 headers_of before (p ∷ list) d = if p.0 == d then Some p.1 else headers_of before list d
 
 -- a justified list: each header follows from those before and from the pairs before it alone
-abbrev pub Justified : Headers → (ℕ → Meaning) → List Declaration → List (ℕ × HeaderData) → Type 0
-Justified before means declarations [] = Unit {0}
-Justified before means declarations (p ∷ list) = Justified before means declarations list × Follows before means declarations (headers_of before list) p.0 p.1
+abbrev pub Justified : Headers → Naming → List Declaration → List (ℕ × HeaderData) → Type 0
+Justified before naming declarations [] = Unit {0}
+Justified before naming declarations (p ∷ list) = Justified before naming declarations list × Follows before naming declarations (headers_of before list) p.0 p.1
 
 -- it is known before, or some justified list has it
-pub record Known (before : Headers) (means : ℕ → Meaning) (declarations : List Declaration) (d : ℕ) (h : HeaderData) : Type 0 where
+pub record Known (before : Headers) (naming : Naming) (declarations : List Declaration) (d : ℕ) (h : HeaderData) : Type 0 where
   pub list : List (ℕ × HeaderData)
-  pub justified : Justified before means declarations list
+  pub justified : Justified before naming declarations list
   pub has : headers_of before list d ≡ Some h

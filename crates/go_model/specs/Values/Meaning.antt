@@ -1,42 +1,61 @@
 -- Declarations and scope; Qualified identifiers; Predeclared identifiers (Go specification).
 -- Decides what an identifier means in a package that is checked, by the object that it denotes. No header is asked.
-use Rattle.std.specs.Prelude.{◌≡◌, ℕ, if◌then◌else◌, List, [], IsSome, Option, None, Some}
+use Rattle.std.specs.Prelude.{◌≡◌, ℕ, if◌then◌else◌, List, [], ◌∷◌, IsSome, Option, None, Some, slice_get, unwrap_or}
 use Rattle.std.specs.Map.{lookup}
 use Rattle.std.specs.Option.{option_map_or}
 use Rattle.go_base.specs.declared.ids.ObjId.{ObjId}
+use Rattle.go_term.specs.declared.basic.Basic.TheVariants.{Bool, Error, Float32, Float64, Int, Int8, Int16, Int32, Int64, String, Uint, Uint8, Uint16, Uint32, Uint64, Uintptr}
 use Rattle.go_tree.specs.declared.node.NodeId.{NodeId}
 use Rattle.go_module.specs.declared.object.Object.{Object}
 use Rattle.go_module.specs.declared.object.ObjKind.{ObjKind}
-use Rattle.go_module.specs.declared.object.ObjKind.TheVariants.{Const}
+use Rattle.go_module.specs.declared.object.ObjKind.TheVariants.{Alias, Const, Defined, Var}
 use Rattle.go_module.specs.IndexMap.{insert_all}
 use Rattle.go_module.specs.Modules.Module.{ModuleData, PackageData}
 use Rattle.go_module.specs.Names.Imports.{known_in}
 use Rattle.go_module.specs.Names.Tables.{objects_in, uses_of}
 use Rattle.go_module.specs.Scopes.{same_node, same_object}
 use Rattle.go_model.specs.declared.meaning.Meaning.{Meaning}
-use Rattle.go_model.specs.declared.meaning.Meaning.TheVariants.{Declared, Predeclared, Other}
+use Rattle.go_model.specs.declared.meaning.Meaning.TheVariants.{AnyType, BasicType, Declared, DefinedType, Other, Predeclared}
 use Rattle.go_model.specs.Outline.{is_predeclared}
 
--- the object that each identifier denotes, by the number of the identifier's node; and the objects, by their numbers
+-- the object that each identifier denotes, by the number of the identifier's node; the objects, by their numbers; and the
+-- path of the package in which the identifiers stand
 pub record Naming : Type 0 where
   pub denotes : ℕ → Option ObjId
   pub objects : ℕ → Option Object
+  pub home : List ℕ
 
 -- nothing is denoted
 abbrev pub no_names : Naming
-no_names = record { denotes = λ id. None; objects = λ d. None }
+no_names = record { denotes = λ id. None; objects = λ d. None; home = [] }
 
 -- each object that is denoted is there
 abbrev pub AreThere : Naming → Type 0
 AreThere names = (id : ℕ) (d : ObjId) → names.denotes id ≡ Some d → IsSome (names.objects d.0)
 
--- what an object that is no universe name means, by its kind: a constant is asked for its header
+-- "Types" among the predeclared identifiers, in the order in which the universe block lists them (`Universe` of go_module):
+-- byte and rune are aliases of uint8 and int32; comparable is not built yet, and complex numbers are not checked (own)
+abbrev pub predeclared_types : ObjId → List Meaning
+predeclared_types d =
+    AnyType d ∷ BasicType d Bool ∷ BasicType d Uint8 ∷ Predeclared ∷ Predeclared ∷ Predeclared ∷ BasicType d Error ∷
+    BasicType d Float32 ∷ BasicType d Float64 ∷ BasicType d Int ∷ BasicType d Int8 ∷ BasicType d Int16 ∷ BasicType d Int32 ∷
+    BasicType d Int64 ∷ BasicType d Int32 ∷ BasicType d String ∷ BasicType d Uint ∷ BasicType d Uint8 ∷ BasicType d Uint16 ∷
+    BasicType d Uint32 ∷ BasicType d Uint64 ∷ BasicType d Uintptr ∷ []
+
+abbrev pub predeclared_meaning : ObjId → Meaning
+predeclared_meaning d = unwrap_or (slice_get (predeclared_types d) d.0) Predeclared
+
+-- what an object that is no universe name means, by its kind: a constant, a variable and an alias are asked for their
+-- headers, and a defined type is itself
 abbrev pub kind_meaning : ObjId → ObjKind → Meaning
 kind_meaning d Const = Declared d
+kind_meaning d Var = Declared d
+kind_meaning d Alias = Declared d
+kind_meaning d Defined = DefinedType d
 kind_meaning d kind = Other
 
 abbrev pub object_meaning : (ℕ → Option Object) → ObjId → Meaning
-object_meaning objects d = if is_predeclared d then Predeclared else option_map_or (λ object. kind_meaning d object.kind) (objects d.0) Other
+object_meaning objects d = if is_predeclared d then predeclared_meaning d else option_map_or (λ object. kind_meaning d object.kind) (objects d.0) Other
 
 abbrev pub denoted_meaning : (ℕ → Option Object) → Option ObjId → Meaning
 denoted_meaning objects None = Other
@@ -46,11 +65,12 @@ denoted_meaning objects (Some d) = object_meaning objects d
 abbrev pub meaning_by : Naming → ℕ → Meaning
 meaning_by names id = denoted_meaning names.objects (names.denotes id)
 
--- by tables
-abbrev pub names_by : List (NodeId × ObjId) → List (ObjId × Object) → Naming
-names_by uses objects = record {
+-- by tables, in the package of this path
+abbrev pub names_by : List (NodeId × ObjId) → List (ObjId × Object) → List ℕ → Naming
+names_by uses objects home = record {
   denotes = λ id. lookup (same_node (record { 0 = id })) uses;
   objects = λ d. lookup (same_object (record { 0 = d })) objects;
+  home = home;
 }
 
 -- the object that each identifier of the package at a place denotes, by the identifier's node, and the objects
@@ -60,9 +80,6 @@ uses_table m k p = insert_all same_node [] (uses_of (known_in m) k p)
 abbrev pub objects_table : ModuleData → ℕ → PackageData → List (ObjId × Object)
 objects_table m k p = insert_all same_object [] (objects_in (known_in m) k p)
 
+-- what is known of the identifiers of the package at a place
 abbrev pub names_in : ModuleData → ℕ → PackageData → Naming
-names_in m k p = names_by (uses_table m k p) (objects_table m k p)
-
--- what each identifier of the package at a place means, by the number of its node
-abbrev pub meaning_in : ModuleData → ℕ → PackageData → ℕ → Meaning
-meaning_in m k p = meaning_by (names_in m k p)
+names_in m k p = names_by (uses_table m k p) (objects_table m k p) p.path

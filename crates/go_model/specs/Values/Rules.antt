@@ -1,21 +1,25 @@
 -- The rules that the values of declarations can break.
--- Decides where the declarations of a package break them: C1, R37, and what the nodes of expressions break (`Outcomes`).
+-- Decides where the declarations of a package break them: C1, C13, R1 and R37 of specs, and what the nodes of expressions and
+-- types break (`Outcomes`).
 -- Which declaration waits for which: `Waiting`. Rules on names: `Names` of go_module; on the form of a file: go_form.
-use Rattle.std.specs.Prelude.{ℕ, ◌==◌, ◌&&◌, Bool, not, is_some, Option, List, [], ◌++◌, length, map}
+use Rattle.std.specs.Prelude.{ℕ, ◌==◌, ◌&&◌, Bool, false, not, Option, List, [], ◌++◌, length, map, unwrap_or}
 use Rattle.std.specs.List.{flat_map, list_all}
+use Rattle.std.specs.Option.{option_map_or}
 use Rattle.go_base.specs.declared.rule.Broken.{Broken}
 use Rattle.go_base.specs.declared.rule.Rule.{Rule}
 use Rattle.go_base.specs.declared.rule.Family.TheVariants.{C, R}
 use Rattle.go_tree.specs.Tree.{Tree, start_of}
-use Rattle.go_model.specs.declared.meaning.Meaning.{Meaning}
+use Rattle.go_model.specs.Values.Meaning.{Naming}
 use Rattle.go_module.specs.declared.object.ObjKind.{ObjKind}
 use Rattle.go_module.specs.declared.object.ObjKind.TheVariants.{Const}
 use Rattle.go_module.specs.Broken.{broken_at, told_if}
 use Rattle.go_module.specs.Places.{with_number}
 use Rattle.go_module.specs.Modules.Module.{PackageData}
 use Rattle.go_module.specs.Names.Declarations.{Declaration, Spec, declarations_of, number_of, specs_of}
-use Rattle.go_module.specs.Names.Occurrences.{nodes_in}
+use Rattle.go_operands.specs.Operands.{expressions_in}
+use Rattle.go_model.specs.Outcomes.Constructs.Kinds.{no_type, no_value}
 use Rattle.go_model.specs.Outcomes.Judged.{OutcomeData}
+use Rattle.go_model.specs.Outcomes.Operands.{is_constant, is_type}
 use Rattle.go_model.specs.Outcomes.Readings.{broken_spots}
 use Rattle.go_model.specs.Outcomes.Records.{RecData}
 use Rattle.go_model.specs.Outcomes.Walk.{Headers, outcome}
@@ -38,11 +42,26 @@ broken_cycles cyclic declarations = flat_map (λ d. cyclic_at (cyclic (number_of
 -- those of its package: told where a node breaks it, or at the offset at which a copy is told
 module _ (outcome : Tree → OutcomeData RecData) where
   abbrev pub broken_by : ℕ → Option ℕ → Tree → List Broken
-  broken_by file told t = flat_map (λ node. broken_spots file told node (outcome node)) (nodes_in t)
+  broken_by file told t = flat_map (λ node. broken_spots file told node (outcome node)) (expressions_in t)
 
-  -- R37: the spec of constants whose numbers of names and of expressions differ, where all its expressions have records
+  -- what the record of a node says, where it has one
+  abbrev pub has_record : (RecData → Bool) → Tree → Bool
+  has_record says t = option_map_or says (record_by outcome t) false
+
+  -- this rule at each of these nodes of a spec that is another thing than what is needed there
+  abbrev pub others_by : Rule → (RecData → Bool) → Spec → List Tree → List Broken
+  others_by rule needed spec ts =
+      flat_map (λ t. told_if (has_record (λ r. not (needed r)) t) (broken_at spec.file (unwrap_or spec.told_at (start_of t)) rule)) ts
+
+  -- R1: a value of a spec of constants that is none. C13: something other than a type behind the names of a variable, a type
+  -- or an alias
+  abbrev pub others_by_kind : ObjKind → Spec → List Tree → List Tree → List Broken
+  others_by_kind Const spec types values = others_by no_value is_constant spec values
+  others_by_kind kind spec types values = others_by no_type is_type spec types
+
+  -- R37: the spec of constants whose numbers of names and of expressions differ, where all its expressions are constants
   abbrev pub are_unequal_by : List Tree → List Tree → Bool
-  are_unequal_by names values = not (length names == length values) && list_all (λ value. is_some (record_by outcome value)) values
+  are_unequal_by names values = not (length names == length values) && list_all (has_record is_constant) values
 
   abbrev pub unequal_by_kind : ObjKind → Spec → List Broken
   unequal_by_kind Const spec = told_if (are_unequal_by spec.names spec.values) (broken_at spec.file (start_of spec.node) unequal_sides)
@@ -53,28 +72,28 @@ module _ (outcome : Tree → OutcomeData RecData) where
 
   -- what a spec breaks
   abbrev pub broken_spec_by : Spec → List Broken
-  broken_spec_by spec = unequal_by spec ++ flat_map (broken_by spec.file spec.told_at) (spec.types ++ spec.values)
+  broken_spec_by spec = unequal_by spec ++ (others_by_kind spec.kind spec spec.types spec.values ++ flat_map (broken_by spec.file spec.told_at) (spec.types ++ spec.values))
 
 -- what a node, the nodes of an expression or a type, and a spec break over the headers
-abbrev pub broken_node : ℕ → Option ℕ → (ℕ → Meaning) → Headers → Tree → List Broken
-broken_node file told means headers t = broken_spots file told t (outcome means headers t)
+abbrev pub broken_node : ℕ → Option ℕ → Naming → Headers → Tree → List Broken
+broken_node file told naming headers t = broken_spots file told t (outcome naming headers t)
 
-abbrev pub broken_in : ℕ → Option ℕ → (ℕ → Meaning) → Headers → Tree → List Broken
-broken_in file told means headers t = broken_by (outcome means headers) file told t
+abbrev pub broken_in : ℕ → Option ℕ → Naming → Headers → Tree → List Broken
+broken_in file told naming headers t = broken_by (outcome naming headers) file told t
 
-abbrev pub are_unequal : (ℕ → Meaning) → Headers → List Tree → List Tree → Bool
-are_unequal means headers names values = are_unequal_by (outcome means headers) names values
+abbrev pub are_unequal : Naming → Headers → List Tree → List Tree → Bool
+are_unequal naming headers names values = are_unequal_by (outcome naming headers) names values
 
-abbrev pub unequal_at : (ℕ → Meaning) → Headers → Spec → List Broken
-unequal_at means headers spec = unequal_by (outcome means headers) spec
+abbrev pub unequal_at : Naming → Headers → Spec → List Broken
+unequal_at naming headers spec = unequal_by (outcome naming headers) spec
 
-abbrev pub broken_spec : (ℕ → Meaning) → Headers → Spec → List Broken
-broken_spec means headers spec = broken_spec_by (outcome means headers) spec
+abbrev pub broken_spec : Naming → Headers → Spec → List Broken
+broken_spec naming headers spec = broken_spec_by (outcome naming headers) spec
 
 -- what the values of a package break, by the places of its files
-abbrev pub broken_in_files : (ℕ → Meaning) → Headers → (ℕ → Bool) → PackageData → List Broken
-broken_in_files means headers cyclic p = broken_cycles cyclic (declarations_of p) ++ flat_map (broken_spec means headers) (specs_of p)
+abbrev pub broken_in_files : Naming → Headers → (ℕ → Bool) → PackageData → List Broken
+broken_in_files naming headers cyclic p = broken_cycles cyclic (declarations_of p) ++ flat_map (broken_spec naming headers) (specs_of p)
 
 -- what the values of a package break, in any order
-abbrev pub broken_values : (ℕ → Meaning) → Headers → (ℕ → Bool) → PackageData → List Broken
-broken_values means headers cyclic p = map (with_number p.files) (broken_in_files means headers cyclic p)
+abbrev pub broken_values : Naming → Headers → (ℕ → Bool) → PackageData → List Broken
+broken_values naming headers cyclic p = map (with_number p.files) (broken_in_files naming headers cyclic p)

@@ -14,6 +14,6 @@ loop-node-preserved c =
     let i = c.loop-node.node-index in
     let nodes = c.args.nodes.now in
     nodes_more (expr_by (outcome_read (outcomes_view c.args.walker.now)) c.args.file.now.stub (file_view c.args.file.now.file.now)) (tree_of c.node-item.result)
-    (map tree_of (drop i nodes)) (map tree_of (drop (i + 1) nodes)) c.in_ok-nodes_in.field-0.items c.deref.result.now
+    (map tree_of (drop i nodes)) (map tree_of (drop (i + 1) nodes)) c.in_ok-expressions_in.field-0.items c.deref.result.now
     (map line_view c.loop-node.lines.items) (map line_view c.push_each.new.lines.items) _
-    (ap (map tree_of) (drop-step nodes i c.node-item.result (omega arith) c.node-item.is)) c.deref.ensures.value c.in_ok-nodes_in.ensures c.in_ok-push_each.ensures c.loop-node.invariant
+    (ap (map tree_of) (drop-step nodes i c.node-item.result (omega arith) c.node-item.is)) c.deref.ensures.value c.in_ok-expressions_in.ensures c.in_ok-push_each.ensures c.loop-node.invariant

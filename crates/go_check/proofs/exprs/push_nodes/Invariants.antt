@@ -3,7 +3,7 @@ use Rattle.std.specs.List.{flat_map}
 use Rattle.go_model.specs.Report.{line_view}
 use Rattle.go_module.specs.Modules.Module.{file_view}
 use Rattle.go_tree.specs.Tree.{tree_of}
-use Rattle.go_module.specs.Names.Occurrences.{nodes_in}
+use Rattle.go_operands.specs.Operands.{expressions_in}
 use Rattle.go_expr.specs.Read.{outcome_read}
 use Rattle.go_expr.specs.Walker.{outcomes_view}
 use Rattle.go_model.specs.PackageLines.{expr_by}
@@ -13,4 +13,4 @@ use Rattle.go_check.proofs.exprs.push_nodes.Given as goal
 abbrev pub invariant-loop-node : goal.invariant-loop-node
 invariant-loop-node l =
     let line = expr_by (outcome_read (outcomes_view l.walker)) l.file.stub (file_view l.file.file.now) in
-    map line_view l.lines.items ++ flat_map line (flat_map nodes_in (map tree_of (drop l.node-index l.nodes))) ≡ map line_view l.fn.lines.items ++ flat_map line (flat_map nodes_in (map tree_of l.nodes))
+    map line_view l.lines.items ++ flat_map line (flat_map expressions_in (map tree_of (drop l.node-index l.nodes))) ≡ map line_view l.fn.lines.items ++ flat_map line (flat_map expressions_in (map tree_of l.nodes))

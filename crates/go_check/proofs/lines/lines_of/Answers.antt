@@ -25,12 +25,12 @@ returns c =
     let views : map line_view (defs ++ (uses ++ exprs)) ≡ map line_view defs ++ (map line_view uses ++ map line_view exprs) =
     map-append line_view defs (uses ++ exprs) ∙ ap (λ (l : List LineData). map line_view defs ++ l) (map-append line_view uses exprs) in
     IfOk-weaker c.joined.result _ _
-    (λ lines is means headers k p same all.
-    let walked : AreWalked means headers (nodes_of_files files) outcomes = subst (λ nodes. AreWalked means headers nodes outcomes) (nodes_are files p same) all in
-    are_lines outline k p (denotes_by c.args.book.now.judge) means headers files
+    (λ lines is naming headers k p same all.
+    let walked : AreWalked naming headers (nodes_of_files files) outcomes = subst (λ nodes. AreWalked naming headers nodes outcomes) (nodes_are files p same) all in
+    are_lines outline k p (denotes_by c.args.book.now.judge) naming headers files
     (map line_view defs) (map line_view uses) (map line_view exprs) (map line_view lines.items) same
-    (subst (λ (l : List (List LineData)). AreInOrder l (map line_view defs)) (defs_same means headers outcomes files walked outline) c.in_ok-defs.ensures)
+    (subst (λ (l : List (List LineData)). AreInOrder l (map line_view defs)) (defs_same naming headers outcomes files walked outline) c.in_ok-defs.ensures)
     c.in_ok-uses.ensures
-    (subst (λ (l : List (List LineData)). AreInOrder l (map line_view exprs)) (exprs_same means headers outcomes files walked) c.in_ok-exprs.ensures)
+    (subst (λ (l : List (List LineData)). AreInOrder l (map line_view exprs)) (exprs_same naming headers outcomes files walked) c.in_ok-exprs.ensures)
     (ap (map line_view) is ∙ views))
     c.joined.ensures

@@ -25,7 +25,7 @@ pub collected_here : (g : _) (c : goal.After-check_values-arg-in-Sound-2-1 g) �
 collected_here g c = subst (IsCollected (module_view c.args.book.now.judge.«module».now) c.args.place) (sym c.requires.scopes) (c.requires.names.sound c.args.place (sound_here g c))
 
 pub check_values-requires-clause-there : goal.check_values-requires-clause-there
-check_values-requires-clause-there g c = there_at (module_view c.args.book.now.judge.«module».now) c.args.place c.args.book.now.judge.scopes.now (collected_here g c)
+check_values-requires-clause-there g c = there_at c.args.book.now.judge.«module».now c.args.place c.args.book.now.judge.scopes.now (collected_here g c)
 
 pub returns-in-Sound-clause-verdict : goal.returns-in-Sound-clause-verdict
 returns-in-Sound-clause-verdict g c =
@@ -33,7 +33,7 @@ returns-in-Sound-clause-verdict g c =
     let scopes = c.args.book.now.judge.scopes.now in
     let is = collected_here g c.before in
     IfOk-weaker c.check_values.result _ _
-    (λ verdict given p at. given p at c.requires.outline (names_are m c.args.place scopes is p at) (sound_there m c.args.place scopes is p at))
+    (λ verdict given p at. given p at c.requires.outline (names_are c.args.book.now.judge.«module».now c.args.place scopes is p at) (sound_there c.args.book.now.judge.«module».now c.args.place scopes is p at))
     c.check_values.ensures.verdict
 
 pub returns-in-Sound-clause-sound : goal.returns-in-Sound-clause-sound

@@ -4,14 +4,13 @@ use Rattle.std.proofs.lemmas.Result.{IfOk-weaker}
 use Rattle.go_module.specs.Modules.Module.{PackageData, module_view, package_view}
 use Rattle.go_module.specs.Names.Declarations.{declarations_of}
 use Rattle.go_model.specs.declared.headers.Headers.{Headers as HeaderMap}
-use Rattle.go_model.specs.declared.meaning.Meaning.{Meaning}
 use Rattle.go_model.specs.Outcomes.Records.{HeaderData}
 use Rattle.go_model.specs.Outcomes.Walked.{AreWalked, nodes_of}
 use Rattle.go_model.specs.Phases.{BreaksValues, IsVerdict}
 use Rattle.go_model.specs.Report.{verdict_view}
 use Rattle.go_model.specs.Values.Headers.{Known}
 use Rattle.go_model.specs.Values.HeadersView.{headers_view}
-use Rattle.go_model.specs.Values.Meaning.{AreThere, meaning_by, meaning_in, names_in}
+use Rattle.go_model.specs.Values.Meaning.{AreThere, Naming, names_in}
 use Rattle.go_expr.specs.Walker.{outcomes_view}
 use Rattle.go_decl.specs.Broken.{AreBroken}
 use Rattle.go_decl.proofs.ListLemmas.{on_ok, viewed_at}
@@ -20,7 +19,7 @@ use Rattle.go_check.proofs.VerdictLemmas.{breaks}
 use Rattle.go_check.proofs.package.check_values.Goals as goal
 
 pub rounds-requires-clause-there : goal.rounds-requires-clause-there
-rounds-requires-clause-there g c = subst AreThere (ap (λ (s : Standing). names_at s.scopes s.place) (sym c.enter.ensures.standing)) c.requires.there
+rounds-requires-clause-there g c = subst AreThere (ap (λ (s : Standing). names_at s.«module» s.scopes s.place) (sym c.enter.ensures.standing)) c.requires.there
 
 pub rounds-requires-clause-same : goal.rounds-requires-clause-same
 rounds-requires-clause-same g c = c.requires.same ∙ ap headers_view (sym c.enter.ensures.headers)
@@ -39,15 +38,15 @@ returns-clause-verdict g c =
     IfOk-weaker c.verdict_by.result _ _
     (λ verdict is p at outline names sound.
     let same : own ≡ p = cc (here, at) in
-    let named : book_names entered.judge ≡ names_in m k p = ap (λ (s : Standing). names_at s.scopes s.place) c.enter.ensures.standing ∙ names in
-    let means : meaning_by (book_names entered.judge) ≡ meaning_in m k p = ap meaning_by named in
-    let known : (d : ℕ) (h : HeaderData) → (headers d ≡ Some h) ↔ Known before (meaning_in m k p) (declarations_of p) d h =
-    λ d h. subst (λ (ms : ℕ → Meaning). (headers d ≡ Some h) ↔ Known before ms (declarations_of p) d h) means
-    (subst (λ (b : HeaderMap). (headers d ≡ Some h) ↔ Known (headers_view b) (meaning_by (book_names entered.judge)) (declarations_of p) d h) c.enter.ensures.headers (c.in_ok-list.ensures.exact p at d h)) in
-    let walked = subst (λ (ms : ℕ → Meaning). AreWalked ms headers (nodes_of p) (outcomes_view after.walker)) means (c.in_ok-list.ensures.nodes p at) in
-    let broken = subst (λ (ms : ℕ → Meaning). AreBroken ms headers p list) means (c.in_ok-list.ensures.list p at) in
+    let named : book_names entered.judge ≡ names_in m k p = ap (λ (s : Standing). names_at s.«module» s.scopes s.place) c.enter.ensures.standing ∙ names in
+    let naming = named in
+    let known : (d : ℕ) (h : HeaderData) → (headers d ≡ Some h) ↔ Known before (names_in m k p) (declarations_of p) d h =
+    λ d h. subst (λ (ms : Naming). (headers d ≡ Some h) ↔ Known before ms (declarations_of p) d h) naming
+    (subst (λ (b : HeaderMap). (headers d ≡ Some h) ↔ Known (headers_view b) (book_names entered.judge) (declarations_of p) d h) c.enter.ensures.headers (c.in_ok-list.ensures.exact p at d h)) in
+    let walked = subst (λ (ms : Naming). AreWalked ms headers (nodes_of p) (outcomes_view after.walker)) naming (c.in_ok-list.ensures.nodes p at) in
+    let broken = subst (λ (ms : Naming). AreBroken ms headers p list) naming (c.in_ok-list.ensures.list p at) in
     let found = breaks m k p before headers list sound known broken in
-    subst (λ (q : PackageData). book_names after.judge ≡ names_in m k q → AreWalked (meaning_in m k q) headers (nodes_of q) (outcomes_view after.walker) → BreaksValues m k q before headers c.deref.result.now → IsVerdict m k q before (verdict_view verdict) headers) same
+    subst (λ (q : PackageData). book_names after.judge ≡ names_in m k q → AreWalked (names_in m k q) headers (nodes_of q) (outcomes_view after.walker) → BreaksValues m k q before headers c.deref.result.now → IsVerdict m k q before (verdict_view verdict) headers) same
     (is m k before headers outline) (c.rounds.ensures.names ∙ named) walked (subst (BreaksValues m k p before headers) (sym c.deref.ensures.value) found))
     c.verdict_by.ensures
 

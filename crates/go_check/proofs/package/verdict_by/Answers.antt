@@ -4,7 +4,7 @@ use Rattle.go_module.specs.Modules.Module.{package_view}
 use Rattle.go_module.specs.Places.{placed_by}
 use Rattle.go_model.specs.Phases.{IsVerdict}
 use Rattle.go_model.specs.Report.{refused, verdict_view}
-use Rattle.go_model.specs.Values.Meaning.{meaning_in}
+use Rattle.go_model.specs.Values.Meaning.{names_in}
 use Rattle.go_check.specs.Packages.Book.{denotes_by}
 use Rattle.go_check.specs.Packages.Verdicts.{IsAccepting}
 use Rattle.go_check.proofs.VerdictLemmas.{refused_values, sound_verdict}
@@ -16,7 +16,7 @@ returns-then-breaks_none c =
     let judge = c.args.book.now.judge in
     IfOk-weaker c.accept.result _ _
     (λ verdict accepts m k before headers outline names walked breaks.
-    let accepting = subst (λ o. IsAccepting o k p (denotes_by judge) (meaning_in m k p) headers (verdict_view verdict)) outline (accepts (meaning_in m k p) headers k walked) in
+    let accepting = subst (λ o. IsAccepting o k p (denotes_by judge) (names_in m k p) headers (verdict_view verdict)) outline (accepts (names_in m k p) headers k walked) in
     sound_verdict m k p before headers (denotes_by judge) c.args.list.now (verdict_view verdict) breaks (c.breaks_none.ensures.none c.if-breaks_none.true) (λ i id. (names i).denotes id.0) accepting)
     c.accept.ensures
 

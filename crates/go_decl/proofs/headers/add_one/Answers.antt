@@ -5,7 +5,6 @@ use Rattle.go_base.specs.declared.ids.ObjId.{ObjId}
 use Rattle.go_module.specs.Scopes.{same_object}
 use Rattle.go_model.specs.Outcomes.Records.{header_as}
 use Rattle.go_model.specs.Outcomes.Walk.{Headers}
-use Rattle.go_model.specs.Values.Meaning.{meaning_by}
 use Rattle.go_names.specs.Views.{declaration_view, declarations_view}
 use Rattle.go_expr.proofs.ResultLemmas.{on_err}
 use Rattle.go_decl.specs.Rounds.{IsSettled, IsToldOrNot}
@@ -49,7 +48,7 @@ tell-requires-clause-header g c = found_own (g.R.Ask.is_type c.header_over.new.w
 pub returns-in_ok-tell-in-Some-clause-backed : goal.returns-in_ok-tell-in-Some-clause-backed
 returns-in_ok-tell-in-Some-clause-backed g c =
     let headers = g.R.Ask.headers c.args.rules.now in
-    let means = meaning_by (g.R.Ask.names c.args.rules.now) in
+    let naming = (g.R.Ask.names c.args.rules.now) in
     let declarations = declarations_view c.args.declarations.now in
     let declaration = declaration_view c.index-declarations-place.result in
     let d = c.number-number.result in
@@ -59,14 +58,14 @@ returns-in_ok-tell-in-Some-clause-backed g c =
     let is = at_place declarations c.args.places.now.entries c.requires.places d c.args.place (c.stands_at.ensures.0 c.if-not-stands_at.false) declaration there in
     let kept : g.R.Ask.headers c.header_over.new.walks ≡ headers = c.header_over.ensures.same in
     let vacant : headers d.0 ≡ None = is_vacant (headers d.0) (has_header (g.R.Ask.tree c.args.rules.now) c.args.known.now headers d.0 c.is_known.result c.requires.same c.is_known.ensures ∙ c.if-is_known.false) in
-    let follows = found_over tree means means headers headers declaration c.in_ok-header.field-0 (Some c.in-Some.header) refl refl c.in_ok-header.ensures.header c.in-Some.is in
-    backed_one headers means declarations (g.R.Ask.headers c.tell.new.rules) d.0 h declaration is.declared vacant follows
+    let follows = found_over tree naming naming headers headers declaration c.in_ok-header.field-0 (Some c.in-Some.header) refl refl c.in_ok-header.ensures.header c.in-Some.is in
+    backed_one headers naming declarations (g.R.Ask.headers c.tell.new.rules) d.0 h declaration is.declared vacant follows
     (learnt_over headers (g.R.Ask.headers c.header_over.new.walks) (g.R.Ask.headers c.tell.new.rules) d.0 h kept c.in_ok-tell-in-Some.ensures.learned)
 
 pub returns-in_err-tell-in-Some-clause-backed : goal.returns-in_err-tell-in-Some-clause-backed
 returns-in_err-tell-in-Some-clause-backed g c =
     let headers = g.R.Ask.headers c.args.rules.now in
-    let means = meaning_by (g.R.Ask.names c.args.rules.now) in
+    let naming = (g.R.Ask.names c.args.rules.now) in
     let declarations = declarations_view c.args.declarations.now in
     let declaration = declaration_view c.index-declarations-place.result in
     let d = c.number-number.result in
@@ -76,20 +75,20 @@ returns-in_err-tell-in-Some-clause-backed g c =
     let is = at_place declarations c.args.places.now.entries c.requires.places d c.args.place (c.stands_at.ensures.0 c.if-not-stands_at.false) declaration there in
     let kept : g.R.Ask.headers c.header_over.new.walks ≡ headers = c.header_over.ensures.same in
     let vacant : headers d.0 ≡ None = is_vacant (headers d.0) (has_header (g.R.Ask.tree c.args.rules.now) c.args.known.now headers d.0 c.is_known.result c.requires.same c.is_known.ensures ∙ c.if-is_known.false) in
-    let follows = found_over tree means means headers headers declaration c.in_ok-header.field-0 (Some c.in-Some.header) refl refl c.in_ok-header.ensures.header c.in-Some.is in
-    backed_either headers means declarations (g.R.Ask.headers c.tell.new.rules) d.0 h declaration is.declared vacant follows
+    let follows = found_over tree naming naming headers headers declaration c.in_ok-header.field-0 (Some c.in-Some.header) refl refl c.in_ok-header.ensures.header c.in-Some.is in
+    backed_either headers naming declarations (g.R.Ask.headers c.tell.new.rules) d.0 h declaration is.declared vacant follows
     (subst (λ (m : Headers). IsToldOrNot m d.0 h (g.R.Ask.headers c.tell.new.rules)) kept c.in_err-tell-in-Some.ensures.err)
 
 pub returns-in_err-header-clause-kept : goal.returns-in_err-header-clause-kept
 returns-in_err-header-clause-kept g c =
     on_err c.from_residual.result _
-    (backed_same (g.R.Ask.headers c.args.rules.now) (meaning_by (g.R.Ask.names c.args.rules.now)) (declarations_view c.args.declarations.now) _
+    (backed_same (g.R.Ask.headers c.args.rules.now) (g.R.Ask.names c.args.rules.now) (declarations_view c.args.declarations.now) _
     (still_agree c.header_over.ensures.types c.args.known.now c.requires.own ∙ c.requires.same))
 
 pub returns-in_err-tell-in-Some-clause-kept : goal.returns-in_err-tell-in-Some-clause-kept
 returns-in_err-tell-in-Some-clause-kept g c =
     on_err c.from_residual-in_err-tell-in-Some.result _
-    (backed_same (g.R.Ask.headers c.args.rules.now) (meaning_by (g.R.Ask.names c.args.rules.now)) (declarations_view c.args.declarations.now) _
+    (backed_same (g.R.Ask.headers c.args.rules.now) (g.R.Ask.names c.args.rules.now) (declarations_view c.args.declarations.now) _
     (c.in_err-tell-in-Some.ensures.kept ∙ still_agree c.header_over.ensures.types c.args.known.now c.requires.own ∙ c.requires.same))
 
 pub returns-in_ok-tell-in-Some-clause-fewer : goal.returns-in_ok-tell-in-Some-clause-fewer
@@ -117,11 +116,11 @@ returns-in-None-clause-own g c = still_own c.header_over.ensures.types c.args.kn
 pub returns-in-None-clause-settled : goal.returns-in-None-clause-settled
 returns-in-None-clause-settled g c = λ _ d at.
     let headers = g.R.Ask.headers c.args.rules.now in
-    let means = meaning_by (g.R.Ask.names c.args.rules.now) in
+    let naming = (g.R.Ask.names c.args.rules.now) in
     let declarations = declarations_view c.args.declarations.now in
     let declaration = declaration_view c.index-declarations-place.result in
     let there = declared_at c.args.declarations.now c.args.place c.index-declarations-place.result c.requires.within c.index-declarations-place.is in
     let is = at_place declarations c.args.places.now.entries c.requires.places d c.args.place at declaration there in
     let kept : g.R.Ask.headers c.header_over.new.walks ≡ headers = c.header_over.ensures.same in
-    subst (λ (m : Headers). IsSettled m means declarations m d.0) (sym kept)
-    (settled_none headers means declarations d.0 declaration is.declared (found_over (g.R.Ask.tree c.header_over.new.walks) means means headers headers declaration c.in_ok-header.field-0 None refl refl c.in_ok-header.ensures.header c.in-None.is))
+    subst (λ (m : Headers). IsSettled m naming declarations m d.0) (sym kept)
+    (settled_none headers naming declarations d.0 declaration is.declared (found_over (g.R.Ask.tree c.header_over.new.walks) naming naming headers headers declaration c.in_ok-header.field-0 None refl refl c.in_ok-header.ensures.header c.in-None.is))

@@ -3,10 +3,9 @@ use Rattle.std.specs.Map.{lookup}
 use Rattle.std.proofs.lemmas.List.{length-map}
 use Rattle.go_base.specs.declared.ids.ObjId.{ObjId}
 use Rattle.go_module.specs.Scopes.{same_object}
-use Rattle.go_model.specs.declared.meaning.Meaning.{Meaning}
 use Rattle.go_model.specs.Outcomes.Walk.{Headers}
 use Rattle.go_model.specs.Values.HeadersView.{headers_as}
-use Rattle.go_model.specs.Values.Meaning.{meaning_by}
+use Rattle.go_model.specs.Values.Meaning.{Naming}
 use Rattle.go_model.proofs.OwnLemmas.{types_then}
 use Rattle.go_names.specs.Views.{declaration_view, declarations_view}
 use Rattle.go_expr.proofs.ResultLemmas.{on_err}
@@ -22,10 +21,10 @@ loop-place-preserved g c =
     let did = c.in_ok-add_one.ensures in
     let declarations = declarations_view c.args.declarations.now in
     let old = g.R.Ask.headers c.args.rules.now in
-    let means = meaning_by (g.R.Ask.names c.args.rules.now) in
+    let naming = (g.R.Ask.names c.args.rules.now) in
     let before = g.R.Ask.headers c.loop-place.rules in
     let after = g.R.Ask.headers c.add_one.new.rules in
-    let backed : IsBacked old means declarations after = backed_twice old means declarations before after (meaning_by (g.R.Ask.names c.loop-place.rules)) (ap meaning_by inv.names) inv.backed did.backed in
+    let backed : IsBacked old naming declarations after = backed_twice old naming declarations before after (g.R.Ask.names c.loop-place.rules) inv.names inv.backed did.backed in
     elim c.if-branch.branch [
       | then-branch w ↦ let less : open_in after declarations < open_in before declarations = did.fewer w.if-branch.true in
           record {
@@ -49,9 +48,9 @@ loop-place-preserved g c =
             types = types_then inv.types c.add_one.ensures.types;
             fewer = λ e. subst (λ (m : Headers). open_in m declarations < open_in old declarations) (sym same) (inv.fewer (sym w.added-is ∙ e));
             no_more = subst (λ (m : Headers). open_in m declarations ≤ open_in old declarations) (sym same) inv.no_more;
-            settled = λ e. below_more (λ n. (d : ObjId) → lookup (same_object d) c.args.places.now.entries ≡ Some n → IsSettled after means declarations after d.0) c.loop-place.place
-                (λ n lt d at. subst (λ (m : Headers). IsSettled m means declarations m d.0) (sym same) (inv.settled (sym w.added-is ∙ e) n lt d at))
-                (λ d at. subst (λ (k : ℕ → Meaning). IsSettled after k declarations after d.0) (ap meaning_by inv.names) (did.settled w.if-branch.false d at));
+            settled = λ e. below_more (λ n. (d : ObjId) → lookup (same_object d) c.args.places.now.entries ≡ Some n → IsSettled after naming declarations after d.0) c.loop-place.place
+                (λ n lt d at. subst (λ (m : Headers). IsSettled m naming declarations m d.0) (sym same) (inv.settled (sym w.added-is ∙ e) n lt d at))
+                (λ d at. subst (λ (k : Naming). IsSettled after k declarations after d.0) inv.names (did.settled w.if-branch.false d at));
           }
     ]
 
@@ -65,8 +64,8 @@ returns-clause-settled g c = λ e d h vacant follows.
 
 pub returns-in_err-add_one-clause-backed : goal.returns-in_err-add_one-clause-backed
 returns-in_err-add_one-clause-backed g c =
-    backed_twice (g.R.Ask.headers c.args.rules.now) (meaning_by (g.R.Ask.names c.args.rules.now)) (declarations_view c.args.declarations.now) (g.R.Ask.headers c.loop-place.rules) (g.R.Ask.headers c.add_one.new.rules) (meaning_by (g.R.Ask.names c.loop-place.rules))
-    (ap meaning_by c.loop-place.invariant.names) c.loop-place.invariant.backed c.add_one.ensures.backed
+    backed_twice (g.R.Ask.headers c.args.rules.now) (g.R.Ask.names c.args.rules.now) (declarations_view c.args.declarations.now) (g.R.Ask.headers c.loop-place.rules) (g.R.Ask.headers c.add_one.new.rules) (g.R.Ask.names c.loop-place.rules)
+    c.loop-place.invariant.names c.loop-place.invariant.backed c.add_one.ensures.backed
 
 pub add_one-requires-clause-same : goal.add_one-requires-clause-same
 add_one-requires-clause-same g c = c.loop-place.invariant.known
@@ -77,5 +76,5 @@ returns-clause-known g c = c.loop-place.invariant.known
 pub returns-in_err-add_one-clause-kept : goal.returns-in_err-add_one-clause-kept
 returns-in_err-add_one-clause-kept g c =
     on_err c.from_residual.result _
-    (backed_twice (g.R.Ask.headers c.args.rules.now) (meaning_by (g.R.Ask.names c.args.rules.now)) (declarations_view c.args.declarations.now) (g.R.Ask.headers c.loop-place.rules) (headers_as (g.R.Ask.tree c.add_one.new.rules) c.add_one.new.known) (meaning_by (g.R.Ask.names c.loop-place.rules))
-    (ap meaning_by c.loop-place.invariant.names) c.loop-place.invariant.backed c.in_err-add_one.ensures.kept)
+    (backed_twice (g.R.Ask.headers c.args.rules.now) (g.R.Ask.names c.args.rules.now) (declarations_view c.args.declarations.now) (g.R.Ask.headers c.loop-place.rules) (headers_as (g.R.Ask.tree c.add_one.new.rules) c.add_one.new.known) (g.R.Ask.names c.loop-place.rules)
+    c.loop-place.invariant.names c.loop-place.invariant.backed c.in_err-add_one.ensures.kept)

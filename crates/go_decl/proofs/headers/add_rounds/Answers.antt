@@ -1,7 +1,6 @@
 use Rattle.std.proofs.Common.{◌∙◌, ℕ, ap, refl, subst}
-use Rattle.go_model.specs.declared.meaning.Meaning.{Meaning}
 use Rattle.go_model.specs.Values.HeadersView.{headers_as}
-use Rattle.go_model.specs.Values.Meaning.{meaning_by}
+use Rattle.go_model.specs.Values.Meaning.{Naming}
 use Rattle.go_model.proofs.OwnLemmas.{types_stay, types_then}
 use Rattle.go_names.specs.Views.{declarations_view}
 use Rattle.go_expr.proofs.ResultLemmas.{on_err}
@@ -12,15 +11,15 @@ use Rattle.go_decl.proofs.headers.add_rounds.Goals as goal
 pub loop-init : goal.loop-init
 loop-init g c =
     let headers = g.R.Ask.headers c.args.rules.now in
-    record { backed = backed_same headers (meaning_by (g.R.Ask.names c.args.rules.now)) (declarations_view c.args.declarations.now) headers refl; known = c.requires.same; own = c.requires.own; names = refl; world = refl; types = types_stay }
+    record { backed = backed_same headers (g.R.Ask.names c.args.rules.now) (declarations_view c.args.declarations.now) headers refl; known = c.requires.same; own = c.requires.own; names = refl; world = refl; types = types_stay }
 
 pub loop-preserved : goal.loop-preserved
 loop-preserved g c =
     let inv = c.loop.invariant in
     let did = c.in_ok-add_round.ensures in
     record {
-      backed = backed_twice (g.R.Ask.headers c.args.rules.now) (meaning_by (g.R.Ask.names c.args.rules.now)) (declarations_view c.args.declarations.now)
-          (g.R.Ask.headers c.loop.rules) (g.R.Ask.headers c.add_round.new.rules) (meaning_by (g.R.Ask.names c.loop.rules)) (ap meaning_by inv.names) inv.backed did.backed;
+      backed = backed_twice (g.R.Ask.headers c.args.rules.now) (g.R.Ask.names c.args.rules.now) (declarations_view c.args.declarations.now)
+          (g.R.Ask.headers c.loop.rules) (g.R.Ask.headers c.add_round.new.rules) (g.R.Ask.names c.loop.rules) inv.names inv.backed did.backed;
       known = did.known;
       own = did.own;
       names = did.names ∙ inv.names;
@@ -33,22 +32,22 @@ returns-clause-exact g c =
     let inv = c.loop.invariant in
     let did = c.in_ok-add_round.ensures in
     let old = g.R.Ask.headers c.args.rules.now in
-    let means = meaning_by (g.R.Ask.names c.args.rules.now) in
+    let naming = (g.R.Ask.names c.args.rules.now) in
     let declarations = declarations_view c.args.declarations.now in
     let headers = g.R.Ask.headers c.add_round.new.rules in
-    exact_after old means declarations headers
-    (backed_twice old means declarations (g.R.Ask.headers c.loop.rules) headers (meaning_by (g.R.Ask.names c.loop.rules)) (ap meaning_by inv.names) inv.backed did.backed)
-    (subst (λ (k : ℕ → Meaning). (d : ℕ) → IsSettled headers k declarations headers d) (ap meaning_by inv.names) (did.settled c.if-branch.false))
+    exact_after old naming declarations headers
+    (backed_twice old naming declarations (g.R.Ask.headers c.loop.rules) headers (g.R.Ask.names c.loop.rules) inv.names inv.backed did.backed)
+    (subst (λ (k : Naming). (d : ℕ) → IsSettled headers k declarations headers d) inv.names (did.settled c.if-branch.false))
 
 pub returns-in_err-add_round-clause-backed : goal.returns-in_err-add_round-clause-backed
 returns-in_err-add_round-clause-backed g c =
-    backed_twice (g.R.Ask.headers c.args.rules.now) (meaning_by (g.R.Ask.names c.args.rules.now)) (declarations_view c.args.declarations.now) (g.R.Ask.headers c.loop.rules) (g.R.Ask.headers c.add_round.new.rules) (meaning_by (g.R.Ask.names c.loop.rules))
-    (ap meaning_by c.loop.invariant.names) c.loop.invariant.backed c.add_round.ensures.backed
+    backed_twice (g.R.Ask.headers c.args.rules.now) (g.R.Ask.names c.args.rules.now) (declarations_view c.args.declarations.now) (g.R.Ask.headers c.loop.rules) (g.R.Ask.headers c.add_round.new.rules) (g.R.Ask.names c.loop.rules)
+    c.loop.invariant.names c.loop.invariant.backed c.add_round.ensures.backed
 
 pub returns-clause-backed : goal.returns-clause-backed
 returns-clause-backed g c =
-    backed_twice (g.R.Ask.headers c.args.rules.now) (meaning_by (g.R.Ask.names c.args.rules.now)) (declarations_view c.args.declarations.now) (g.R.Ask.headers c.loop.rules) (g.R.Ask.headers c.add_round.new.rules) (meaning_by (g.R.Ask.names c.loop.rules))
-    (ap meaning_by c.loop.invariant.names) c.loop.invariant.backed c.add_round.ensures.backed
+    backed_twice (g.R.Ask.headers c.args.rules.now) (g.R.Ask.names c.args.rules.now) (declarations_view c.args.declarations.now) (g.R.Ask.headers c.loop.rules) (g.R.Ask.headers c.add_round.new.rules) (g.R.Ask.names c.loop.rules)
+    c.loop.invariant.names c.loop.invariant.backed c.add_round.ensures.backed
 
 pub add_round-requires-clause-same : goal.add_round-requires-clause-same
 add_round-requires-clause-same g c = c.loop.invariant.known
@@ -56,5 +55,5 @@ add_round-requires-clause-same g c = c.loop.invariant.known
 pub returns-in_err-add_round-clause-kept : goal.returns-in_err-add_round-clause-kept
 returns-in_err-add_round-clause-kept g c =
     on_err c.from_residual.result _
-    (backed_twice (g.R.Ask.headers c.args.rules.now) (meaning_by (g.R.Ask.names c.args.rules.now)) (declarations_view c.args.declarations.now) (g.R.Ask.headers c.loop.rules) (headers_as (g.R.Ask.tree c.add_round.new.rules) c.add_round.new.known) (meaning_by (g.R.Ask.names c.loop.rules))
-    (ap meaning_by c.loop.invariant.names) c.loop.invariant.backed c.in_err-add_round.ensures.kept)
+    (backed_twice (g.R.Ask.headers c.args.rules.now) (g.R.Ask.names c.args.rules.now) (declarations_view c.args.declarations.now) (g.R.Ask.headers c.loop.rules) (headers_as (g.R.Ask.tree c.add_round.new.rules) c.add_round.new.known) (g.R.Ask.names c.loop.rules)
+    c.loop.invariant.names c.loop.invariant.backed c.in_err-add_round.ensures.kept)

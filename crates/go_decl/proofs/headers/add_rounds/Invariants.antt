@@ -1,14 +1,13 @@
 use Rattle.std.proofs.Common.{◌≡◌}
 use Rattle.go_model.specs.Types.Own.{KeepsTypes}
 use Rattle.go_model.specs.Values.HeadersView.{AreOwnHeaders, headers_as}
-use Rattle.go_model.specs.Values.Meaning.{meaning_by}
 use Rattle.go_decl.specs.Rounds.{IsBacked, open_in}
 use Rattle.go_names.specs.Views.{declarations_view}
 use Rattle.go_decl.proofs.headers.add_rounds.Given as goal
 
 abbrev pub invariant-loop : goal.invariant-loop
 invariant-loop g l = record {
-  backed : IsBacked (g.R.Ask.headers l.fn.rules) (meaning_by (g.R.Ask.names l.fn.rules)) (declarations_view l.declarations) (g.R.Ask.headers l.rules);
+  backed : IsBacked (g.R.Ask.headers l.fn.rules) (g.R.Ask.names l.fn.rules) (declarations_view l.declarations) (g.R.Ask.headers l.rules);
   known : headers_as (g.R.Ask.tree l.rules) l.known ≡ g.R.Ask.headers l.rules;
   own : AreOwnHeaders (g.R.Ask.is_type l.rules) l.known;
   names : g.R.Ask.names l.rules ≡ g.R.Ask.names l.fn.rules;

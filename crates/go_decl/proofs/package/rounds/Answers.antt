@@ -8,7 +8,6 @@ use Rattle.go_model.specs.Outcomes.Records.{HeaderData}
 use Rattle.go_model.specs.Outcomes.Walked.{AreWalked, nodes_of}
 use Rattle.go_model.specs.Values.Headers.{Known}
 use Rattle.go_model.specs.Values.HeadersView.{headers_as}
-use Rattle.go_model.specs.Values.Meaning.{meaning_by}
 use Rattle.go_decl.specs.Broken.{AreBroken}
 use Rattle.go_decl.specs.Rounds.{IsBacked}
 use Rattle.go_decl.proofs.ListLemmas.{of_each_there, on_err_map, viewed_at}
@@ -26,14 +25,14 @@ there g c = viewed_at package_view c.args.module.now.packages.items c.args.packa
 pub returns-clause-exact : goal.returns-clause-exact
 returns-clause-exact g c =
     OnOk-map c.rounds_in.result _ _
-    (of_each_there (λ (p : PackageData). (d : ℕ) (h : HeaderData) → (g.R.Ask.headers c.rounds_in.new.rules d ≡ Some h) ↔ Known (g.R.Ask.headers c.args.rules.now) (meaning_by (g.R.Ask.names c.args.rules.now)) (declarations_of p) d h)
+    (of_each_there (λ (p : PackageData). (d : ℕ) (h : HeaderData) → (g.R.Ask.headers c.rounds_in.new.rules d ≡ Some h) ↔ Known (g.R.Ask.headers c.args.rules.now) (g.R.Ask.names c.args.rules.now) (declarations_of p) d h)
     (module_view c.args.module.now).packages c.args.package (package_view c.index.result.now) (there g c))
     c.rounds_in.ensures.exact
 
 pub returns-clause-nodes : goal.returns-clause-nodes
 returns-clause-nodes g c =
     OnOk-map c.rounds_in.result _ _
-    (of_each_there (λ (p : PackageData). AreWalked (meaning_by (g.R.Ask.names c.args.rules.now)) (g.R.Ask.headers c.rounds_in.new.rules) (nodes_of p) (g.R.Ask.outcomes c.rounds_in.new.rules))
+    (of_each_there (λ (p : PackageData). AreWalked (g.R.Ask.names c.args.rules.now) (g.R.Ask.headers c.rounds_in.new.rules) (nodes_of p) (g.R.Ask.outcomes c.rounds_in.new.rules))
     (module_view c.args.module.now).packages c.args.package (package_view c.index.result.now) (there g c))
     c.rounds_in.ensures.nodes
 
@@ -41,13 +40,13 @@ pub returns-clause-list : goal.returns-clause-list
 returns-clause-list g c =
     IfOk-weaker c.rounds_in.result _ _
     (λ list is.
-    of_each_there (λ (p : PackageData). AreBroken (meaning_by (g.R.Ask.names c.args.rules.now)) (g.R.Ask.headers c.rounds_in.new.rules) p list.items)
+    of_each_there (λ (p : PackageData). AreBroken (g.R.Ask.names c.args.rules.now) (g.R.Ask.headers c.rounds_in.new.rules) p list.items)
     (module_view c.args.module.now).packages c.args.package (package_view c.index.result.now) (there g c) is)
     c.rounds_in.ensures.list
 
 pub returns-clause-err : goal.returns-clause-err
 returns-clause-err g c =
     on_err_map c.rounds_in.result _ _
-    (of_each_there (λ (p : PackageData). IsBacked (g.R.Ask.headers c.args.rules.now) (meaning_by (g.R.Ask.names c.args.rules.now)) (declarations_of p) (headers_as (g.R.Ask.tree c.rounds_in.new.rules) c.rounds_in.new.known))
+    (of_each_there (λ (p : PackageData). IsBacked (g.R.Ask.headers c.args.rules.now) (g.R.Ask.names c.args.rules.now) (declarations_of p) (headers_as (g.R.Ask.tree c.rounds_in.new.rules) c.rounds_in.new.known))
     (module_view c.args.module.now).packages c.args.package (package_view c.index.result.now) (there g c))
     c.rounds_in.ensures.err

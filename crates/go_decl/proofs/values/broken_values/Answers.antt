@@ -13,16 +13,16 @@ use Rattle.go_decl.proofs.ReadLemmas.{specs_same}
 use Rattle.go_decl.proofs.values.broken_values.Goals as goal
 
 pub returns : goal.returns
-returns g c = λ means headers walked.
+returns g c = λ naming headers walked.
     let p = package_view c.args.own.now in
     let outcomes = g.W.Ask.outcomes c.args.walks.now in
     let marks = marked_by (placed_by c.args.places.now.entries) c.args.cyclic.now in
     let cycles : c.push_cycles.new.list.items ≡ broken_cycles marks (declarations_of p) =
     c.in_ok-push_cycles.ensures ∙ ap (λ l. l ++ broken_cycles marks (declarations_view c.args.declarations.now)) c.new-found.ensures.items ∙ ap (broken_cycles marks) c.requires.declarations in
-    let found : c.push_specs.new.found.items ≡ broken_in_files means headers marks p =
+    let found : c.push_specs.new.found.items ≡ broken_in_files naming headers marks p =
     c.in_ok-push_specs.ensures
     ∙ (λ i. cycles i ++ flat_map (broken_spec_by (outcome_read outcomes)) (c.requires.specs i))
-    ∙ ap (λ l. broken_cycles marks (declarations_of p) ++ l) (specs_same means headers outcomes (specs_of p) walked) in
-    let told : c.in_ok-with_numbers.field-0.items ≡ broken_values means headers marks p =
+    ∙ ap (λ l. broken_cycles marks (declarations_of p) ++ l) (specs_same naming headers outcomes (specs_of p) walked) in
+    let told : c.in_ok-with_numbers.field-0.items ≡ broken_values naming headers marks p =
     c.in_ok-with_numbers.ensures ∙ (λ i. map (with_number (map file_view (c.deref.ensures.value i))) (c.deref-2.ensures.value i)) ∙ ap (map (with_number p.files)) found in
     subst (λ l. IsListOf l c.ordered.result.items) told c.ordered.ensures

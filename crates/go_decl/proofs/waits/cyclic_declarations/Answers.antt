@@ -17,8 +17,8 @@ returns-clause-exact g c =
     let declarations = declarations_view c.args.declarations.now in
     let entries = c.args.places.now.entries in
     IfOk-weaker c.cyclic_vertices.result _ _
-    (λ marks exact means headers walked.
-    let same = c.deref.ensures.value ∙ c.in_ok-waits.ensures ∙ read_graph entries means headers declarations (g.W.Ask.outcomes c.args.walks.now) walked in
-    marks_are_chains entries declarations c.requires means headers marks.items
+    (λ marks exact naming headers walked.
+    let same = c.deref.ensures.value ∙ c.in_ok-waits.ensures ∙ read_graph entries naming headers declarations (g.W.Ask.outcomes c.args.walks.now) walked in
+    marks_are_chains entries declarations c.requires naming headers marks.items
     (λ i. (λ e. subst (λ (g : Graph). Path g i i) same ((exact i).0 e), λ p. (exact i).1 (subst (λ (g : Graph). Path g i i) (sym same) p))))
     c.cyclic_vertices.ensures.exact

@@ -3,8 +3,7 @@ use Rattle.std.specs.List.{flat_map}
 use Rattle.std.proofs.Math.Seq.{drop-cons}
 use Rattle.go_tree.specs.declared.node.Node.{Node}
 use Rattle.go_tree.specs.Tree.{tree_of}
-use Rattle.go_module.specs.Names.Occurrences.{nodes_in}
-use Rattle.go_model.specs.Values.Meaning.{meaning_by}
+use Rattle.go_operands.specs.Operands.{expressions_in}
 use Rattle.go_model.proofs.OwnLemmas.{types_then}
 use Rattle.go_expr.proofs.WalkerLemmas.{walked_more}
 use Rattle.go_decl.proofs.walked.walk_nodes.Goals as goal
@@ -23,8 +22,8 @@ loop-place-preserved g c =
       names = c.walk_one.ensures.names ∙ inv.names;
       world = c.walk_one.ensures.world ∙ inv.world;
       types = types_then inv.types c.walk_one.ensures.types;
-      reached = walked_more (meaning_by (g.W.Ask.names c.args.walks.now)) (meaning_by (g.W.Ask.names c.loop-place.walks)) (g.W.Ask.headers c.args.walks.now) (g.W.Ask.headers c.loop-place.walks)
-          (nodes_in (tree_of x)) (flat_map nodes_in (map tree_of (drop c.loop-place.place xs))) (flat_map nodes_in (map tree_of (drop i xs)))
-          (g.W.Ask.outcomes c.args.walks.now) (g.W.Ask.outcomes c.loop-place.walks) (g.W.Ask.outcomes c.walk_one.new.walks) (ap meaning_by inv.names) inv.same
-          (ap (λ (l : List Node). flat_map nodes_in (map tree_of l)) at) inv.reached c.in_ok-walk_one.ensures.reached;
+      reached = walked_more (g.W.Ask.names c.args.walks.now) (g.W.Ask.names c.loop-place.walks) (g.W.Ask.headers c.args.walks.now) (g.W.Ask.headers c.loop-place.walks)
+          (expressions_in (tree_of x)) (flat_map expressions_in (map tree_of (drop c.loop-place.place xs))) (flat_map expressions_in (map tree_of (drop i xs)))
+          (g.W.Ask.outcomes c.args.walks.now) (g.W.Ask.outcomes c.loop-place.walks) (g.W.Ask.outcomes c.walk_one.new.walks) inv.names inv.same
+          (ap (λ (l : List Node). flat_map expressions_in (map tree_of l)) at) inv.reached c.in_ok-walk_one.ensures.reached;
     }

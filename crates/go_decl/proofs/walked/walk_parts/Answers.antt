@@ -3,8 +3,7 @@ use Rattle.std.specs.List.{flat_map}
 use Rattle.std.proofs.lemmas.Grind.{flat_map-append}
 use Rattle.indexmap.proofs.MapLemmas.{OnOk-map}
 use Rattle.go_tree.specs.Tree.{tree_of}
-use Rattle.go_module.specs.Names.Occurrences.{nodes_in}
-use Rattle.go_model.specs.Values.Meaning.{meaning_by}
+use Rattle.go_operands.specs.Operands.{expressions_in}
 use Rattle.go_expr.proofs.WalkerLemmas.{walked_more}
 use Rattle.go_decl.proofs.walked.walk_parts.Goals as goal
 
@@ -14,8 +13,8 @@ returns-clause-reached g c =
     let values = map tree_of c.args.values.now in
     OnOk-map c.walk_nodes-2.result _ _
     (λ now.
-    walked_more (meaning_by (g.W.Ask.names c.args.walks.now)) (meaning_by (g.W.Ask.names c.walk_nodes.new.walks)) (g.W.Ask.headers c.args.walks.now) (g.W.Ask.headers c.walk_nodes.new.walks)
-    (flat_map nodes_in types) (flat_map nodes_in values) (flat_map nodes_in (types ++ values))
+    walked_more (g.W.Ask.names c.args.walks.now) (g.W.Ask.names c.walk_nodes.new.walks) (g.W.Ask.headers c.args.walks.now) (g.W.Ask.headers c.walk_nodes.new.walks)
+    (flat_map expressions_in types) (flat_map expressions_in values) (flat_map expressions_in (types ++ values))
     (g.W.Ask.outcomes c.args.walks.now) (g.W.Ask.outcomes c.walk_nodes.new.walks) (g.W.Ask.outcomes c.walk_nodes-2.new.walks)
-    (ap meaning_by c.walk_nodes.ensures.names) c.walk_nodes.ensures.same (sym (flat_map-append nodes_in types values)) c.in_ok-walk_nodes.ensures.reached now)
+    c.walk_nodes.ensures.names c.walk_nodes.ensures.same (sym (flat_map-append expressions_in types values)) c.in_ok-walk_nodes.ensures.reached now)
     c.walk_nodes-2.ensures.reached

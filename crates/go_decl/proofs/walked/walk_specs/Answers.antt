@@ -1,8 +1,7 @@
 use Rattle.std.proofs.Common.{◌≡◌, ◌-◌, ◌∷◌, List, drop, sym, ap, ◌∙◌, suc, arith}
 use Rattle.std.specs.List.{flat_map}
 use Rattle.std.proofs.Math.Seq.{drop-cons}
-use Rattle.go_module.specs.Names.Occurrences.{nodes_in_parts}
-use Rattle.go_model.specs.Values.Meaning.{meaning_by}
+use Rattle.go_operands.specs.Operands.{expressions_in_parts}
 use Rattle.go_names.specs.declared.spec.Spec.{Spec}
 use Rattle.go_names.specs.Views.{spec_view, specs_view}
 use Rattle.go_model.proofs.OwnLemmas.{types_then}
@@ -23,8 +22,8 @@ loop-place-preserved g c =
       names = c.walk_parts.ensures.names ∙ inv.names;
       world = c.walk_parts.ensures.world ∙ inv.world;
       types = types_then inv.types c.walk_parts.ensures.types;
-      reached = walked_more (meaning_by (g.W.Ask.names c.args.walks.now)) (meaning_by (g.W.Ask.names c.loop-place.walks)) (g.W.Ask.headers c.args.walks.now) (g.W.Ask.headers c.loop-place.walks)
-          (nodes_in_parts (spec_view x)) (flat_map nodes_in_parts (specs_view (drop c.loop-place.place xs))) (flat_map nodes_in_parts (specs_view (drop i xs)))
-          (g.W.Ask.outcomes c.args.walks.now) (g.W.Ask.outcomes c.loop-place.walks) (g.W.Ask.outcomes c.walk_parts.new.walks) (ap meaning_by inv.names) inv.same
-          (ap (λ (l : List Spec). flat_map nodes_in_parts (specs_view l)) at) inv.reached c.in_ok-walk_parts.ensures.reached;
+      reached = walked_more (g.W.Ask.names c.args.walks.now) (g.W.Ask.names c.loop-place.walks) (g.W.Ask.headers c.args.walks.now) (g.W.Ask.headers c.loop-place.walks)
+          (expressions_in_parts (spec_view x)) (flat_map expressions_in_parts (specs_view (drop c.loop-place.place xs))) (flat_map expressions_in_parts (specs_view (drop i xs)))
+          (g.W.Ask.outcomes c.args.walks.now) (g.W.Ask.outcomes c.loop-place.walks) (g.W.Ask.outcomes c.walk_parts.new.walks) inv.names inv.same
+          (ap (λ (l : List Spec). flat_map expressions_in_parts (specs_view l)) at) inv.reached c.in_ok-walk_parts.ensures.reached;
     }

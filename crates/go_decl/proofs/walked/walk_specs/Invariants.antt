@@ -1,9 +1,8 @@
 use Rattle.std.proofs.Common.{◌≡◌, ℕ, drop}
 use Rattle.std.specs.List.{flat_map}
-use Rattle.go_module.specs.Names.Occurrences.{nodes_in_parts}
+use Rattle.go_operands.specs.Operands.{expressions_in_parts}
 use Rattle.go_model.specs.Outcomes.Walked.{walked_over}
 use Rattle.go_model.specs.Types.Own.{KeepsTypes}
-use Rattle.go_model.specs.Values.Meaning.{meaning_by}
 use Rattle.go_names.specs.Views.{specs_view}
 use Rattle.go_decl.proofs.walked.walk_specs.Given as goal
 
@@ -14,5 +13,5 @@ invariant-loop-place g l = record {
   names : g.W.Ask.names l.walks ≡ g.W.Ask.names l.fn.walks;
   world : g.W.Ask.world l.walks ≡ g.W.Ask.world l.fn.walks;
   types : KeepsTypes (g.W.Ask.is_type l.fn.walks) (g.W.Ask.is_type l.walks) (g.W.Ask.tree l.fn.walks) (g.W.Ask.tree l.walks);
-  reached : (n : ℕ) → g.W.Ask.outcomes l.walks n ≡ walked_over (meaning_by (g.W.Ask.names l.fn.walks)) (g.W.Ask.headers l.fn.walks) (flat_map nodes_in_parts (specs_view (drop l.place l.specs))) (g.W.Ask.outcomes l.fn.walks) n;
+  reached : (n : ℕ) → g.W.Ask.outcomes l.walks n ≡ walked_over (g.W.Ask.names l.fn.walks) (g.W.Ask.headers l.fn.walks) (flat_map expressions_in_parts (specs_view (drop l.place l.specs))) (g.W.Ask.outcomes l.fn.walks) n;
 }

@@ -2,13 +2,14 @@ use Rattle.std.proofs.Common.{Bor, Option, Some, sym, ap, ◌∙◌, subst}
 use Rattle.std.specs.Prelude.{IfSome, option_and_then}
 use Rattle.std.specs.Option.{option_map}
 use Rattle.go_model.specs.declared.rec.Rec.{Rec}
-use Rattle.go_model.specs.Outcomes.Records.{declared_header, rec_as}
+use Rattle.go_model.specs.Outcomes.Records.{rec_as}
+use Rattle.go_model.specs.Values.Records.{told_by}
 use Rattle.go_model.specs.Types.Own.{IsOwnRec}
 use Rattle.go_model.proofs.OwnDataLemmas.{rec_copied}
 use Rattle.go_expr.proofs.headers.header_of.Goals as goal
 
-pub declared_header-requires : goal.declared_header-requires
-declared_header-requires g c =
+pub header_in-requires : goal.header_in-requires
+header_in-requires g c =
     let asked = c.args.asked.now in
     let own = g.A.Ask.is_type asked in
     let given = subst (λ (o : Option (Bor Rec)). IfSome o (λ rec. IsOwnRec own rec.now)) c.in-Some.is c.requires in
@@ -21,6 +22,6 @@ returns-in_ok-clone-in-Some-clause-header g c =
     let tree = g.A.Ask.tree asked in
     let given = subst (λ (o : Option (Bor Rec)). IfSome o (λ rec. IsOwnRec own rec.now)) c.in-Some.is c.requires in
     let copied = rec_copied own tree (g.met.A.Ask.copies asked) c.in-Some.rec.now c.in_ok-clone-in-Some.field-0 c.in_ok-clone-in-Some.ensures.cases given in
-    c.declared_header.ensures.header
-    ∙ ap (λ r. option_and_then declared_header (Some r)) copied.1
-    ∙ ap (λ (o : Option (Bor Rec)). option_and_then declared_header (option_map (λ rec. rec_as tree rec.now) o)) (sym c.in-Some.is)
+    c.header_in.ensures.header
+    ∙ ap (λ r. option_and_then (told_by c.args.kind) (Some r)) copied.1
+    ∙ ap (λ (o : Option (Bor Rec)). option_and_then (told_by c.args.kind) (option_map (λ rec. rec_as tree rec.now) o)) (sym c.in-Some.is)

@@ -1,24 +1,23 @@
-use Rattle.std.proofs.Common.{◌∷◌, sym, ap, ◌∙◌, subst}
+use Rattle.std.proofs.Common.{drop, map, sym, ap, ◌∙◌, subst}
+use Rattle.std.specs.List.{AllByRecursion}
+use Rattle.std.proofs.lemmas.Result.{IfOk-weaker}
 use Rattle.go_model.specs.Outcomes.Constructs.Parentheses as spec
-use Rattle.go_model.specs.Outcomes.Judged.{Found, judged}
+use Rattle.go_model.specs.Outcomes.Judged.{judged}
 use Rattle.go_model.specs.Outcomes.View.{outcome_as}
 use Rattle.go_model.specs.Types.Own.{IsOwnOutcome}
-use Rattle.go_model.proofs.OwnDataLemmas.{rec_copied}
+use Rattle.go_expr.proofs.NodeOutcomeLemmas.{first_and_rest}
 use Rattle.go_expr.proofs.parentheses.parentheses.Goals as goal
 
-pub returns-in_ok-clone-in-Found-clause-outcome : goal.returns-in_ok-clone-in-Found-clause-outcome
-returns-in_ok-clone-in-Found-clause-outcome g c = λ headers parts.
-    let judge = c.args.judge.now in
-    let own = g.J.Ask.is_type judge in
-    let tree = g.J.Ask.tree judge in
-    let given = subst (IsOwnOutcome own) c.in-Found.is c.requires in
-    let copied = rec_copied own tree (g.met.J.Ask.copies judge) c.in-Found.found c.in_ok-clone-in-Found.field-0 c.in_ok-clone-in-Found.ensures.cases given in
-    ap Found copied.1
-    ∙ ap (λ x. judged headers spec.parentheses (x ∷ parts)) (sym (ap (outcome_as tree) c.in-Found.is))
+pub around-requires : goal.around-requires
+around-requires g c =
+    let all = first_and_rest c.args.outcomes.now c.part-item.result c.in-len1-up.len_at_least c.part-item.is in
+    (subst (AllByRecursion (IsOwnOutcome (g.J.Ask.is_type c.args.judge.now))) (sym all) c.requires).0
 
-pub returns-in_ok-clone-in-Found-clause-own : goal.returns-in_ok-clone-in-Found-clause-own
-returns-in_ok-clone-in-Found-clause-own g c =
-    let judge = c.args.judge.now in
-    let own = g.J.Ask.is_type judge in
-    let given = subst (IsOwnOutcome own) c.in-Found.is c.requires in
-    (rec_copied own (g.J.Ask.tree judge) (g.met.J.Ask.copies judge) c.in-Found.found c.in_ok-clone-in-Found.field-0 c.in_ok-clone-in-Found.ensures.cases given).0
+pub returns-in-len1-up-clause-outcome : goal.returns-in-len1-up-clause-outcome
+returns-in-len1-up-clause-outcome g c =
+    let view = outcome_as (g.J.Ask.tree c.args.judge.now) in
+    let given = c.args.outcomes.now in
+    let all = first_and_rest given c.part-item.result c.in-len1-up.len_at_least c.part-item.is in
+    IfOk-weaker c.around.result _ _
+    (λ outcome is headers. is headers (map view (drop 1 given)) ∙ ap (λ os. judged headers spec.parentheses (map view os)) all)
+    c.around.ensures.outcome

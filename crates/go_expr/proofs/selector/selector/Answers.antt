@@ -1,32 +1,55 @@
-use Rattle.std.proofs.Common.{◌≡◌, ◌∷◌, sym, ap, ◌∙◌}
+use Rattle.std.proofs.Common.{map, sym, ap, ◌∙◌}
 use Rattle.std.proofs.lemmas.Result.{IfOk-weaker}
-use Rattle.go_model.specs.declared.meaning.Meaning.TheVariants.{Declared, Other, Predeclared}
+use Rattle.go_model.specs.Outcomes.Constructs.Name.{name}
 use Rattle.go_model.specs.Outcomes.Constructs.Selector as spec
 use Rattle.go_model.specs.Outcomes.Judged.{judged}
 use Rattle.go_model.specs.Outcomes.View.{outcome_as}
-use Rattle.go_expr.proofs.NodeOutcomeLemmas.{name_selector}
 use Rattle.go_expr.proofs.selector.selector.Goals as goal
 
 pub returns-in-Other-clause-outcome : goal.returns-in-Other-clause-outcome
 returns-in-Other-clause-outcome g c =
     let headers = g.J.Ask.headers c.args.judge.now in
-    let x = outcome_as (g.J.Ask.tree c.args.judge.now) c.args.operand.now in
-    IfOk-weaker c.of_value.result _ _
-    (λ outcome is parts. is headers parts ∙ ap (λ m. judged headers (spec.selector m) (x ∷ parts)) (sym c.in-Other.is))
-    c.of_value.ensures.outcome
+    let xs = map (outcome_as (g.J.Ask.tree c.args.judge.now)) c.args.outcomes.now in
+    IfOk-weaker c.of_first.result _ _
+    (λ outcome is. is headers ∙ ap (λ m. judged headers (spec.selector m) xs) (sym c.in-Other.is))
+    c.of_first.ensures.outcome
 
 pub returns-in-Declared-clause-outcome : goal.returns-in-Declared-clause-outcome
 returns-in-Declared-clause-outcome g c =
     let headers = g.J.Ask.headers c.args.judge.now in
-    let x = outcome_as (g.J.Ask.tree c.args.judge.now) c.args.operand.now in
+    let xs = map (outcome_as (g.J.Ask.tree c.args.judge.now)) c.args.outcomes.now in
     IfOk-weaker c.name.result _ _
-    (λ outcome is parts. is (x ∷ parts) ∙ name_selector headers c.args.meaning x parts (λ e. (let never : Declared c.in-Declared.field-0 ≡ Other = sym c.in-Declared.is ∙ e in cc)))
+    (λ outcome is. is xs ∙ ap (λ m. judged headers (name m) xs) c.in-Declared.is ∙ ap (λ m. judged headers (spec.selector m) xs) (sym c.in-Declared.is))
     c.name.ensures.outcome
+
+pub returns-in-DefinedType-clause-outcome : goal.returns-in-DefinedType-clause-outcome
+returns-in-DefinedType-clause-outcome g c =
+    let headers = g.J.Ask.headers c.args.judge.now in
+    let xs = map (outcome_as (g.J.Ask.tree c.args.judge.now)) c.args.outcomes.now in
+    IfOk-weaker c.name-in-DefinedType.result _ _
+    (λ outcome is. is xs ∙ ap (λ m. judged headers (name m) xs) c.in-DefinedType.is ∙ ap (λ m. judged headers (spec.selector m) xs) (sym c.in-DefinedType.is))
+    c.name-in-DefinedType.ensures.outcome
+
+pub returns-in-BasicType-clause-outcome : goal.returns-in-BasicType-clause-outcome
+returns-in-BasicType-clause-outcome g c =
+    let headers = g.J.Ask.headers c.args.judge.now in
+    let xs = map (outcome_as (g.J.Ask.tree c.args.judge.now)) c.args.outcomes.now in
+    IfOk-weaker c.name-in-BasicType.result _ _
+    (λ outcome is. is xs ∙ ap (λ m. judged headers (name m) xs) c.in-BasicType.is ∙ ap (λ m. judged headers (spec.selector m) xs) (sym c.in-BasicType.is))
+    c.name-in-BasicType.ensures.outcome
+
+pub returns-in-AnyType-clause-outcome : goal.returns-in-AnyType-clause-outcome
+returns-in-AnyType-clause-outcome g c =
+    let headers = g.J.Ask.headers c.args.judge.now in
+    let xs = map (outcome_as (g.J.Ask.tree c.args.judge.now)) c.args.outcomes.now in
+    IfOk-weaker c.name-in-AnyType.result _ _
+    (λ outcome is. is xs ∙ ap (λ m. judged headers (name m) xs) c.in-AnyType.is ∙ ap (λ m. judged headers (spec.selector m) xs) (sym c.in-AnyType.is))
+    c.name-in-AnyType.ensures.outcome
 
 pub returns-in-Predeclared-clause-outcome : goal.returns-in-Predeclared-clause-outcome
 returns-in-Predeclared-clause-outcome g c =
     let headers = g.J.Ask.headers c.args.judge.now in
-    let x = outcome_as (g.J.Ask.tree c.args.judge.now) c.args.operand.now in
+    let xs = map (outcome_as (g.J.Ask.tree c.args.judge.now)) c.args.outcomes.now in
     IfOk-weaker c.name-in-Predeclared.result _ _
-    (λ outcome is parts. is (x ∷ parts) ∙ name_selector headers c.args.meaning x parts (λ e. (let never : Predeclared ≡ Other = sym c.in-Predeclared.is ∙ e in cc)))
+    (λ outcome is. is xs ∙ ap (λ m. judged headers (name m) xs) c.in-Predeclared.is ∙ ap (λ m. judged headers (spec.selector m) xs) (sym c.in-Predeclared.is))
     c.name-in-Predeclared.ensures.outcome

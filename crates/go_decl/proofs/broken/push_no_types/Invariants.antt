@@ -1,0 +1,14 @@
+use Rattle.std.proofs.Common.{◌≡◌, ◌++◌, drop, map}
+use Rattle.go_tree.specs.Tree.{tree_of}
+use Rattle.go_expr.specs.Read.{outcome_read}
+use Rattle.go_names.specs.Views.{spec_view}
+use Rattle.go_model.specs.Outcomes.Constructs.Kinds.{no_type}
+use Rattle.go_model.specs.Outcomes.Operands.{is_type}
+use Rattle.go_model.specs.Values.Rules.{others_by}
+use Rattle.go_decl.proofs.broken.push_no_types.Given as goal
+
+-- what is pushed, with what those left break, is what all of them break
+abbrev pub invariant-loop-node : goal.invariant-loop-node
+invariant-loop-node g l =
+    let breaks = others_by (outcome_read (g.W.Ask.outcomes l.walks)) no_type is_type (spec_view l.spec) in
+    l.found.items ++ breaks (map tree_of (drop l.node-index l.types)) ≡ l.fn.found.items ++ breaks (map tree_of l.types)

@@ -1,0 +1,159 @@
+// Array types (Go specification, "Array types").
+ghost use Rattle.std.specs.Prelude.{◌≡◌, ◌∷◌, [], IfOk, map};
+ghost use Rattle.std.specs.List.{AllByRecursion};
+ghost use Rattle.go_model.specs.Outcomes.Constructs.Array as spec;
+ghost use Rattle.go_model.specs.Outcomes.Judged.{asked, judged};
+ghost use Rattle.go_model.specs.Outcomes.Records.{rec_as};
+ghost use Rattle.go_model.specs.Outcomes.View.{outcome_as};
+ghost use Rattle.go_model.specs.Types.Own.{IsOwnOutcome, IsOwnRec, Keeps};
+ghost use Rattle.go_expr.specs.Given.{AreOwnRecs, recs_as};
+ghost use Rattle.go_expr.specs.TypeLiteral.{array_outcome, element_outcome};
+
+use crate::broken::broken_at;
+use crate::given::{Given, copy_of, first_records, type_in};
+use crate::integer::integer_in;
+use crate::rules::{NO_LENGTH, NO_TYPE};
+use crate::type_literal::type_literal;
+use go_base::NoMemory;
+use go_model::{Judge, Outcome, Rec, Spot};
+use go_term::Shape;
+use std::alloc::Global;
+
+/// `[n]T` by the outcomes of n and T: C12 where n is no length, else C13 where T is no type; L4 and L5 by its size. An
+/// error is want of memory.
+pub fn array_type<J: Judge>(
+    alloc: Global,
+    judge: &mut J,
+    outcomes: &[Outcome],
+) -> Result<Outcome, NoMemory>
+    requires { AllByRecursion (IsOwnOutcome (J.is_type judge.old)) outcomes.now }
+    ensures outcome { IfOk result (λ outcome. outcome_as (J.tree judge.new) outcome
+        ≡ judged (J.headers judge.old) spec.array
+        (map (outcome_as (J.tree judge.old)) outcomes.now)) }
+    ensures own { IfOk result (IsOwnOutcome (J.is_type judge.new)) }
+    ensures keeps { Keeps (J.headers judge.old) (J.headers judge.new) (J.names judge.old) (J.names judge.new)
+        (J.outcomes judge.old) (J.outcomes judge.new) (J.is_spent judge.old) (J.is_spent judge.new)
+        (J.world judge.old) (J.world judge.new) (J.is_type judge.old) (J.is_type judge.new)
+        (J.tree judge.old) (J.tree judge.new) }
+{
+    match first_records(alloc, judge, outcomes, 2)? {
+        Given::All(recs) => of_records(alloc, judge, &recs),
+        Given::First(d) => Ok(Outcome::Waits(d)),
+        Given::Gone => Ok(Outcome::Nothing),
+    }
+}
+
+// By the records of its operands, which are two.
+fn of_records<J: Judge>(alloc: Global, judge: &mut J, recs: &[&Rec]) -> Result<Outcome, NoMemory>
+    requires { AreOwnRecs (J.is_type judge.old) recs.now }
+    ensures outcome { IfOk result (λ outcome. outcome_as (J.tree judge.new) outcome
+        ≡ asked (J.headers judge.old) (spec.array.asks (recs_as (J.tree judge.old) recs.now))) }
+    ensures own { IfOk result (IsOwnOutcome (J.is_type judge.new)) }
+    ensures keeps { Keeps (J.headers judge.old) (J.headers judge.new) (J.names judge.old) (J.names judge.new)
+        (J.outcomes judge.old) (J.outcomes judge.new) (J.is_spent judge.old) (J.is_spent judge.new)
+        (J.world judge.old) (J.world judge.new) (J.is_type judge.old) (J.is_type judge.new)
+        (J.tree judge.old) (J.tree judge.new) }
+{
+    match recs {
+        [length, element] => of_both(alloc, judge, length, element),
+        _ => Ok(Outcome::Nothing),
+    }
+}
+
+// By the records of its length and its element type.
+fn of_both<J: Judge>(
+    alloc: Global,
+    judge: &mut J,
+    length: &Rec,
+    element: &Rec,
+) -> Result<Outcome, NoMemory>
+    requires length { IsOwnRec (J.is_type judge.old) length.now }
+    requires element { IsOwnRec (J.is_type judge.old) element.now }
+    ensures outcome { IfOk result (λ outcome. outcome_as (J.tree judge.new) outcome
+        ≡ asked (J.headers judge.old) (spec.array.asks
+        (rec_as (J.tree judge.old) length.now ∷ (rec_as (J.tree judge.old) element.now ∷ [])))) }
+    ensures own { IfOk result (IsOwnOutcome (J.is_type judge.new)) }
+    ensures keeps { Keeps (J.headers judge.old) (J.headers judge.new) (J.names judge.old) (J.names judge.new)
+        (J.outcomes judge.old) (J.outcomes judge.new) (J.is_spent judge.old) (J.is_spent judge.new)
+        (J.world judge.old) (J.world judge.new) (J.is_type judge.old) (J.is_type judge.new)
+        (J.tree judge.old) (J.tree judge.new) }
+{
+    let length = length_in(alloc, judge, length)?;
+    of_length(alloc, judge, length, element)
+}
+
+// By its length, where it has one, and the record of its element type.
+fn of_length<J: Judge>(
+    alloc: Global,
+    judge: &mut J,
+    length: Option<u64>,
+    element: &Rec,
+) -> Result<Outcome, NoMemory>
+    requires { IsOwnRec (J.is_type judge.old) element.now }
+    ensures outcome { IfOk result (λ outcome. outcome_as (J.tree judge.new) outcome
+        ≡ array_outcome (J.headers judge.old) length (rec_as (J.tree judge.old) element.now)) }
+    ensures own { IfOk result (IsOwnOutcome (J.is_type judge.new)) }
+    ensures keeps { Keeps (J.headers judge.old) (J.headers judge.new) (J.names judge.old) (J.names judge.new)
+        (J.outcomes judge.old) (J.outcomes judge.new) (J.is_spent judge.old) (J.is_spent judge.new)
+        (J.world judge.old) (J.world judge.new) (J.is_type judge.old) (J.is_type judge.new)
+        (J.tree judge.old) (J.tree judge.new) }
+{
+    match length {
+        Some(length) => of_element(alloc, judge, length, element),
+        None => broken_at(alloc, judge, NO_LENGTH, Spot::Part(0)),
+    }
+}
+
+// By its length and the record of its element type.
+fn of_element<J: Judge>(
+    alloc: Global,
+    judge: &mut J,
+    length: u64,
+    element: &Rec,
+) -> Result<Outcome, NoMemory>
+    requires { IsOwnRec (J.is_type judge.old) element.now }
+    ensures outcome { IfOk result (λ outcome. outcome_as (J.tree judge.new) outcome
+        ≡ element_outcome (J.headers judge.old) length (rec_as (J.tree judge.old) element.now)) }
+    ensures own { IfOk result (IsOwnOutcome (J.is_type judge.new)) }
+    ensures keeps { Keeps (J.headers judge.old) (J.headers judge.new) (J.names judge.old) (J.names judge.new)
+        (J.outcomes judge.old) (J.outcomes judge.new) (J.is_spent judge.old) (J.is_spent judge.new)
+        (J.world judge.old) (J.world judge.new) (J.is_type judge.old) (J.is_type judge.new)
+        (J.tree judge.old) (J.tree judge.new) }
+{
+    match type_in(element) {
+        Some(ty) => {
+            let ty = copy_of(judge, ty)?;
+            type_literal(alloc, judge, Shape::Array(length, ty))
+        }
+        None => broken_at(alloc, judge, NO_TYPE, Spot::Part(1)),
+    }
+}
+
+// The length that a record stands for, where it stands for one. An error is want of memory.
+fn length_in<J: Judge>(alloc: Global, judge: &mut J, rec: &Rec) -> Result<Option<u64>, NoMemory>
+    requires { IsOwnRec (J.is_type judge.old) rec.now }
+    ensures length { IfOk result (λ length. length ≡ spec.length_in (rec_as (J.tree judge.old) rec.now)) }
+    ensures keeps { Keeps (J.headers judge.old) (J.headers judge.new) (J.names judge.old) (J.names judge.new)
+        (J.outcomes judge.old) (J.outcomes judge.new) (J.is_spent judge.old) (J.is_spent judge.new)
+        (J.world judge.old) (J.world judge.new) (J.is_type judge.old) (J.is_type judge.new)
+        (J.tree judge.old) (J.tree judge.new) }
+{
+    match integer_in(alloc, judge, rec)? {
+        Some(value) => Ok(length_of(value)),
+        None => Ok(None),
+    }
+}
+
+// The value, where an `int` of 64 bits represents it and it is not negative.
+fn length_of(value: i128) -> Option<u64>
+    ensures { result ≡ spec.length_of value }
+{
+    if value < 0 {
+        return None;
+    }
+    if value < 0x8000_0000_0000_0000 {
+        Some(value as u64)
+    } else {
+        None
+    }
+}

@@ -1,0 +1,2 @@
+-- which expressions and types stand in a node
+pub mod Operands
