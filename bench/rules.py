@@ -38,7 +38,7 @@ IN_WORDS = {
     ('P3', '`package p` and `package q` in two files of a folder'): {'a.go': 'package p\n', 'b.go': 'package q\n'},
 }
 # The rules that no module which is loaded can break yet: each is told of below its table, and stands in none.
-UNTOLD = {'P5', 'C4', 'C5', 'C12', 'C13', 'L4', 'L5'}
+UNTOLD = {'P5', 'C3', 'C4', 'C5', 'C12', 'C13', 'L4', 'L5'}
 wrong = []
 
 

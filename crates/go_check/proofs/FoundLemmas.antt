@@ -1,7 +1,6 @@
 -- The files of a package with what stands in them: what is found in them is what the definitions of a report have.
-use Rattle.std.proofs.Common.{◌≡◌, ℕ, ◌+◌, ◌≤◌, min, Bool, Bor, List, [], ◌∷◌, ◌++◌, inl, inr, Option, length, map, take, drop, refl, sym, ap, ◌∙◌, subst, append_assoc, arith}
-use Rattle.std.proofs.lemmas.List.{append-nil, drop_all}
-use Rattle.std.proofs.lemmas.Bool.{cases_lt}
+use Rattle.std.proofs.Common.{◌≡◌, ℕ, ◌+◌, ◌≤◌, min, Bool, Bor, List, [], ◌∷◌, ◌++◌, Option, length, map, take, drop, refl, sym, ap, ◌∙◌, subst, append_assoc, arith}
+use Rattle.std.proofs.lemmas.List.{append-nil, map-id}
 use Rattle.go_tree.specs.declared.node.Node.{Node}
 use Rattle.go_names.specs.Views.{trees_at}
 use Rattle.std.specs.List.{flat_map, zip}
@@ -15,11 +14,12 @@ use Rattle.go_module.specs.Names.Imports.{imports_from}
 use Rattle.go_model.specs.Values.Meaning.{Naming}
 use Rattle.go_model.specs.LineOrder.{AreInOrder, no_file, one_more}
 use Rattle.go_model.specs.Outline.{Outline, declared_by, declared_from, declaring}
-use Rattle.go_model.specs.PackageLines.{AreLines, declaration_defs, defs_from, exprs_from, exprs_in, import_defs, import_defs_in, uses_from, uses_in}
+use Rattle.go_model.specs.PackageLines.{AreLines, declaration_defs, defs_from, exprs_from, exprs_in, import_defs, import_defs_in, member_defs, uses_from, uses_in, written_nodes}
 use Rattle.go_model.specs.Report.{LineData}
 use Rattle.go_model.specs.Outcomes.Walk.{Headers, outcome}
 use Rattle.go_check.specs.Lines.Found.{OwnFileData, declared_in_file, def_lines, expr_lines, import_lines, own_file, own_files_from, own_files_in, use_lines}
 use Rattle.go_check.specs.Lines.Ordered.{AddsInOrder}
+use Rattle.go_expr.proofs.StructLemmas.{pairs_done}
 
 -- the lines of imports read the spec and the package alone
 pairs_are : (outline : Outline) (stub : Bool) (f : FileData) (k file : ℕ) (pairs : List (Tree × ℕ)) → flat_map (import_defs outline stub f) (map (λ pair. record { spec = pair.0; file = file; importer = k; imported = pair.1 }) pairs) ≡ flat_map (λ pair. import_defs_in outline stub f pair.1 (parts_of pair.0)) pairs
@@ -30,7 +30,7 @@ pub defs_are : (outline : Outline) (k : ℕ) (stub : Bool) (naming : Naming) (he
 defs_are outline k stub naming headers place [] packages = refl
 defs_are outline k stub naming headers place (f ∷ files) packages =
     let n = length (import_specs f.tree) in
-    ap (λ l. (l ++ flat_map (declaration_defs stub f naming headers) (declarations_in (specs_in_file place f.tree))) ∷ defs_from outline stub naming headers (place + 1) files (imports_from k (place + 1) files (drop n packages)))
+    ap (λ l. (l ++ (flat_map (declaration_defs stub f naming headers) (declarations_in (specs_in_file place f.tree)) ++ flat_map (member_defs stub f naming headers) (written_nodes place f))) ∷ defs_from outline stub naming headers (place + 1) files (imports_from k (place + 1) files (drop n packages)))
     (pairs_are outline stub f k place (zip (import_specs f.tree) (take n packages)))
     ∙ ap (λ l. def_lines outline (outcome naming headers) (own_file stub place f packages) ∷ l) (defs_are outline k stub naming headers (place + 1) files (drop n packages))
 
@@ -85,20 +85,9 @@ pub all_added : (f : OwnFileData → List LineData) (all left : List OwnFileData
 all_added f all left lines none so_far =
     subst (AreInOrder (map f all)) (append-nil lines) (so_far [] (subst (λ (l : List OwnFileData). AreInOrder (map f l) []) (sym none) no_file))
 
--- nothing is paired with an empty list
-no_pairs : {A B : Type 0} (xs : List A) → zip {X = B} xs [] ≡ []
-no_pairs [] = refl
-no_pairs (x ∷ xs) = refl
-
--- behind the shorter of two lists nothing is left to pair
-pairs_done : {A B C : Type 0} (f : A → C) (xs : List A) (ys : List B) (i : ℕ) → min (length xs) (length ys) ≤ i → zip (map f (drop i xs)) (drop i ys) ≡ []
-pairs_done f xs ys i behind =
-    elim (cases_lt i (length xs)) [
-      | inl within ↦ ap (zip (map f (drop i xs))) (drop_all i ys (omega arith)) ∙ no_pairs (map f (drop i xs))
-      | inr past ↦ ap (λ l. zip (map f l) (drop i ys)) (drop_all i xs past)
-    ]
-
 -- behind the last import of a file
 pub imports_done : (outline : Outline) (f : OwnFileData) (specs : List (Bor Node)) (packages : List ℕ) (i : ℕ) (list whole : List LineData) → min (length specs) (length packages) ≤ i → list ++ import_lines outline f (zip (trees_at (drop i specs)) (drop i packages)) ≡ whole → list ≡ whole
 imports_done outline f specs packages i list whole behind so_far =
-    sym (append-nil list) ∙ ap (λ l. list ++ import_lines outline f l) (sym (pairs_done (λ node. tree_of node.now) specs packages i behind)) ∙ so_far
+    let none : zip (trees_at (drop i specs)) (drop i packages) ≡ [] =
+    ap (zip (trees_at (drop i specs))) (sym (map-id (drop i packages))) ∙ pairs_done (λ (node : Bor Node). tree_of node.now) (λ (x : ℕ). x) specs packages i behind in
+    sym (append-nil list) ∙ ap (λ l. list ++ import_lines outline f l) (sym none) ∙ so_far

@@ -3,9 +3,9 @@ use Rattle.std.proofs.Common.{◌≡◌, ℕ, Bool, Option, List, [], ◌∷◌,
 use Rattle.std.specs.Prelude.{is_none, option_and_then}
 use Rattle.std.specs.List.{flat_map, zip}
 use Rattle.std.specs.Option.{option_map_or}
-use Rattle.go_tree.specs.Tree.{Tree, end_of, start_of}
+use Rattle.go_tree.specs.Tree.{Tree, start_of}
 use Rattle.go_module.specs.Modules.Module.{FileData}
-use Rattle.go_module.specs.Names.Declarations.{Declaration, Spec, declarations_in, declared_in, name_text}
+use Rattle.go_module.specs.Names.Declarations.{Declaration, Spec, declarations_in, declared_in, name_text, number_of}
 use Rattle.go_operands.specs.Operands.{expressions_in_parts}
 use Rattle.go_model.specs.Values.Meaning.{Naming}
 use Rattle.go_model.specs.Outcomes.Judged.{OutcomeData}
@@ -14,7 +14,8 @@ use Rattle.go_model.specs.Outcomes.Records.{HeaderData, RecData}
 use Rattle.go_model.specs.Outcomes.Walk.{Headers, outcome}
 use Rattle.go_model.specs.Outcomes.Walked.{AreWalked, Outcomes}
 use Rattle.go_model.specs.Outline.{Outline}
-use Rattle.go_model.specs.PackageLines.{declaration_defs, def_by, expr_at, expr_by, line_at, record_line, told_as, written}
+use Rattle.go_model.specs.Members.{members_of}
+use Rattle.go_model.specs.PackageLines.{declaration_defs, def_by, expr_at, expr_by, expr_end, line_at, member_def, member_defs, member_defs_by, record_line, told_as, written}
 use Rattle.go_model.specs.Report.{defined}
 use Rattle.go_model.proofs.FlatLemmas.{filter_within, flat_cases, flat_contains, flat_map-same, map-same}
 use Rattle.go_expr.specs.Read.{nodes_under, outcome_read}
@@ -29,27 +30,44 @@ module _ (naming : Naming) (headers : Headers) (outcomes : Outcomes) where
   module _ (nodes : List Tree) (walked : AreWalked naming headers nodes outcomes) where
     def_same : (stub : Bool) (f : FileData) (d : Declaration) → ((t : Tree) → Contains (nodes_under d) t → Contains nodes t) → def_by read stub f d ≡ declaration_defs stub f naming headers d
     def_same stub f d within =
-        ap (λ (o : Option HeaderData). option_map_or (λ kind. line_at stub f (start_of d.name) (defined (name_text d.name) kind) ∷ []) (option_and_then told_as o) []) (header_same naming headers outcomes nodes walked d within)
+        ap (λ (o : Option HeaderData). option_map_or (λ kind. line_at stub f (start_of d.name) (defined (name_text d.name) kind) ∷ []) (option_and_then (told_as (number_of d)) o) []) (header_same naming headers outcomes nodes walked d within)
+
+    members_same : (stub : Bool) (f : FileData) (t : Tree) → Contains nodes t → member_defs_by read stub f t ≡ member_defs stub f naming headers t
+    members_same stub f t h =
+        ap (λ (o : OutcomeData RecData). map (member_def stub f) (option_map_or (members_of t) (option_and_then (λ r. r.type) (record_in o)) [])) (read_is naming headers nodes outcomes walked t h)
 
     expr_same : (stub : Bool) (f : FileData) (t : Tree) → Contains nodes t → expr_by read stub f t ≡ expr_at stub f naming headers t
-    expr_same stub f t h = ap (λ (o : OutcomeData RecData). record_line stub f (start_of t) (end_of t) (record_in o)) (read_is naming headers nodes outcomes walked t h)
+    expr_same stub f t h = ap (λ (o : OutcomeData RecData). record_line stub f (start_of t) (expr_end t) (record_in o)) (read_is naming headers nodes outcomes walked t h)
 
   -- the lines of files
   module _ (files : List OwnFileData) (walked : AreWalked naming headers (nodes_of_files files) outcomes) where
     in_file : (f : OwnFileData) → Contains files f → (spec : Spec) → Contains f.specs spec → Contains (all_specs_in files) spec
     in_file f h spec i = flat_contains (λ (f : OwnFileData). f.specs) files f spec h i
 
+    -- a node of a spec that is written
+    node_within : (f : OwnFileData) → Contains files f → (t : Tree) → Contains (flat_map expressions_in_parts (written f.specs)) t → Contains (nodes_of_files files) t
+    node_within f h t i =
+        let spec = flat_cases expressions_in_parts (written f.specs) t i in
+        flat_contains expressions_in_parts (all_specs_in files) spec.0 t (in_file f h spec.0 (filter_within (λ (spec : Spec). is_none spec.told_at) f.specs spec.0 spec.1)) spec.2
+
     pub defs_same : (outline : Outline) → map (def_lines outline read) files ≡ map (def_lines outline (outcome naming headers)) files
     defs_same outline = map-same (def_lines outline read) (def_lines outline (outcome naming headers)) files each
       where
-        each : (f : OwnFileData) → Contains files f → def_lines outline read f ≡ def_lines outline (outcome naming headers) f
-        each f h =
-            ap (λ l. import_lines outline f (zip f.imports f.packages) ++ l)
-            (flat_map-same (def_by read f.stub f.file) (declaration_defs f.stub f.file naming headers) (declarations_in f.specs)
+        declared : (f : OwnFileData) → Contains files f → flat_map (def_by read f.stub f.file) (declarations_in f.specs) ≡ flat_map (declaration_defs f.stub f.file naming headers) (declarations_in f.specs)
+        declared f h =
+            flat_map-same (def_by read f.stub f.file) (declaration_defs f.stub f.file naming headers) (declarations_in f.specs)
             (λ d i. def_same (nodes_of_files files) walked f.stub f.file d
             (λ t j.
             let spec = flat_cases declared_in f.specs d i in
-            flat_contains expressions_in_parts (all_specs_in files) spec.0 t (in_file f h spec.0 spec.1) (declared_within spec.0 d spec.2 t j))))
+            flat_contains expressions_in_parts (all_specs_in files) spec.0 t (in_file f h spec.0 spec.1) (declared_within spec.0 d spec.2 t j)))
+
+        members : (f : OwnFileData) → Contains files f → flat_map (member_defs_by read f.stub f.file) (flat_map expressions_in_parts (written f.specs)) ≡ flat_map (member_defs f.stub f.file naming headers) (flat_map expressions_in_parts (written f.specs))
+        members f h =
+            flat_map-same (member_defs_by read f.stub f.file) (member_defs f.stub f.file naming headers) (flat_map expressions_in_parts (written f.specs))
+            (λ t i. members_same (nodes_of_files files) walked f.stub f.file t (node_within f h t i))
+
+        each : (f : OwnFileData) → Contains files f → def_lines outline read f ≡ def_lines outline (outcome naming headers) f
+        each f h = λ i. import_lines outline f (zip f.imports f.packages) ++ (declared f h i ++ members f h i)
 
     pub exprs_same : map (expr_lines read) files ≡ map (expr_lines (outcome naming headers)) files
     exprs_same = map-same (expr_lines read) (expr_lines (outcome naming headers)) files each
@@ -57,7 +75,4 @@ module _ (naming : Naming) (headers : Headers) (outcomes : Outcomes) where
         each : (f : OwnFileData) → Contains files f → expr_lines read f ≡ expr_lines (outcome naming headers) f
         each f h =
             flat_map-same (expr_by read f.stub f.file) (expr_at f.stub f.file naming headers) (flat_map expressions_in_parts (written f.specs))
-            (λ t i.
-            let spec = flat_cases expressions_in_parts (written f.specs) t i in
-            expr_same (nodes_of_files files) walked f.stub f.file t
-            (flat_contains expressions_in_parts (all_specs_in files) spec.0 t (in_file f h spec.0 (filter_within (λ (spec : Spec). is_none spec.told_at) f.specs spec.0 spec.1)) spec.2))
+            (λ t i. expr_same (nodes_of_files files) walked f.stub f.file t (node_within f h t i))

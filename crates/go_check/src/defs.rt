@@ -1,15 +1,17 @@
-// The lines of declared names: of imports, and of declarations (Go specification, "Import declarations", "Constant
-// declarations").
+// The lines of declared names: of imports, of declarations, and of members of types (Go specification, "Declarations and
+// scope", "Import declarations").
 ghost use Rattle.std.specs.Prelude.{◌≡◌, ◌++◌, IfOk, OnOk, map, option_and_then};
 ghost use Rattle.std.specs.List.{flat_map, zip};
 ghost use Rattle.std.specs.Option.{option_map};
 ghost use Rattle.go_tree.specs.Tree.{tree_of, start_of, parts_of};
+ghost use Rattle.go_term.specs.Types.{made, named, no_parts};
+ghost use Rattle.go_term.specs.View.{type_of};
 ghost use Rattle.go_module.specs.Modules.Module.{file_view};
 ghost use Rattle.go_module.specs.Names.Declarations.{name_text};
 ghost use Rattle.go_module.specs.Names.Imports as imports;
 ghost use Rattle.go_model.specs.Outcomes.Records.{header_view};
 ghost use Rattle.go_model.specs.PackageLines as spec;
-ghost use Rattle.go_model.specs.Report.{defined, defined_view, line_view};
+ghost use Rattle.go_model.specs.Report.{defined, defined_view, definition, line_view};
 ghost use Rattle.go_names.specs.Views.{declaration_view, declarations_view, trees_at};
 ghost use Rattle.go_check.specs.Lines.Found.{def_lines, import_lines, own_file_view};
 ghost use Rattle.go_expr.specs.Read.{outcome_read};
@@ -17,14 +19,17 @@ ghost use Rattle.go_expr.specs.Walker.{outcomes_view};
 ghost use Rattle.go_model.specs.PackageLines.{def_by};
 ghost use Rattle.go_check.specs.View.{outline_view};
 
+use crate::member_defs::push_member_defs;
+use crate::nodes::written_nodes;
 use crate::outline::Outline;
 use crate::own_file::OwnFile;
 use crate::rulebook::Rulebook;
 use go_base::NoMemory;
 use go_expr::header_by;
 use go_model::{DefKind, Header, Line, What};
-use go_module::text_name;
+use go_module::{ObjId, text_name};
 use go_names::{Declaration, declarations_in};
+use go_term::Term;
 use go_tree::{Node, NodeKind};
 use std::alloc::Global;
 
@@ -49,6 +54,8 @@ pub fn found_defs(
     )?;
     let declarations = declarations_in(alloc, &file.specs)?;
     push_declarations(alloc, file, book, &declarations, &mut lines)?;
+    let nodes = written_nodes(alloc, &file.specs)?;
+    push_member_defs(alloc, file, &book.walker, &nodes, &mut lines)?;
     Ok(lines)
 }
 
@@ -144,24 +151,32 @@ fn push_declaration(
         ++ def_by (outcome_read (outcomes_view book.now.walker)) file.now.stub (file_view file.now.file.now)
         (declaration_view declaration.now)) }
 {
-    if let Some(kind) = told_as(header_by(alloc, book, declaration)?) {
+    let number = declaration.number();
+    if let Some(kind) = told_as(alloc, number, header_by(alloc, book, declaration)?) {
         lines.push(def_line(alloc, file, declaration.name, kind)?)?;
     }
     Ok(())
 }
 
-// What a declaration is told as, by its header; that of a kind that is not built yet is not told.
-fn told_as(header: Option<Header>) -> Option<DefKind>
-    ensures { option_map defined_view result ≡ option_and_then spec.told_as (option_map header_view header) }
+// What the declaration of this object is told as, by its header; a function is not built yet, and is not told.
+fn told_as(alloc: Global, d: ObjId, header: Option<Header>) -> Option<DefKind>
+    ensures { option_map defined_view result ≡ option_and_then (spec.told_as d) (option_map header_view header) }
 {
     match header {
         Some(Header::Const(ty, value)) => Some(DefKind::Const(ty, value)),
-        Some(Header::Var(_)) => None,
+        Some(Header::Var(ty)) => Some(DefKind::Var(ty)),
         Some(Header::Func(_, _)) => None,
-        Some(Header::Defined(_, _, _)) => None,
-        Some(Header::Alias(_)) => None,
+        Some(Header::Defined(_, right, _)) => Some(definition_of(alloc, d, right)),
+        Some(Header::Alias(ty)) => Some(DefKind::Alias(ty)),
         None => None,
     }
+}
+
+// The type that this declaration defines, with the type behind its name.
+fn definition_of(alloc: Global, d: ObjId, right: Term) -> DefKind
+    ensures { defined_view result ≡ definition (made (named d) no_parts) (type_of right) }
+{
+    DefKind::Defined(Term::Named(d, Vec::new(alloc)), right)
 }
 
 // The line of a name that is declared as that.

@@ -6,7 +6,7 @@ ghost use Rattle.indexmap.specs.IndexMap.{insert_all};
 ghost use Rattle.go_module.specs.Scopes.{same_object};
 ghost use Rattle.go_model.specs.Outline as outlines;
 ghost use Rattle.go_model.specs.PackageLines as spec;
-ghost use Rattle.go_model.specs.Report.{line_view, named_view, what_view};
+ghost use Rattle.go_model.specs.Report.{defined_view, line_view, named_view, what_view};
 ghost use Rattle.go_term.specs.Types.{parts_of};
 ghost use Rattle.go_term.specs.View.{elem_of, field_of, signature_of, type_of, union_term_of};
 ghost use Rattle.go_check.specs.View.{outline_view};
@@ -46,10 +46,28 @@ fn add_line(line: &Line, objects: &mut IndexMap<ObjId, ObjId>) -> Result<(), NoM
         (map (λ d. (d, d)) (spec.objects_in_what (what_view line.now.what)))) }
 {
     match &line.what {
-        What::Def(_, DefKind::Const(term, _)) => add_type(term, objects),
-        What::Def(_, DefKind::Package(_)) => Ok(()),
+        What::Def(_, kind) => add_kind(kind, objects),
         What::Used(_, _) => Ok(()),
         What::Expr(_, _, term, _) => add_some(term, objects),
+    }
+}
+
+// Adds the objects that the types of what a name is declared as name.
+fn add_kind(kind: &DefKind, objects: &mut IndexMap<ObjId, ObjId>) -> Result<(), NoMemory>
+    ensures { OnOk result (objects.new.entries ≡ insert_all same_object objects.old.entries
+        (map (λ d. (d, d)) (spec.objects_in_defined (defined_view kind.now)))) }
+{
+    match kind {
+        DefKind::Const(term, _) => add_type(term, objects),
+        DefKind::Defined(term, right) => {
+            add_type(term, objects)?;
+            add_type(right, objects)
+        }
+        DefKind::Alias(term) => add_type(term, objects),
+        DefKind::Var(term) => add_type(term, objects),
+        DefKind::Field(term) => add_type(term, objects),
+        DefKind::Func(term) => add_type(term, objects),
+        DefKind::Package(_) => Ok(()),
     }
 }
 

@@ -25,6 +25,7 @@ use crate::own_file::own_files;
 use crate::places::placed_list;
 use crate::rulebook::Rulebook;
 use go_base::{Broken, NoMemory, Steps};
+use go_cycles::shapes;
 use go_decl::rounds;
 use go_model::{Headers, Records, Verdict};
 use go_module::{Package, breaks_none};
@@ -63,7 +64,7 @@ pub fn check_package<L: Ledger>(
     ensures scopes { book.new.judge.scopes.now ≡ book.old.judge.scopes.now }
 {
     match &names.verdicts[place] {
-        NamesVerdict::Sound => check_values(alloc, outline, book, known, place, steps),
+        NamesVerdict::Sound => check_shapes(alloc, names, outline, book, known, place, steps),
         NamesVerdict::Broken(list) => {
             let own = &book.judge.module.packages[place];
             Ok(Verdict::Refused(placed_list(alloc, own, list)?))
@@ -73,6 +74,42 @@ pub fn check_package<L: Ledger>(
 }
 
 // The verdict on the package at a place, whose names break no rule.
+fn check_shapes<L: Ledger>(
+    alloc: Global,
+    names: &Names,
+    outline: &Outline,
+    book: &mut Rulebook,
+    known: &mut Headers,
+    place: usize,
+    steps: &mut Steps<L>,
+) -> Result<Verdict, NoMemory>
+    requires within { place < length book.old.judge.«module».now.packages.items }
+    requires scoped { place < length names.now.scopes.items }
+    requires scopes { book.old.judge.scopes.now ≡ names.now.scopes.items }
+    requires there { AreThere (names_at book.old.judge.«module».now book.old.judge.scopes.now place) }
+    requires numbered { NodesAreNumbered (module_view book.old.judge.«module».now) }
+    requires same { headers_view known.old ≡ headers_view book.old.judge.headers }
+    ensures verdict { IfOk result (λ verdict. (p : PackageData)
+        → slice_get (module_view book.old.judge.«module».now).packages place ≡ Some p
+        → outline_view outline.now ≡ outline_of (module_view book.old.judge.«module».now)
+        → names_at book.old.judge.«module».now book.old.judge.scopes.now place ≡ names_in (module_view book.old.judge.«module».now) place p
+        → broken_names (known_in (module_view book.old.judge.«module».now)) place p ≡ []
+        → phases.IsVerdict (module_view book.old.judge.«module».now) place p (headers_view book.old.judge.headers)
+        (verdict_view verdict) (headers_view book.new.judge.headers)) }
+    ensures known { OnOk result (headers_view known.new ≡ headers_view book.new.judge.headers) }
+    ensures module { book.new.judge.«module».now ≡ book.old.judge.«module».now }
+    ensures scopes { book.new.judge.scopes.now ≡ book.old.judge.scopes.now }
+{
+    let own = &book.judge.module.packages[place];
+    let list = shapes(alloc, &names.scopes[place], own)?;
+    if breaks_none(&list) {
+        check_values(alloc, outline, book, known, place, steps)
+    } else {
+        Ok(Verdict::Refused(placed_list(alloc, own, &list)?))
+    }
+}
+
+// The verdict on the package at a place, whose names and type declarations break no rule.
 fn check_values<L: Ledger>(
     alloc: Global,
     outline: &Outline,
@@ -89,7 +126,7 @@ fn check_values<L: Ledger>(
         → slice_get (module_view book.old.judge.«module».now).packages place ≡ Some p
         → outline_view outline.now ≡ outline_of (module_view book.old.judge.«module».now)
         → names_at book.old.judge.«module».now book.old.judge.scopes.now place ≡ names_in (module_view book.old.judge.«module».now) place p
-        → broken_names (known_in (module_view book.old.judge.«module».now)) place p ≡ []
+        → phases.BreaksShapes (module_view book.old.judge.«module».now) place p []
         → phases.IsVerdict (module_view book.old.judge.«module».now) place p (headers_view book.old.judge.headers)
         (verdict_view verdict) (headers_view book.new.judge.headers)) }
     ensures known { OnOk result (headers_view known.new ≡ headers_view book.new.judge.headers) }

@@ -16,17 +16,17 @@ use Rattle.go_cycles.specs.Places.{ArePlaces, graph_of, mark_at, marked_by, plac
 use Rattle.go_cycles.proofs.ListLemmas.{flat_cases, flat_contains}
 use Rattle.go_cycles.proofs.PlaceLemmas.{IsPlaced, declared_place, place_declared}
 
-row_declared : (f : Declaration → List ℕ) (declarations : List Declaration) (i e : ℕ) → Contains (row_at (map f declarations) i) e → (declaration : Declaration) × (slice_get declarations i ≡ Some declaration) × Contains (f declaration) e
+pub row_declared : (f : Declaration → List ℕ) (declarations : List Declaration) (i e : ℕ) → Contains (row_at (map f declarations) i) e → (declaration : Declaration) × (slice_get declarations i ≡ Some declaration) × Contains (f declaration) e
 row_declared f declarations i e has = by_place (slice_get declarations i) refl (subst (λ (o : Option (List ℕ)). Contains (unwrap_or o []) e) (slice_get-map f declarations i) has)
   where
     by_place : (o : Option Declaration) → slice_get declarations i ≡ o → Contains (unwrap_or (option_map f o) []) e → (declaration : Declaration) × (slice_get declarations i ≡ Some declaration) × Contains (f declaration) e
     by_place None at h = absurd (contains_none e h)
     by_place (Some declaration) at h = (declaration, at, h)
 
-declared_row : (f : Declaration → List ℕ) (declarations : List Declaration) (i : ℕ) (declaration : Declaration) → slice_get declarations i ≡ Some declaration → row_at (map f declarations) i ≡ f declaration
+pub declared_row : (f : Declaration → List ℕ) (declarations : List Declaration) (i : ℕ) (declaration : Declaration) → slice_get declarations i ≡ Some declaration → row_at (map f declarations) i ≡ f declaration
 declared_row f declarations i declaration at = ap (λ (o : Option (List ℕ)). unwrap_or o []) (slice_get-map f declarations i ∙ ap (option_map f) at)
 
-listed : (o : Option ℕ) (place : ℕ) → Contains (option_to_list o) place → o ≡ Some place
+pub listed : (o : Option ℕ) (place : ℕ) → Contains (option_to_list o) place → o ≡ Some place
 listed None place h = absurd (contains_none place h)
 listed (Some n) place h = by_cases (cons_cases n [] place h)
   where

@@ -19,5 +19,7 @@ mod returning;
 mod tests;
 
 pub use leading::Way;
+pub use marks::is_marked_by;
 pub use package::shapes;
+pub use places::{Places, places_of};
 pub use rules::{CYCLIC_DEFINITION, CYCLIC_EMBEDDING};

@@ -6,7 +6,7 @@ ghost use Rattle.std.specs.Option.{option_map};
 ghost use Rattle.go_tree.specs.Tree.{list_of, parts_of, tree_of};
 ghost use Rattle.go_module.specs.Broken.{broken_at};
 ghost use Rattle.go_model.specs.Outcomes.Readings.{broken_spots, spot_start, start_among};
-ghost use Rattle.go_names.specs.Views.{declaration_view, spec_view};
+ghost use Rattle.go_names.specs.Views.{declaration_view, spec_view, trees_at};
 ghost use Rattle.go_expr.specs.Read.{outcome_read};
 ghost use Rattle.go_operands.specs.Operands.{operands_of};
 ghost use Rattle.go_model.specs.Outcomes.Constructs.Kinds.{no_type, no_value};
@@ -283,32 +283,33 @@ fn push_spots(
     ensures { OnOk result (found.new.items ≡ found.old.items
         ++ map (λ spot. broken_at file (unwrap_or told_at (spot_start (tree_of node.now) spot)) rule) spots.now) }
 {
+    let operands = operands_of(alloc, node)?;
     for spot in spots {
-        let start = spot_start(alloc, node, *spot)?;
+        let start = spot_start(node, &operands, *spot);
         found.push(broken_at(file, told_at.unwrap_or(start), rule))?;
     }
     Ok(())
 }
 
-// The offset of a spot of a node.
-fn spot_start(alloc: Global, node: &Node, spot: Spot) -> Result<usize, NoMemory>
-    ensures { IfOk result (λ start. start ≡ spot_start (tree_of node.now) spot) }
+// The offset of a spot of a node that has these operands.
+fn spot_start(node: &Node, operands: &[&Node], spot: Spot) -> usize
+    requires { trees_at operands.now ≡ operands_of (tree_of node.now) }
+    ensures { result ≡ spot_start (tree_of node.now) spot }
 {
     match spot {
-        Spot::Whole => Ok(node.start()),
-        Spot::Name => Ok(part_start(node, 1)),
-        Spot::Part(place) => operand_start(alloc, node, place),
+        Spot::Whole => node.start(),
+        Spot::Name => part_start(node, 1),
+        Spot::Part(place) => operand_start(node, operands, place),
     }
 }
 
-// Where an operand of a node starts; where there is no such operand, where the node does.
-fn operand_start(alloc: Global, node: &Node, place: usize) -> Result<usize, NoMemory>
-    ensures { IfOk result (λ start. start ≡ start_among (operands_of (tree_of node.now)) (tree_of node.now) place) }
+// Where one of these operands of a node starts; where there is no such operand, where the node does.
+fn operand_start(node: &Node, operands: &[&Node], place: usize) -> usize
+    ensures { result ≡ start_among (trees_at operands.now) (tree_of node.now) place }
 {
-    let operands = operands_of(alloc, node)?;
     match operands.get(place) {
-        Some(operand) => Ok(operand.start()),
-        None => Ok(node.start()),
+        Some(operand) => operand.start(),
+        None => node.start(),
     }
 }
 

@@ -6,5 +6,6 @@ pub mod OwnOutcomesLemmas
 pub mod ReadLemmas
 pub mod ResultLemmas
 pub mod SignatureLemmas
+pub mod StructLemmas
 pub mod TypedLemmas
 pub mod WalkerLemmas

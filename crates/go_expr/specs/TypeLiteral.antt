@@ -1,17 +1,15 @@
 -- Type literals, as the code finds them.
 use Rattle.std.specs.Prelude.{ℕ, Option, Some, None, List, [], ◌∷◌, map}
 use Rattle.std.specs.List.{AllByRecursion}
-use Rattle.go_base.specs.declared.rule.Rule.{Rule}
 use Rattle.go_term.specs.Types as types
 use Rattle.go_term.specs.Types.{Head, TypeData, channel, pointer, slice}
 use Rattle.go_term.specs.declared.term.Term.{Term}
-use Rattle.go_model.specs.declared.outcome.Spot.{Spot}
 use Rattle.go_model.specs.declared.outcome.Spot.TheVariants.{Part}
 use Rattle.go_model.specs.Outcomes.Constructs.Kinds.{no_length}
-use Rattle.go_model.specs.Outcomes.Constructs.Limits.{makes, makes_of, within_limits}
+use Rattle.go_model.specs.Outcomes.Constructs.Limits.{makes_of, within_limits}
 use Rattle.go_model.specs.Outcomes.Judged as outcomes
 use Rattle.go_model.specs.Outcomes.Judged.{Construct, OutcomeData, tested}
-use Rattle.go_model.specs.Outcomes.Operands.{are_types, is_type, of_all, of_one, type_or_none}
+use Rattle.go_model.specs.Outcomes.Operands.{are_types, of_all, of_one, type_or_none}
 use Rattle.go_model.specs.Outcomes.Records.{HeaderData, RecData, type_record}
 use Rattle.go_model.specs.Outcomes.View.{outcome_as}
 use Rattle.go_model.specs.Outcomes.Walk.{Headers}
@@ -32,11 +30,9 @@ head_of Pointer = pointer
 head_of Slice = slice
 head_of (Chan dir) = channel dir
 
--- a type literal with one operand, which breaks this rule here where that is no type
-abbrev pub one_literal : Rule → Spot → OneForm → Construct HeaderData RecData
-one_literal rule spot form = of_one (λ x.
-    makes (record { rule = rule; spots = record { spot = spot; holds = Done (is_type x) } ∷ [] } ∷ [])
-    (types.of_one (head_of form) (type_or_none x)))
+-- a type literal with one operand
+abbrev pub one_literal : OneForm → Construct HeaderData RecData
+one_literal form = of_one (λ x. makes_of (x ∷ []) (types.of_one (head_of form) (type_or_none x)))
 
 -- an array type of this length with one element type, and one that may have no length
 abbrev pub element_outcome : Headers → ℕ → RecData → OutcomeData RecData

@@ -7,9 +7,8 @@ ghost use Rattle.go_model.specs.Outcomes.View.{outcome_as};
 ghost use Rattle.go_model.specs.Types.Own.{IsOwnOutcome, Keeps};
 
 use crate::one_type::{OneForm, one_type};
-use crate::rules::NO_TYPE;
 use go_base::NoMemory;
-use go_model::{Judge, Outcome, Spot};
+use go_model::{Judge, Outcome};
 use go_term::Dir;
 use std::alloc::Global;
 
@@ -31,12 +30,5 @@ pub fn channel_type<J: Judge>(
         (J.world judge.old) (J.world judge.new) (J.is_type judge.old) (J.is_type judge.new)
         (J.tree judge.old) (J.tree judge.new) }
 {
-    one_type(
-        alloc,
-        judge,
-        NO_TYPE,
-        Spot::Part(0),
-        OneForm::Chan(dir),
-        outcomes,
-    )
+    one_type(alloc, judge, OneForm::Chan(dir), outcomes)
 }

@@ -35,6 +35,7 @@ mod one_type;
 mod pointer;
 mod signature;
 mod slice;
+mod struct_type;
 mod type_literal;
 mod typed;
 

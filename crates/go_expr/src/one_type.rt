@@ -12,8 +12,9 @@ ghost use Rattle.go_expr.specs.TypeLiteral.{head_of, one_literal};
 
 use crate::broken::broken_at;
 use crate::given::{Given, copy_of, first_records, type_in};
+use crate::rules::NO_TYPE;
 use crate::type_literal::type_literal;
-use go_base::{NoMemory, Rule};
+use go_base::NoMemory;
 use go_model::{Judge, Outcome, Rec, Spot};
 use go_term::{Dir, Shape, Ty};
 use std::alloc::Global;
@@ -26,19 +27,17 @@ pub enum OneForm {
     Chan(Dir),
 }
 
-/// A type literal of this form by the outcome of its operand: where that is no type, it breaks this rule at this spot.
-/// An error is want of memory.
+/// A type literal of this form by the outcome of its operand: C13 where that is no type; L4 and L5 by its size. An error
+/// is want of memory.
 pub fn one_type<J: Judge>(
     alloc: Global,
     judge: &mut J,
-    rule: Rule,
-    spot: Spot,
     form: OneForm,
     outcomes: &[Outcome],
 ) -> Result<Outcome, NoMemory>
     requires { AllByRecursion (IsOwnOutcome (J.is_type judge.old)) outcomes.now }
     ensures outcome { IfOk result (λ outcome. outcome_as (J.tree judge.new) outcome
-        ≡ judged (J.headers judge.old) (one_literal rule spot form)
+        ≡ judged (J.headers judge.old) (one_literal form)
         (map (outcome_as (J.tree judge.old)) outcomes.now)) }
     ensures own { IfOk result (IsOwnOutcome (J.is_type judge.new)) }
     ensures keeps { Keeps (J.headers judge.old) (J.headers judge.new) (J.names judge.old) (J.names judge.new)
@@ -47,7 +46,7 @@ pub fn one_type<J: Judge>(
         (J.tree judge.old) (J.tree judge.new) }
 {
     match first_records(alloc, judge, outcomes, 1)? {
-        Given::All(recs) => of_records(alloc, judge, rule, spot, form, &recs),
+        Given::All(recs) => of_records(alloc, judge, form, &recs),
         Given::First(d) => Ok(Outcome::Waits(d)),
         Given::Gone => Ok(Outcome::Nothing),
     }
@@ -57,14 +56,12 @@ pub fn one_type<J: Judge>(
 fn of_records<J: Judge>(
     alloc: Global,
     judge: &mut J,
-    rule: Rule,
-    spot: Spot,
     form: OneForm,
     recs: &[&Rec],
 ) -> Result<Outcome, NoMemory>
     requires { AreOwnRecs (J.is_type judge.old) recs.now }
     ensures outcome { IfOk result (λ outcome. outcome_as (J.tree judge.new) outcome
-        ≡ asked (J.headers judge.old) ((one_literal rule spot form).asks
+        ≡ asked (J.headers judge.old) ((one_literal form).asks
         (recs_as (J.tree judge.old) recs.now))) }
     ensures own { IfOk result (IsOwnOutcome (J.is_type judge.new)) }
     ensures keeps { Keeps (J.headers judge.old) (J.headers judge.new) (J.names judge.old) (J.names judge.new)
@@ -73,7 +70,7 @@ fn of_records<J: Judge>(
         (J.tree judge.old) (J.tree judge.new) }
 {
     match recs {
-        [rec] => of_record(alloc, judge, rule, spot, form, rec),
+        [rec] => of_record(alloc, judge, form, rec),
         _ => Ok(Outcome::Nothing),
     }
 }
@@ -82,14 +79,12 @@ fn of_records<J: Judge>(
 fn of_record<J: Judge>(
     alloc: Global,
     judge: &mut J,
-    rule: Rule,
-    spot: Spot,
     form: OneForm,
     rec: &Rec,
 ) -> Result<Outcome, NoMemory>
     requires { IsOwnRec (J.is_type judge.old) rec.now }
     ensures outcome { IfOk result (λ outcome. outcome_as (J.tree judge.new) outcome
-        ≡ asked (J.headers judge.old) ((one_literal rule spot form).asks
+        ≡ asked (J.headers judge.old) ((one_literal form).asks
         (rec_as (J.tree judge.old) rec.now ∷ []))) }
     ensures own { IfOk result (IsOwnOutcome (J.is_type judge.new)) }
     ensures keeps { Keeps (J.headers judge.old) (J.headers judge.new) (J.names judge.old) (J.names judge.new)
@@ -102,7 +97,7 @@ fn of_record<J: Judge>(
             let ty = copy_of(judge, ty)?;
             type_literal(alloc, judge, shape_of(judge, form, ty))
         }
-        None => broken_at(alloc, judge, rule, spot),
+        None => broken_at(alloc, judge, NO_TYPE, Spot::Part(0)),
     }
 }
 

@@ -7,22 +7,19 @@ ghost use Rattle.go_model.specs.Outcomes.View.{outcome_as};
 ghost use Rattle.go_model.specs.Types.Own.{IsOwnOutcome, Keeps};
 
 use crate::one_type::{OneForm, one_type};
-use crate::rules::NO_TYPE;
 use go_base::NoMemory;
-use go_model::{Judge, Outcome, Spot};
-use go_module::UNBUILT_FORM;
+use go_model::{Judge, Outcome};
 use std::alloc::Global;
 
-/// `*x` by the outcome of x: U0 where that is no type, since indirections are not built yet; L4 and L5 by its size. An
-/// error is want of memory.
-pub fn star<J: Judge>(
+/// `*T` by the outcome of T: C13 where that is no type; L4 and L5 by its size. An error is want of memory.
+pub fn pointer_to<J: Judge>(
     alloc: Global,
     judge: &mut J,
     outcomes: &[Outcome],
 ) -> Result<Outcome, NoMemory>
     requires { AllByRecursion (IsOwnOutcome (J.is_type judge.old)) outcomes.now }
     ensures outcome { IfOk result (λ outcome. outcome_as (J.tree judge.new) outcome
-        ≡ judged (J.headers judge.old) spec.star
+        ≡ judged (J.headers judge.old) spec.pointer_to
         (map (outcome_as (J.tree judge.old)) outcomes.now)) }
     ensures own { IfOk result (IsOwnOutcome (J.is_type judge.new)) }
     ensures keeps { Keeps (J.headers judge.old) (J.headers judge.new) (J.names judge.old) (J.names judge.new)
@@ -30,38 +27,5 @@ pub fn star<J: Judge>(
         (J.world judge.old) (J.world judge.new) (J.is_type judge.old) (J.is_type judge.new)
         (J.tree judge.old) (J.tree judge.new) }
 {
-    one_type(
-        alloc,
-        judge,
-        UNBUILT_FORM,
-        Spot::Whole,
-        OneForm::Pointer,
-        outcomes,
-    )
-}
-
-/// `*E` in a struct by the outcome of E: C13 where that is no type; L4 and L5 by its size. An error is want of memory.
-pub fn embedded_pointer<J: Judge>(
-    alloc: Global,
-    judge: &mut J,
-    outcomes: &[Outcome],
-) -> Result<Outcome, NoMemory>
-    requires { AllByRecursion (IsOwnOutcome (J.is_type judge.old)) outcomes.now }
-    ensures outcome { IfOk result (λ outcome. outcome_as (J.tree judge.new) outcome
-        ≡ judged (J.headers judge.old) spec.embedded_pointer
-        (map (outcome_as (J.tree judge.old)) outcomes.now)) }
-    ensures own { IfOk result (IsOwnOutcome (J.is_type judge.new)) }
-    ensures keeps { Keeps (J.headers judge.old) (J.headers judge.new) (J.names judge.old) (J.names judge.new)
-        (J.outcomes judge.old) (J.outcomes judge.new) (J.is_spent judge.old) (J.is_spent judge.new)
-        (J.world judge.old) (J.world judge.new) (J.is_type judge.old) (J.is_type judge.new)
-        (J.tree judge.old) (J.tree judge.new) }
-{
-    one_type(
-        alloc,
-        judge,
-        NO_TYPE,
-        Spot::Part(0),
-        OneForm::Pointer,
-        outcomes,
-    )
+    one_type(alloc, judge, OneForm::Pointer, outcomes)
 }

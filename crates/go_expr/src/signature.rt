@@ -11,6 +11,7 @@ use crate::given::push_copy;
 use go_base::NoMemory;
 use go_model::Judge;
 use go_module::{all_but_first, first_part, part_list};
+use go_names::{has_named, is_unnamed_param};
 use go_operands::operands_of;
 use go_term::{FuncShape, Ty};
 use go_tree::{Node, NodeKind};
@@ -207,23 +208,4 @@ fn left_for_next<'a>(named: bool, param: &Node, types: &'a [Ty], others: &'a [Ty
     } else {
         others
     }
-}
-
-// Whether some parameter has a name and a type.
-fn has_named(params: &[Node]) -> bool
-    ensures { result ≡ list_any (λ p. inner.is_named_param (kind_of (tree_of p))) params.now }
-{
-    params.iter().any(|param| is_named_param(param))
-}
-
-fn is_named_param(node: &Node) -> bool
-    ensures { result ≡ inner.is_named_param (kind_of (tree_of node.now)) }
-{
-    matches!(node.kind(), NodeKind::Param | NodeKind::VariadicParam)
-}
-
-fn is_unnamed_param(node: &Node) -> bool
-    ensures { result ≡ inner.is_unnamed_param (kind_of (tree_of node.now)) }
-{
-    matches!(node.kind(), NodeKind::UnnamedParam)
 }

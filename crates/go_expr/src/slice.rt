@@ -7,9 +7,8 @@ ghost use Rattle.go_model.specs.Outcomes.View.{outcome_as};
 ghost use Rattle.go_model.specs.Types.Own.{IsOwnOutcome, Keeps};
 
 use crate::one_type::{OneForm, one_type};
-use crate::rules::NO_TYPE;
 use go_base::NoMemory;
-use go_model::{Judge, Outcome, Spot};
+use go_model::{Judge, Outcome};
 use std::alloc::Global;
 
 /// `[]T` by the outcome of T: C13 where that is no type; L4 and L5 by its size. An error is want of memory.
@@ -28,12 +27,5 @@ pub fn slice_type<J: Judge>(
         (J.world judge.old) (J.world judge.new) (J.is_type judge.old) (J.is_type judge.new)
         (J.tree judge.old) (J.tree judge.new) }
 {
-    one_type(
-        alloc,
-        judge,
-        NO_TYPE,
-        Spot::Part(0),
-        OneForm::Slice,
-        outcomes,
-    )
+    one_type(alloc, judge, OneForm::Slice, outcomes)
 }

@@ -28,9 +28,10 @@ use crate::map_type::map_type;
 use crate::meaning::meaning;
 use crate::name::name;
 use crate::parentheses::parentheses;
-use crate::pointer::{embedded_pointer, star};
+use crate::pointer::pointer_to;
 use crate::selector::selector;
 use crate::slice::slice_type;
+use crate::struct_type::struct_type;
 use crate::sum::sum;
 use go_base::NoMemory;
 use go_model::{Judge, NumberHasher, Outcome, Rec};
@@ -231,14 +232,15 @@ fn step<J: Judge>(
         },
         NodeKind::ParenExpr => parentheses(judge, outcomes),
         NodeKind::AddExpr => sum(alloc, judge, outcomes),
-        NodeKind::StarExpr => star(alloc, judge, outcomes),
-        NodeKind::EmbeddedPointer => embedded_pointer(alloc, judge, outcomes),
+        NodeKind::StarExpr => pointer_to(alloc, judge, outcomes),
+        NodeKind::EmbeddedPointer => pointer_to(alloc, judge, outcomes),
         NodeKind::SliceType => slice_type(alloc, judge, outcomes),
         NodeKind::ArrayType => array_type(alloc, judge, outcomes),
         NodeKind::MapType => map_type(alloc, judge, outcomes),
         NodeKind::ChanType => channel_type(alloc, judge, direction_of(node), outcomes),
         NodeKind::ArrowExpr => arrow(alloc, judge, node, outcomes),
         NodeKind::FuncType => function(alloc, judge, node, outcomes),
+        NodeKind::StructType => struct_type(alloc, judge, node, outcomes),
         NodeKind::InterfaceType => interface_type(alloc, judge, node, outcomes),
         _ => Ok(Outcome::Nothing),
     }

@@ -17,7 +17,7 @@ use Rattle.go_load.specs.Loading.{IsModule}
 use Rattle.go_load.proofs.ModuleLawLemmas.{stand_before}
 use Rattle.go_model.specs.Outcomes.Records.{HeaderData}
 use Rattle.go_model.specs.Outcomes.Walk.{Headers}
-use Rattle.go_model.specs.Phases.{AreReports, BreaksValues, IsVerdict, ReportOf, all_told, by_names, by_values, checks as checks_report, imports_accepted, is_accepted, package_report, skips as skips_report, sound}
+use Rattle.go_model.specs.Phases.{AreReports, BreaksValues, IsVerdict, ReportOf, all_told, by_names, by_shapes, by_values, checks as checks_report, imports_accepted, is_accepted, package_report, skips as skips_report, sound}
 use Rattle.go_model.specs.Report.{LineData, NamedData, PackageReportData, ReportData, VerdictData, accepted, refused, skipped}
 use Rattle.go_model.specs.Values.Meaning.{names_in}
 use Rattle.go_model.specs.Values.Quests.{IsPart}
@@ -120,10 +120,11 @@ module _ (m : ModuleData) where
         → IsKnown k marks before → slice_get m.packages k ≡ Some p → imports_accepted marks p ≡ true → IsVerdict m k p before verdict after
         → IsKnown (k + 1) (marks ++ is_accepted verdict ∷ []) after
     known_checked k marks p before after verdict is at imports (by_names b bs list) = same_headers k marks before is
+    known_checked k marks p before after verdict is at imports (by_shapes b bs list) = same_headers k marks before is
     known_checked k marks p before after verdict is at imports (by_values headers b bs breaks) =
         not_accepted k marks before headers is (part_of k p before headers (b ∷ bs) breaks)
     known_checked k marks p before after verdict is at imports (sound headers lines breaks told) =
-        let complete = complete_at k marks p before headers lines _ is at imports (sound headers lines breaks told) breaks.sound_names in
+        let complete = complete_at k marks p before headers lines _ is at imports (sound headers lines breaks told) breaks.sound_shapes.sound_names in
         known_more k marks p before headers is at (part_of k p before headers [] breaks) complete.declared
 
     known_reached : {k : ℕ} {marks : List Bool} {before : Headers} → IsReached m k marks before → IsKnown k marks before
@@ -135,7 +136,7 @@ module _ (m : ModuleData) where
     known_reached (checks k marks before after verdict p reached at imports is) = known_checked k marks p before after verdict (known_reached reached) at imports is
 
 sound_names : (m : ModuleData) (k : ℕ) (p : PackageData) (before after : Headers) (lines : List LineData) (named : List NamedData) → IsVerdict m k p before (accepted lines named) after → broken_names (known_in m) k p ≡ []
-sound_names m k p before after lines named (sound _ _ breaks _) = breaks.sound_names
+sound_names m k p before after lines named (sound _ _ breaks _) = breaks.sound_shapes.sound_names
 
 pub accepted_complete : (own stubs : Folder) (m : ModuleData) → IsModule own stubs m
     → (k : ℕ) (marks : List Bool) (p : PackageData) (before after : Headers) (lines : List LineData) (named : List NamedData)

@@ -16,9 +16,12 @@ use Rattle.go_model.specs.Values.Rules.{broken_values}
 use Rattle.go_model.specs.Values.Waiting.{Chain}
 use Rattle.go_module.specs.Names.Rules.BrokenNames.{broken_names}
 use Rattle.go_module.specs.Names.Imports.{known_in}
-use Rattle.go_model.specs.Phases.{HasHeaders, BreaksValues, IsVerdict, by_names, by_values, sound, is_accepted, package_report, ArePackageLines, AreReports, no_headers, all_told, skips, checks, ReportOf}
+use Rattle.go_model.specs.Phases.{HasHeaders, BreaksShapes, BreaksValues, IsVerdict, by_names, by_shapes, by_values, denoted_in, sound, is_accepted, package_report, ArePackageLines, AreReports, no_headers, all_told, skips, checks, ReportOf}
 use Rattle.go_model.proofs.LineOrderLemmas.{one_list_in_order}
 use Rattle.go_module.proofs.BrokenListLemmas.{one_list, none_of_none}
+use Rattle.go_base.specs.declared.ids.ObjId.{ObjId}
+use Rattle.go_tree.specs.declared.node.NodeId.{NodeId}
+use Rattle.go_cycles.specs.Shapes.{AreShapes, broken_shapes}
 
 same_option : {H : Type 0} (x y : Option H) → ((h : H) → x ≡ Some h → y ≡ Some h) → ((h : H) → y ≡ Some h → x ≡ Some h) → x ≡ y
 same_option None None f g = refl
@@ -33,6 +36,19 @@ same_bool false false f g = refl
 -- nothing that was found has no list of some
 no_list : (found : List Broken) (b : Broken) (bs : List Broken) → found ≡ [] → IsListOf found (b ∷ bs) → ⊥
 no_list found b bs e i = let none = none_of_none (b ∷ bs) (subst (λ (f : List Broken). IsListOf f (b ∷ bs)) e i) in cc none
+
+-- a question that is answered exactly has one answer
+same_answers : {P : ℕ → Type 0} (f g : ℕ → Bool) → ((d : ℕ) → (f d ≡ true) ↔ P d) → ((d : ℕ) → (g d ≡ true) ↔ P d) → f ≡ g
+same_answers f g here there = fun_ext (λ d. same_bool (f d) (g d) (λ e. (there d).1 ((here d).0 e)) (λ e. (here d).1 ((there d).0 e)))
+
+-- the type declarations of a package have one list at most
+one_shapes : (denotes : NodeId → Option ObjId) (p : PackageData) (xs ys : List Broken) → AreShapes denotes p xs → AreShapes denotes p ys → xs ≡ ys
+one_shapes denotes p xs ys a b =
+    let returns : a.returns ≡ b.returns = same_answers a.returns b.returns a.is_return b.is_return in
+    let embeds : a.embeds ≡ b.embeds = same_answers a.embeds b.embeds a.is_embedding b.is_embedding in
+    let there : IsListOf (broken_shapes a.returns a.embeds p) ys =
+    subst (λ (r : ℕ → Bool). IsListOf (broken_shapes r a.embeds p) ys) (sym returns) (subst (λ (e : ℕ → Bool). IsListOf (broken_shapes b.returns e p) ys) (sym embeds) b.is_list) in
+    one_list (broken_shapes a.returns a.embeds p) xs ys a.is_list there
 
 module _ (before : Headers) (naming : Naming) (declarations : List Declaration) where
   -- there is one map of headers at most
@@ -56,6 +72,9 @@ module _ (m : ModuleData) (k : ℕ) (p : PackageData) (before : Headers) where
       let there : IsListOf (broken_values naming v a.cyclic p) ys = subst (λ (c : ℕ → Bool). IsListOf (broken_values naming v c p) ys) (sym marks) (subst (λ (hs : Headers). IsListOf (broken_values naming hs b.cyclic p) ys) (sym headers) b.is_list) in
       one_list (broken_values naming v a.cyclic p) xs ys a.is_list there
 
+  same_shapes : (xs ys : List Broken) → BreaksShapes m k p xs → BreaksShapes m k p ys → xs ≡ ys
+  same_shapes xs ys a b = one_shapes (denoted_in m k p) p xs ys a.are_shapes b.are_shapes
+
   -- a package has one list of lines at most
   one_lines : (headers : Headers) (xs ys : List LineData) → ArePackageLines m k p headers xs → ArePackageLines m k p headers ys → xs ≡ ys
   one_lines headers xs ys a b =
@@ -78,17 +97,31 @@ module _ (m : ModuleData) (k : ℕ) (p : PackageData) (before : Headers) where
   abbrev sound_by : Headers → List LineData → Given
   sound_by v lines = given (accepted lines (named_in (outline_of m) lines)) v
 
+  -- of two verdicts, one rests on names that break rules, or on type declarations that do
+  no_names : {X : Type 0} (b : Broken) (bs xs : List Broken) → IsListOf (broken_names (known_in m) k p) (b ∷ bs) → BreaksShapes m k p xs → X
+  no_names b bs xs i j = absurd (no_list (broken_names (known_in m) k p) b bs j.sound_names i)
+
+  no_shapes : {X : Type 0} (b : Broken) (bs : List Broken) → BreaksShapes m k p (b ∷ bs) → BreaksShapes m k p [] → X
+  no_shapes b bs i j = absurd (let same = same_shapes (b ∷ bs) [] i j in cc same)
+
   one_verdict : (x y : VerdictData) (after later : Headers) → IsVerdict m k p before x after → IsVerdict m k p before y later → given x after ≡ given y later
   one_verdict x y after later (by_names b bs i) (by_names c cs j) = ap (λ list. given (refused (map (placed_by p) list)) before) (one_list (broken_names (known_in m) k p) (b ∷ bs) (c ∷ cs) i j)
-  one_verdict x y after later (by_names b bs i) (by_values w c cs j) = absurd (no_list (broken_names (known_in m) k p) b bs j.sound_names i)
-  one_verdict x y after later (by_names b bs i) (sound w ys j there) = absurd (no_list (broken_names (known_in m) k p) b bs j.sound_names i)
-  one_verdict x y after later (by_values v b bs i) (by_names c cs j) = absurd (no_list (broken_names (known_in m) k p) c cs i.sound_names j)
+  one_verdict x y after later (by_names b bs i) (by_shapes c cs j) = no_names b bs (c ∷ cs) i j
+  one_verdict x y after later (by_names b bs i) (by_values w c cs j) = no_names b bs [] i j.sound_shapes
+  one_verdict x y after later (by_names b bs i) (sound w ys j there) = no_names b bs [] i j.sound_shapes
+  one_verdict x y after later (by_shapes b bs i) (by_names c cs j) = no_names c cs (b ∷ bs) j i
+  one_verdict x y after later (by_shapes b bs i) (by_shapes c cs j) = ap (λ list. given (refused (map (placed_by p) list)) before) (same_shapes (b ∷ bs) (c ∷ cs) i j)
+  one_verdict x y after later (by_shapes b bs i) (by_values w c cs j) = no_shapes b bs i j.sound_shapes
+  one_verdict x y after later (by_shapes b bs i) (sound w ys j there) = no_shapes b bs i j.sound_shapes
+  one_verdict x y after later (by_values v b bs i) (by_names c cs j) = no_names c cs [] j i.sound_shapes
+  one_verdict x y after later (by_values v b bs i) (by_shapes c cs j) = no_shapes c cs j i.sound_shapes
   one_verdict x y after later (by_values v b bs i) (by_values w c cs j) =
       let headers : v ≡ w = same_headers v w (b ∷ bs) (c ∷ cs) i j in
       let lists : b ∷ bs ≡ c ∷ cs = same_values v w (b ∷ bs) (c ∷ cs) i j in
       λ n. given (refused (map (placed_by p) (lists n))) (headers n)
   one_verdict x y after later (by_values v b bs i) (sound w ys j there) = absurd (let same = same_values v w (b ∷ bs) [] i j in cc same)
-  one_verdict x y after later (sound v xs i here) (by_names c cs j) = absurd (no_list (broken_names (known_in m) k p) c cs i.sound_names j)
+  one_verdict x y after later (sound v xs i here) (by_names c cs j) = no_names c cs [] j i.sound_shapes
+  one_verdict x y after later (sound v xs i here) (by_shapes c cs j) = no_shapes c cs j i.sound_shapes
   one_verdict x y after later (sound v xs i here) (by_values w c cs j) = absurd (let same = same_values v w [] (c ∷ cs) i j in cc same)
   one_verdict x y after later (sound v xs i here) (sound w ys j there) =
       let headers : v ≡ w = same_headers v w [] [] i j in

@@ -1,7 +1,7 @@
 -- The lines of the report of an accepted package.
 -- Decides which lines it has: one for each name that is written where it is declared, one for each use of a name, and one
--- for each expression; of what stands in a copy of an omitted list, neither uses nor expressions. How they are ordered:
--- `LineOrder`. How a line reads: `Text`.
+-- for each expression or type; of what stands in a copy of an omitted list, neither uses nor expressions, nor members. Which
+-- names type literals declare: `Members`. How lines are ordered: `LineOrder`. How a line reads: `Text`.
 use Rattle.std.specs.Prelude.{◌≡◌, ℕ, ◌+◌, Bool, is_none, if◌then◌else◌, List, [], ◌∷◌, ◌++◌, Option, Some, None, filter, map, option_and_then}
 use Rattle.std.specs.List.{flat_map}
 use Rattle.std.specs.Option.{option_map_or}
@@ -9,12 +9,13 @@ use Rattle.go_base.specs.Place.{line_of, column_of}
 use Rattle.go_base.specs.declared.ids.ObjId.{ObjId}
 use Rattle.go_term.specs.Types.{Head, named, param, TypeData, Parts, made, no_parts, more_parts}
 use Rattle.go_tree.specs.declared.node.NodeId.{NodeId}
-use Rattle.go_tree.specs.Tree.{Tree, Trees, no_trees, more_trees, end_of, parts_of, start_of}
+use Rattle.go_tree.specs.declared.node_kind.NodeKind.TheVariants.{EmbeddedPointer}
+use Rattle.go_tree.specs.Tree.{Tree, branch, Trees, no_trees, more_trees, end_of, parts_of, start_of}
 use Rattle.go_module.specs.IndexMap.{insert_all}
 use Rattle.go_module.specs.declared.block.Occurrence.{Occurrence}
 use Rattle.go_module.specs.declared.block.Selected.{Selected}
 use Rattle.go_module.specs.Modules.Module.{FileData, PackageData}
-use Rattle.go_module.specs.Names.Declarations.{Declaration, Spec, declarations_in, name_text, specs_in_file}
+use Rattle.go_module.specs.Names.Declarations.{Declaration, Spec, declarations_in, name_text, number_of, specs_in_file}
 use Rattle.go_module.specs.Names.Imports.{Importing, imports_of, is_dot}
 use Rattle.go_module.specs.Names.Occurrences.{names_in_parts}
 use Rattle.go_operands.specs.Operands.{expressions_in_parts}
@@ -23,8 +24,10 @@ use Rattle.go_module.specs.Scopes.{same_object}
 use Rattle.go_model.specs.Values.Meaning.{Naming}
 use Rattle.go_model.specs.Outline.{Outline, declared_at, named_by, path_at}
 use Rattle.go_model.specs.LineOrder.{AreInOrder}
-use Rattle.go_model.specs.Report.{DefinedData, constant, imported, WhatData, defined, used, expression, LineData, NamedData}
-use Rattle.go_model.specs.Outcomes.Records.{HeaderData, RecData, constant as ConstantHeader}
+use Rattle.go_model.specs.Members.{Member, members_of}
+use Rattle.go_model.specs.Report.{DefinedData, alias, constant, definition, field, function, imported, variable, WhatData, defined, used, expression, LineData, NamedData}
+use Rattle.go_model.specs.Outcomes.Records as headers
+use Rattle.go_model.specs.Outcomes.Records.{HeaderData, RecData}
 use Rattle.go_model.specs.Outcomes.Judged.{OutcomeData}
 use Rattle.go_model.specs.Outcomes.Walk.{Headers, outcome}
 use Rattle.go_model.specs.Values.Records.{header_by, record_by}
@@ -48,22 +51,45 @@ import_defs_in outline stub f place parts = []
 abbrev pub import_defs : Outline → Bool → FileData → Importing → List LineData
 import_defs outline stub f i = import_defs_in outline stub f i.imported (parts_of i.spec)
 
--- what a declaration is told as, by its header; that of a kind that is not built yet is not told
-abbrev pub told_as : HeaderData → Option DefinedData
-told_as (ConstantHeader type value) = Some (constant type value)
-told_as header = None
+-- what the declaration of this object is told as, by its header; a function is not built yet, and is not told
+abbrev pub told_as : ObjId → HeaderData → Option DefinedData
+told_as d (headers.constant type value) = Some (constant type value)
+told_as d (headers.variable type) = Some (variable type)
+told_as d (headers.func params type) = None
+told_as d (headers.definition params right methods) = Some (definition (made (named d) no_parts) right)
+told_as d (headers.alias type) = Some (alias type)
 
 -- by whatever says which outcome a node has
 abbrev pub def_by : (Tree → OutcomeData RecData) → Bool → FileData → Declaration → List LineData
 def_by outcome stub f d =
-    option_map_or (λ kind. line_at stub f (start_of d.name) (defined (name_text d.name) kind) ∷ []) (option_and_then told_as (header_by outcome d)) []
+    option_map_or (λ kind. line_at stub f (start_of d.name) (defined (name_text d.name) kind) ∷ []) (option_and_then (told_as (number_of d)) (header_by outcome d)) []
 
 abbrev pub declaration_defs : Bool → FileData → Naming → Headers → Declaration → List LineData
 declaration_defs stub f naming headers d = def_by (outcome naming headers) stub f d
 
+-- the names that a node declares, where it is a type literal
+abbrev pub members_by : (Tree → OutcomeData RecData) → Tree → List Member
+members_by outcome t = option_map_or (members_of t) (option_and_then (λ r. r.type) (record_by outcome t)) []
+
+abbrev pub member_def : Bool → FileData → Member → LineData
+member_def stub f m = line_at stub f (start_of m.0) (defined (name_text m.0) m.1)
+
+abbrev pub member_defs_by : (Tree → OutcomeData RecData) → Bool → FileData → Tree → List LineData
+member_defs_by outcome stub f t = map (member_def stub f) (members_by outcome t)
+
+abbrev pub member_defs : Bool → FileData → Naming → Headers → Tree → List LineData
+member_defs stub f naming headers t = member_defs_by (outcome naming headers) stub f t
+
+-- all nodes of a file's specs that can have records, but those of copies
+abbrev pub written_nodes : ℕ → FileData → List Tree
+written_nodes file f = flat_map expressions_in_parts (written (specs_in_file file f.tree))
+
+-- those of imports, of declarations, and of members of types
 abbrev pub defs_in : Outline → Bool → Naming → Headers → ℕ → FileData → List Importing → List LineData
 defs_in outline stub naming headers file f imports =
-    flat_map (import_defs outline stub f) imports ++ flat_map (declaration_defs stub f naming headers) (declarations_in (specs_in_file file f.tree))
+    flat_map (import_defs outline stub f) imports
+    ++ (flat_map (declaration_defs stub f naming headers) (declarations_in (specs_in_file file f.tree))
+    ++ flat_map (member_defs stub f naming headers) (written_nodes file f))
 
 -- those of each of these files, of which the first has this place
 abbrev pub defs_from : Outline → Bool → Naming → Headers → ℕ → List FileData → List (List Importing) → List (List LineData)
@@ -94,14 +120,19 @@ abbrev pub record_line : Bool → FileData → ℕ → ℕ → Option RecData �
 record_line stub f from to found =
     option_map_or (λ r. line_at stub f from (expression (record { line = line_of f.bytes to; col = column_of f.bytes to }) r.mode r.type r.value) ∷ []) found []
 
+-- where an expression or a type ends: the type `*E` of an embedded field before its tag
+abbrev pub expr_end : Tree → ℕ
+expr_end (branch id from to EmbeddedPointer text (more_trees type tag)) = end_of type
+expr_end t = end_of t
+
 abbrev pub expr_by : (Tree → OutcomeData RecData) → Bool → FileData → Tree → List LineData
-expr_by outcome stub f t = record_line stub f (start_of t) (end_of t) (record_by outcome t)
+expr_by outcome stub f t = record_line stub f (start_of t) (expr_end t) (record_by outcome t)
 
 abbrev pub expr_at : Bool → FileData → Naming → Headers → Tree → List LineData
 expr_at stub f naming headers t = expr_by (outcome naming headers) stub f t
 
 abbrev pub exprs_in : Bool → Naming → Headers → ℕ → FileData → List LineData
-exprs_in stub naming headers file f = flat_map (expr_at stub f naming headers) (flat_map expressions_in_parts (written (specs_in_file file f.tree)))
+exprs_in stub naming headers file f = flat_map (expr_at stub f naming headers) (written_nodes file f)
 
 abbrev pub exprs_from : Bool → Naming → Headers → ℕ → List FileData → List (List LineData)
 exprs_from stub naming headers file [] = []
@@ -135,9 +166,17 @@ abbrev pub objects_in_some : Option TypeData → List ObjId
 objects_in_some None = []
 objects_in_some (Some type) = objects_in_type type
 
+abbrev pub objects_in_defined : DefinedData → List ObjId
+objects_in_defined (constant type value) = objects_in_type type
+objects_in_defined (definition type right) = objects_in_type type ++ objects_in_type right
+objects_in_defined (alias type) = objects_in_type type
+objects_in_defined (variable type) = objects_in_type type
+objects_in_defined (field type) = objects_in_type type
+objects_in_defined (function type) = objects_in_type type
+objects_in_defined (imported path) = []
+
 abbrev pub objects_in_what : WhatData → List ObjId
-objects_in_what (defined name (constant type value)) = objects_in_type type
-objects_in_what (defined name (imported path)) = []
+objects_in_what (defined name kind) = objects_in_defined kind
 objects_in_what (used name declared) = []
 objects_in_what (expression end mode type value) = objects_in_some type
 

@@ -1,12 +1,15 @@
 -- The phases of the check of a module whose files are read; Package initialization (Go specification).
 -- Decides which report a module has. The packages are taken in import order; of each the first phase that
--- breaks a rule ends it, names before values. What the phases before break: `Loading` of go_load; names:
--- `Names` of go_module; values: `Rules`; the lines of an accepted package: `PackageLines`. Files are known by
--- their numbers, which differ in each module that is loaded.
-use Rattle.std.specs.Prelude.{◌≡◌, ℕ, ◌+◌, ◌↔◌, Bool, true, false, None, Some, List, [], ◌∷◌, ◌++◌, map}
+-- breaks a rule ends it: names, then type declarations that lead back to themselves, then values. What the phases
+-- before break: `Loading` of go_load; names: `Names` of go_module; type declarations: `Shapes` of go_cycles; values:
+-- `Rules`; the lines of an accepted package: `PackageLines`. What a type contains by value (`ByValue`) is not asked yet.
+-- Files are known by their numbers, which differ in each module that is loaded.
+use Rattle.std.specs.Prelude.{◌≡◌, ℕ, ◌+◌, ◌↔◌, Bool, true, false, Option, None, Some, List, [], ◌∷◌, ◌++◌, map}
 use Rattle.std.specs.List.{list_all}
 use Rattle.std.specs.Map.{lookup}
+use Rattle.go_base.specs.declared.ids.ObjId.{ObjId}
 use Rattle.go_base.specs.declared.rule.Broken.{Broken}
+use Rattle.go_tree.specs.declared.node.NodeId.{NodeId}
 use Rattle.go_module.specs.Names.Declarations.{Declaration, declarations_of}
 use Rattle.go_module.specs.Order.{IsListOf}
 use Rattle.go_model.specs.Values.Headers.{Known}
@@ -22,6 +25,7 @@ use Rattle.go_model.specs.Report.{LineData, VerdictData, accepted, refused, skip
 use Rattle.go_model.specs.Values.Rules.{broken_values}
 use Rattle.go_module.specs.Scopes.{same_node}
 use Rattle.go_model.specs.Values.Waiting.{Chain}
+use Rattle.go_cycles.specs.Shapes.{AreShapes}
 use Rattle.go_module.specs.Names.Rules.BrokenNames.{broken_names}
 use Rattle.go_module.specs.Names.Imports.{known_in}
 
@@ -31,21 +35,32 @@ pub record HasHeaders (before : Headers) (naming : Naming) (declarations : List 
   pub known : (d : ℕ) (h : HeaderData) → (headers d ≡ Some h) ↔ Known before naming declarations d h
   pub is_cyclic : (d : ℕ) → (cyclic d ≡ true) ↔ Chain naming declarations headers d d
 
+-- what identifiers of the package at a place denote
+abbrev pub denoted_in : ModuleData → ℕ → PackageData → NodeId → Option ObjId
+denoted_in m k p id = lookup (same_node id) (uses_table m k p)
+
+-- what the type declarations of a package whose names are sound break by these alone, as one list
+pub record BreaksShapes (m : ModuleData) (k : ℕ) (p : PackageData) (list : List Broken) : Type 0 where
+  pub sound_names : broken_names (known_in m) k p ≡ []
+  pub are_shapes : AreShapes (denoted_in m k p) p list
+
 -- what the values of a package break, as one list
 pub record BreaksValues (m : ModuleData) (k : ℕ) (p : PackageData) (before headers : Headers) (list : List Broken) : Type 0 where
-  pub sound_names : broken_names (known_in m) k p ≡ []
+  pub sound_shapes : BreaksShapes m k p []
   pub cyclic : ℕ → Bool
   pub has_headers : HasHeaders before (names_in m k p) (declarations_of p) headers cyclic
   pub is_list : IsListOf (broken_values (names_in m k p) headers cyclic p) list
 
 -- the lines of the package at a place, over these headers
 abbrev pub ArePackageLines : ModuleData → ℕ → PackageData → Headers → List LineData → Type 0
-ArePackageLines m k p headers lines = AreLines (outline_of m) k p (λ id. lookup (same_node id) (uses_table m k p)) (names_in m k p) headers lines
+ArePackageLines m k p headers lines = AreLines (outline_of m) k p (denoted_in m k p) (names_in m k p) headers lines
 
 -- the verdict on the package at a place, whose imports are accepted, and the headers that are known behind it: those of
--- a package whose names are sound too, accepted or not
+-- a package whose names and type declarations are sound too, accepted or not
 pub data IsVerdict (m : ModuleData) (k : ℕ) (p : PackageData) (before : Headers) : VerdictData → Headers → Type 0 where
   by_names : (b : Broken) (bs : List Broken) → IsListOf (broken_names (known_in m) k p) (b ∷ bs)
+      → IsVerdict m k p before (refused (map (placed_by p) (b ∷ bs))) before
+  by_shapes : (b : Broken) (bs : List Broken) → BreaksShapes m k p (b ∷ bs)
       → IsVerdict m k p before (refused (map (placed_by p) (b ∷ bs))) before
   by_values : (headers : Headers) (b : Broken) (bs : List Broken) → BreaksValues m k p before headers (b ∷ bs)
       → IsVerdict m k p before (refused (map (placed_by p) (b ∷ bs))) headers

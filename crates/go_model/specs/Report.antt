@@ -11,7 +11,7 @@ use Rattle.go_term.specs.View.{type_of}
 use Rattle.go_module.specs.declared.places.At.{At}
 use Rattle.go_module.specs.declared.places.Placed.{Placed}
 use Rattle.go_model.specs.declared.lines.DefKind.{DefKind}
-use Rattle.go_model.specs.declared.lines.DefKind.TheVariants.{Const, Package}
+use Rattle.go_model.specs.declared.lines.DefKind.TheVariants.{Alias, Const, Defined, Field, Func, Package, Var}
 use Rattle.go_model.specs.declared.lines.Line.{Line}
 use Rattle.go_model.specs.declared.lines.NamedObject.{NamedObject}
 use Rattle.go_model.specs.declared.lines.What.{What}
@@ -22,9 +22,16 @@ use Rattle.go_model.specs.declared.report.Report.{Report}
 use Rattle.go_model.specs.declared.report.Verdict.{Verdict}
 use Rattle.go_model.specs.declared.report.Verdict.TheVariants.{Accepted, Refused, Skipped}
 
--- what a name is declared as: a constant, with its type and value; the name of a package, with its path
+-- what a name is declared as
 pub data DefinedData : Type 0 where
+  -- a constant: its type and its value
   constant : TypeData → Value → DefinedData
+  -- a defined type, and what stands behind its name; an alias: the type for which it stands
+  definition : TypeData → TypeData → DefinedData
+  alias : TypeData → DefinedData
+  -- a variable, a parameter or a result; a field; a method of an interface: its type
+  variable field function : TypeData → DefinedData
+  -- the name of a package: its path
   imported : List ℕ → DefinedData
 
 -- what a line says: a name, and what it is declared as; a name, and where what it denotes is declared, none in the
@@ -70,6 +77,11 @@ pub record ReportData : Type 0 where
 -- what the values of the program stand for
 abbrev pub defined_view : DefKind → DefinedData
 defined_view (Const type value) = constant (type_of type) value
+defined_view (Defined type right) = definition (type_of type) (type_of right)
+defined_view (Alias type) = alias (type_of type)
+defined_view (Var type) = variable (type_of type)
+defined_view (Field type) = field (type_of type)
+defined_view (Func type) = function (type_of type)
 defined_view (Package path) = imported path
 
 abbrev pub what_view : What → WhatData

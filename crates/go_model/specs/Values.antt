@@ -7,3 +7,4 @@ pub mod HeadersView
 pub mod Quests
 pub mod Waiting
 pub mod Rules
+pub mod ByValue

@@ -48,6 +48,16 @@ pub enum What {
 pub enum DefKind {
     /// a constant, with its type and value
     Const(Term, Value),
+    /// a defined type, and the type behind its name
+    Defined(Term, Term),
+    /// an alias, with the type for which it stands
+    Alias(Term),
+    /// a variable, a parameter or a result, with its type
+    Var(Term),
+    /// a field of a struct, with its type
+    Field(Term),
+    /// a method of an interface, with its type
+    Func(Term),
     /// the name of an import, with the path of its package
     Package(Name),
 }

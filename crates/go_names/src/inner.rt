@@ -141,8 +141,8 @@ fn push_types<'a>(parts: &'a [Node], inner: &mut Vec<&'a Node>) -> Result<(), No
     }
 }
 
-// Whether some part is a parameter with a name and a type.
-fn has_named(parts: &[Node]) -> bool
+/// Whether some part is a parameter with a name and a type.
+pub fn has_named(parts: &[Node]) -> bool
     ensures { result ≡ list_any (λ part. spec.is_named_param (kind_of (tree_of part))) parts.now }
 {
     parts.iter().any(|part| is_named_param(part))
@@ -166,19 +166,22 @@ fn is_name(node: &Node) -> bool
     matches!(node.kind(), NodeKind::Name)
 }
 
-fn is_tag(node: &Node) -> bool
+/// Whether a node is the tag of a field.
+pub fn is_tag(node: &Node) -> bool
     ensures { result ≡ spec.is_tag_kind (kind_of (tree_of node.now)) }
 {
     matches!(node.kind(), NodeKind::StringLit)
 }
 
-fn is_named_param(node: &Node) -> bool
+/// Whether a node is a parameter with a name and a type.
+pub fn is_named_param(node: &Node) -> bool
     ensures { result ≡ spec.is_named_param (kind_of (tree_of node.now)) }
 {
     matches!(node.kind(), NodeKind::Param | NodeKind::VariadicParam)
 }
 
-fn is_unnamed_param(node: &Node) -> bool
+/// Whether a node is a parameter that is written as one type, or as one identifier.
+pub fn is_unnamed_param(node: &Node) -> bool
     ensures { result ≡ spec.is_unnamed_param (kind_of (tree_of node.now)) }
 {
     matches!(node.kind(), NodeKind::UnnamedParam)

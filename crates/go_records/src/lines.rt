@@ -2,9 +2,10 @@
 ghost use Rattle.std.specs.Prelude.{◌≡◌, [], ◌++◌, ◌∷◌, OnOk, codes, map, option_map};
 ghost use Rattle.std.specs.List.{flat_map, join_with_byte};
 ghost use Rattle.go_term.specs.View.{type_of};
-ghost use Rattle.go_model.specs.Report.{defined, used, defined_view, line_view, named_view, package_view};
+ghost use Rattle.go_model.specs.Report.{constant, defined, defined_view, definition, imported, line_view, named_view, package_view, used};
 ghost use Rattle.go_model.specs.Text.Lines.{broken_fields, line_fields, line_text, mode_text, module_fields, package_fields, type_fields, value_fields, what_fields};
 ghost use Rattle.go_model.specs.Text.Places.{end_text, place_text};
+ghost use Rattle.go_model.specs.Text.Types.{type_text};
 
 use crate::fields::{put_field, put_fields, put_line};
 use crate::places::{declared_text, end_text, place_text};
@@ -87,32 +88,112 @@ fn put_def(
 ) -> Result<(), AllocError>
     ensures { OnOk result (out.new.items ≡ out.old.items ++ line_text (what_fields (map named_view named.now) at.now (defined name.now (defined_view kind.now)))) }
 {
-    let at = place_text(alloc, at)?;
     match kind {
-        DefKind::Const(term, value) => {
-            let term = type_text(alloc, named, term)?;
-            let value = value_text(alloc, value)?;
-            let fields = [
-                b"def",
-                at.as_bytes(),
-                name.as_bytes(),
-                b"const",
-                term.as_slice(),
-                value.as_slice(),
-            ];
-            put_line(out, &fields)
-        }
-        DefKind::Package(path) => {
-            let fields = [
-                b"def",
-                at.as_bytes(),
-                name.as_bytes(),
-                b"package",
-                path.as_bytes(),
-            ];
-            put_line(out, &fields)
-        }
+        DefKind::Const(term, value) => put_const(alloc, out, named, at, name, term, value),
+        DefKind::Defined(term, right) => put_defined(alloc, out, named, at, name, term, right),
+        DefKind::Alias(term) => put_typed(alloc, out, named, at, name, b"alias", term),
+        DefKind::Var(term) => put_typed(alloc, out, named, at, name, b"var", term),
+        DefKind::Field(term) => put_typed(alloc, out, named, at, name, b"field", term),
+        DefKind::Func(term) => put_typed(alloc, out, named, at, name, b"func", term),
+        DefKind::Package(path) => put_imported(alloc, out, at, name, path),
     }
+}
+
+// A constant, with its type and its value.
+fn put_const(
+    alloc: Global,
+    out: &mut Vec<u8>,
+    named: &[NamedObject],
+    at: &At,
+    name: &Name,
+    term: &Term,
+    value: &Value,
+) -> Result<(), AllocError>
+    ensures { OnOk result (out.new.items ≡ out.old.items ++ line_text (what_fields (map named_view named.now) at.now (defined name.now (constant (type_of term.now) value.now)))) }
+{
+    let at = place_text(alloc, at)?;
+    let term = type_text(alloc, named, term)?;
+    let value = value_text(alloc, value)?;
+    let fields = [
+        b"def",
+        at.as_bytes(),
+        name.as_bytes(),
+        b"const",
+        term.as_slice(),
+        value.as_slice(),
+    ];
+    put_line(out, &fields)
+}
+
+// A defined type, with its type and that behind its name.
+fn put_defined(
+    alloc: Global,
+    out: &mut Vec<u8>,
+    named: &[NamedObject],
+    at: &At,
+    name: &Name,
+    term: &Term,
+    right: &Term,
+) -> Result<(), AllocError>
+    ensures { OnOk result (out.new.items ≡ out.old.items ++ line_text (what_fields (map named_view named.now) at.now (defined name.now (definition (type_of term.now) (type_of right.now))))) }
+{
+    let at = place_text(alloc, at)?;
+    let term = type_text(alloc, named, term)?;
+    let right = type_text(alloc, named, right)?;
+    let fields = [
+        b"def",
+        at.as_bytes(),
+        name.as_bytes(),
+        b"type",
+        term.as_slice(),
+        right.as_slice(),
+    ];
+    put_line(out, &fields)
+}
+
+// What is declared as this word says, with its type.
+fn put_typed(
+    alloc: Global,
+    out: &mut Vec<u8>,
+    named: &[NamedObject],
+    at: &At,
+    name: &Name,
+    word: &[u8],
+    term: &Term,
+) -> Result<(), AllocError>
+    ensures { OnOk result (out.new.items ≡ out.old.items ++ line_text (codes "def" ∷ place_text at.now ∷ name.now ∷ word.now ∷ type_text (map named_view named.now) (type_of term.now) ∷ [])) }
+{
+    let at = place_text(alloc, at)?;
+    let term = type_text(alloc, named, term)?;
+    let fields = [
+        b"def",
+        at.as_bytes(),
+        name.as_bytes(),
+        word,
+        term.as_slice(),
+    ];
+    put_line(out, &fields)
+}
+
+// The name of an import, with the path of its package.
+fn put_imported(
+    alloc: Global,
+    out: &mut Vec<u8>,
+    at: &At,
+    name: &Name,
+    path: &Name,
+) -> Result<(), AllocError>
+    ensures { OnOk result (out.new.items ≡ out.old.items ++ line_text (what_fields [] at.now (defined name.now (imported path.now)))) }
+{
+    let at = place_text(alloc, at)?;
+    let fields = [
+        b"def",
+        at.as_bytes(),
+        name.as_bytes(),
+        b"package",
+        path.as_bytes(),
+    ];
+    put_line(out, &fields)
 }
 
 // A name that denotes an object.

@@ -66,6 +66,22 @@ fn two_bytes(alloc: Global) -> Result<Line, NoMemory> {
     })
 }
 
+fn defined(alloc: Global) -> Result<Line, NoMemory> {
+    let own = Term::Named(DECLARED, Vec::new(alloc));
+    let kind = DefKind::Defined(own, Term::Basic(Basic::Uint8));
+    Ok(Line {
+        at: at(alloc, 5, 2)?,
+        what: What::Def(name(alloc, "T")?, kind),
+    })
+}
+
+fn field(alloc: Global) -> Result<Line, NoMemory> {
+    Ok(Line {
+        at: at(alloc, 6, 3)?,
+        what: What::Def(name(alloc, "f")?, DefKind::Field(Term::Basic(Basic::Int))),
+    })
+}
+
 fn used(alloc: Global) -> Result<Line, NoMemory> {
     Ok(Line {
         at: at(alloc, 3, 9)?,
@@ -87,6 +103,8 @@ fn records(alloc: Global) -> Result<Records, NoMemory> {
         lines: vec![in alloc;
             seven(alloc)?,
             two_bytes(alloc)?,
+            defined(alloc)?,
+            field(alloc)?,
             used(alloc)?,
             expression(alloc)?,
         ]?,
@@ -129,6 +147,8 @@ const TEXT: &str = "module\tm\t1.21\n\
     package\tm\tp\taccepted\n\
     def\ta.go:3:7\tA\tconst\tm.T\t7\n\
     def\ta.go:4:7\tB\tconst\tstring\t\"\\\"\\x0a\"\n\
+    def\ta.go:5:2\tT\ttype\tm.T\tuint8\n\
+    def\ta.go:6:3\tf\tfield\tint\n\
     use\ta.go:3:9\tstring\tuniverse\n\
     expr\ta.go:3:13\t3:14\tconst\tm.L@a.go:5:2\t7\n\
     package\tm/q\tq\trefused\n\

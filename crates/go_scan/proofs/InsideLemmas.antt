@@ -10,7 +10,7 @@ use Rattle.go_tree.proofs.ByteLemmas.{range_cons, range_length}
 use Rattle.go_scan.proofs.LiteralCharacterLemmas.{character_from, not_itself, backslash, in_range}
 use Rattle.go_scan.proofs.QuotedLemmas.{rune_quote, rune_lit_within}
 
-take_front : (m n : ℕ) (xs : List ℕ) → m ≤ n → take m (take n xs) ≡ take m xs
+pub take_front : (m n : ℕ) (xs : List ℕ) → m ≤ n → take m (take n xs) ≡ take m xs
 take_front zero n xs le = refl
 take_front (suc m) zero xs le = absurd (omega arith)
 take_front (suc m) (suc n) [] le = refl
@@ -34,9 +34,6 @@ inside_range bytes from to text is some within =
     let l = ap length is ∙ range_length bytes from to (omega arith) within in
     let n : from + (length text - 1) ≡ to - 1 = omega arith in
     (omega arith, ap (λ xs. slice_range xs 1 (length text - 1)) is ∙ range_range bytes from to 1 (length text - 1) (omega arith) (omega arith) ∙ ap (λ k. slice_range bytes (from + 1) k) n)
-
-pub rune_text : (text : List ℕ) → IsRuneText text → 2 ≤ length text
-rune_text text r = let w = rune_lit_within r.bytes r.from r.to r.lit in (inside_range r.bytes r.from r.to text r.is w.0 w.1).0
 
 range_inside : (bytes : List ℕ) (from close : ℕ) → IsCharacter 39 bytes from close → IsRuneInside (slice_range bytes from close)
 range_inside bytes from close c =

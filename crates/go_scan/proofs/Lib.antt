@@ -23,3 +23,4 @@ pub mod ValueLemmas
 pub mod InsideLemmas
 pub mod UnescapeLemmas
 pub mod StringLemmas
+pub mod StringTextLemmas

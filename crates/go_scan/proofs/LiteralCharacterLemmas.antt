@@ -188,7 +188,8 @@ range_over bytes from at n more le lt there =
     ap (λ xs. xs ++ more) (range_split bytes from at n le (omega arith) ∙ ap (λ xs. slice_range bytes from at ++ xs) (range_cons bytes at n lt there))
     ∙ append_assoc (slice_range bytes from at) (slice_index bytes at ∷ slice_range bytes (at + 1) n) more
 
-stops_none : (quote : ℕ) (bytes : List ℕ) (from at n : ℕ) → IsQuote quote → Stops (IsEscape quote) bytes from at → n ≤ length bytes → IsEscape quote (slice_range bytes from n) → ⊥
+-- where an escape stops, none is whole
+pub stops_none : (quote : ℕ) (bytes : List ℕ) (from at n : ℕ) → IsQuote quote → Stops (IsEscape quote) bytes from at → n ≤ length bytes → IsEscape quote (slice_range bytes from n) → ⊥
 stops_none quote bytes from at n q s within h =
     let le = s.behind in
     let some = escape_some quote bytes from n h in

@@ -8,3 +8,4 @@ pub mod Digits
 pub mod Blame
 pub mod Lists
 pub mod Quoted
+pub mod StringTexts

@@ -116,9 +116,9 @@ pub(crate) fn character(bytes: &[u8], at: usize, quote: u8) -> Result<usize, usi
     }
 }
 
-// An escape whose backslash stands before `from`: Ok with the offset behind it, or Err with the
-// offset of the first byte that does not fit.
-fn escape(bytes: &[u8], from: usize, quote: u8) -> Result<usize, usize>
+/// An escape whose backslash stands before `from`: Ok with the offset behind it, or Err with the
+/// offset of the first byte that does not fit.
+pub(crate) fn escape(bytes: &[u8], from: usize, quote: u8) -> Result<usize, usize>
     requires quote { IsQuote quote }
     requires within { from ≤ length bytes.now }
     ensures whole { IfOk result (λ to. IsEscape quote (slice_range bytes.now from to)) }

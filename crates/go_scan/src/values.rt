@@ -5,6 +5,7 @@ ghost use Rattle.go_tree.specs.Lexical.Literals.{number_in};
 ghost use Rattle.go_tree.specs.Lexical.LiteralValues.{code_point_of, escape_len, escape_text, escape_value, inside_of, rune_lit_value, simple_value, string_lit_value, unescaped, without_returns};
 ghost use Rattle.go_scan.specs.Escapes.{base_of, count_of, is_escape_digit};
 ghost use Rattle.go_scan.specs.Quoted.{Escapes, IsEscapeText, IsRuneInside, IsRuneText, IsStringLit, piece_text};
+ghost use Rattle.go_scan.specs.StringTexts.{is_string};
 
 use crate::characters::{byte_at, char_at};
 use crate::digits::digit_value;
@@ -20,11 +21,13 @@ pub(crate) fn rune_value(text: &[u8]) -> u32
     code_point(inside(text))
 }
 
-// What stands between the quotes of a literal.
-fn inside(text: &[u8]) -> &[u8]
-    requires { 2 ≤ length text.now }
+/// What stands between the quotes of a literal; of a shorter text nothing.
+pub(crate) fn inside(text: &[u8]) -> &[u8]
     ensures { result.now ≡ inside_of text.now }
 {
+    if text.len() < 2 {
+        return &[];
+    }
     &text[1..text.len() - 1]
 }
 
@@ -122,12 +125,21 @@ pub(crate) fn string_value(
     requires { IsStringLit bytes.now from to }
     ensures { IfOk result (λ text. text ≡ string_lit_value (slice_range bytes.now from to)) }
 {
-    if byte_at(bytes, from) == b'`' {
-        let text = without_returns(alloc, part(bytes, from + 1, to - 1))?;
-        return Ok(Bytes::new(text));
+    text_value(alloc, part(bytes, from, to))
+}
+
+/// The string for which a text stands that is raw, or in which each backslash begins an escape.
+pub(crate) fn text_value(alloc: Global, text: &[u8]) -> Result<Bytes, NoMemory>
+    requires { is_string text.now ≡ true }
+    ensures { IfOk result (λ value. value ≡ string_lit_value text.now) }
+{
+    let inside = inside(text);
+    if byte_at(text, 0) == b'`' {
+        let value = without_returns(alloc, inside)?;
+        return Ok(Bytes::new(value));
     }
-    let text = unescape(alloc, bytes, from + 1, to - 1)?;
-    Ok(Bytes::new(text))
+    let value = unescape(alloc, inside, 0, inside.len())?;
+    Ok(Bytes::new(value))
 }
 
 fn part(bytes: &[u8], from: usize, to: usize) -> &[u8]

@@ -1,4 +1,4 @@
--- Names within types, as the code has them.
+-- Names within types that stand several times, as the code has them.
 use Rattle.std.specs.Prelude.{◌≡◌, ℕ, Bool, false, not, nat_lt, ◌&&◌, if◌then◌else◌, is_some, List, [], ◌∷◌, Option, None, Some, unwrap_or, count_by}
 use Rattle.std.specs.Map.{lookup}
 use Rattle.go_base.specs.declared.rule.Broken.{Broken}
@@ -8,12 +8,7 @@ use Rattle.go_module.specs.Broken.{told_if}
 use Rattle.go_module.specs.Modules.Paths.{same_text}
 use Rattle.go_module.specs.Names.Declarations.{name_text}
 use Rattle.go_module.specs.Names.Exported.{is_blank_identifier}
-use Rattle.go_module.specs.Names.Rules.MemberRules.{broken_name, type_name, unqualified}
-
--- the name of an embedded field, by its parts
-abbrev pub type_names : List Tree → List Tree
-type_names [] = []
-type_names (type ∷ tag) = unqualified (type_name type) ∷ []
+use Rattle.go_module.specs.Names.Rules.MemberRules.{broken_name}
 
 -- of what stands so many times: whether several times
 abbrev pub mark_by : ℕ → Option Bool

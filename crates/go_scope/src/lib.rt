@@ -20,7 +20,6 @@ mod resolved;
 // The rules on names.
 mod block_rules;
 mod import_rules;
-mod member_names;
 mod member_rules;
 mod occurrence_rules;
 

@@ -11,11 +11,12 @@ ghost use Rattle.go_module.specs.Names.Rules.MemberRules as rules;
 ghost use Rattle.go_names.specs.Views.{spec_view, specs_view, trees_at};
 ghost use Rattle.go_scope.specs.Members.{AreMarks, several_by, with_mark};
 
-use crate::member_names::{names_of_fields, names_of_lists, names_of_methods};
 use crate::rules::{REPEATED_MEMBER, REPEATED_NAME};
 use go_base::{Broken, Name, NoMemory, Rule};
 use go_module::{add_if, broken_at, part_list};
-use go_names::{Spec, is_blank_identifier, name_of, nodes_in};
+use go_names::{
+    Spec, is_blank_identifier, name_of, names_of_fields, names_of_lists, names_of_methods, nodes_in,
+};
 use go_tree::{Node, NodeKind};
 use indexmap::IndexMap;
 use std::alloc::Global;

@@ -14,7 +14,7 @@ use Rattle.go_model.specs.declared.declared_object.DeclaredObject.{DeclaredObjec
 use Rattle.go_model.specs.Outcomes.Judged.{OutcomeData}
 use Rattle.go_model.specs.Outcomes.Records.{RecData}
 use Rattle.go_model.specs.Outline.{Outline, declared_by}
-use Rattle.go_model.specs.PackageLines.{def_by, expr_by, import_defs_in, occurrence_uses, written}
+use Rattle.go_model.specs.PackageLines.{def_by, expr_by, import_defs_in, member_defs_by, occurrence_uses, written}
 use Rattle.go_model.specs.Report.{LineData}
 use Rattle.go_names.specs.Views.{specs_view, trees_at}
 use Rattle.go_check.specs.declared.own_file.OwnFile.{OwnFile}
@@ -68,7 +68,9 @@ import_lines outline f pairs = flat_map (λ pair. import_defs_in outline f.stub 
 
 abbrev pub def_lines : Outline → (Tree → OutcomeData RecData) → OwnFileData → List LineData
 def_lines outline outcome f =
-    import_lines outline f (zip f.imports f.packages) ++ flat_map (def_by outcome f.stub f.file) (declarations_in f.specs)
+    import_lines outline f (zip f.imports f.packages)
+    ++ (flat_map (def_by outcome f.stub f.file) (declarations_in f.specs)
+    ++ flat_map (member_defs_by outcome f.stub f.file) (flat_map expressions_in_parts (written f.specs)))
 
 abbrev pub use_lines : Outline → (NodeId → Option ObjId) → OwnFileData → List LineData
 use_lines outline denotes f = flat_map (occurrence_uses outline f.stub f.file denotes) (flat_map names_in_parts (written f.specs))

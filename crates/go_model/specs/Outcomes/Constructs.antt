@@ -1,6 +1,7 @@
 -- The constructs, a file each, in the order of the Go specification; the rules on kinds and limits that they ask.
 pub mod Array
 pub mod Slice
+pub mod Struct
 pub mod Pointer
 pub mod Function
 pub mod Interface

@@ -2,7 +2,7 @@
 -- Decides the outcome of each node of an expression or a type: its construct, by its kind, judged with the outcomes of its
 -- operands. Which nodes these are: `Operands` of go_operands. Each construct has a file of its own.
 use Rattle.std.specs.Prelude.{ℕ, Option, List, length, map}
-use Rattle.go_tree.specs.declared.node_kind.NodeKind.TheVariants.{AddExpr, ArrayType, ArrowExpr, ChanType, EmbeddedPointer, FuncType, IntLit, InterfaceType, MapType, Name, ParenExpr, SelectorExpr, SliceType, StarExpr}
+use Rattle.go_tree.specs.declared.node_kind.NodeKind.TheVariants.{AddExpr, ArrayType, ArrowExpr, ChanType, EmbeddedPointer, FuncType, IntLit, InterfaceType, MapType, Name, ParenExpr, SelectorExpr, SliceType, StarExpr, StructType}
 use Rattle.go_tree.specs.Tree.{Tree, branch, id_of, list_of, more_trees, no_trees}
 use Rattle.go_term.specs.declared.term.Dir.TheVariants.{Both, Receive, Send}
 use Rattle.go_operands.specs.Operands.{folded, operands_of}
@@ -16,9 +16,10 @@ use Rattle.go_model.specs.Outcomes.Constructs.Literal.{literal}
 use Rattle.go_model.specs.Outcomes.Constructs.MapType.{map_of}
 use Rattle.go_model.specs.Outcomes.Constructs.Name.{name}
 use Rattle.go_model.specs.Outcomes.Constructs.Parentheses.{parentheses}
-use Rattle.go_model.specs.Outcomes.Constructs.Pointer.{embedded_pointer, star}
+use Rattle.go_model.specs.Outcomes.Constructs.Pointer.{pointer_to}
 use Rattle.go_model.specs.Outcomes.Constructs.Selector.{selector}
 use Rattle.go_model.specs.Outcomes.Constructs.Slice.{slice}
+use Rattle.go_model.specs.Outcomes.Constructs.Struct.{struct_of}
 use Rattle.go_model.specs.Outcomes.Constructs.Sum.{sum}
 use Rattle.go_model.specs.Outcomes.Operands.{no_construct}
 use Rattle.go_model.specs.Outcomes.Records.{HeaderData, RecData}
@@ -37,8 +38,8 @@ construct naming (branch id from to Name text parts) = name (meaning_by naming i
 construct naming (branch id from to SelectorExpr text (more_trees operand (more_trees selected no_trees))) = selector (meaning_by naming (id_of selected))
 construct naming (branch id from to ParenExpr text parts) = parentheses
 construct naming (branch id from to AddExpr text parts) = sum
-construct naming (branch id from to StarExpr text parts) = star
-construct naming (branch id from to EmbeddedPointer text parts) = embedded_pointer
+construct naming (branch id from to StarExpr text parts) = pointer_to
+construct naming (branch id from to EmbeddedPointer text parts) = pointer_to
 construct naming (branch id from to SliceType text parts) = slice
 construct naming (branch id from to ArrayType text parts) = array
 construct naming (branch id from to MapType text parts) = map_of
@@ -46,6 +47,7 @@ construct naming (branch id from to ChanType text (more_trees (branch i f t Arro
 construct naming (branch id from to ChanType text parts) = channel Both
 construct naming (branch id from to ArrowExpr text (more_trees (branch i f t ChanType x element) parts)) = channel Receive
 construct naming (branch id from to FuncType text (more_trees signature parts)) = function (many_operands (branch id from to FuncType text (more_trees signature parts))) signature
+construct naming (branch id from to StructType text decls) = struct_of naming.home (many_operands (branch id from to StructType text decls)) (list_of decls)
 construct naming (branch id from to InterfaceType text elems) = interface_of naming.home (many_operands (branch id from to InterfaceType text elems)) (list_of elems)
 construct naming t = no_construct
 

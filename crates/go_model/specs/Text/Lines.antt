@@ -10,7 +10,7 @@ use Rattle.go_model.specs.declared.rec.Mode.{Mode}
 use Rattle.go_model.specs.declared.rec.Mode.TheVariants as M
 use Rattle.go_module.specs.declared.places.At.{At}
 use Rattle.go_module.specs.declared.places.Placed.{Placed}
-use Rattle.go_model.specs.Report.{DefinedData, constant, imported, WhatData, defined, used, expression, LineData, NamedData, VerdictData, accepted, refused, skipped, PackageReportData, ReportData}
+use Rattle.go_model.specs.Report.{DefinedData, alias, constant, definition, field, function, imported, variable, WhatData, defined, used, expression, LineData, NamedData, VerdictData, accepted, refused, skipped, PackageReportData, ReportData}
 use Rattle.go_model.specs.Text.Places.{place_text, end_text}
 use Rattle.go_model.specs.Text.Types.{type_text}
 use Rattle.go_model.specs.Text.Values.{value_text}
@@ -18,6 +18,11 @@ use Rattle.go_model.specs.Text.Values.{value_text}
 -- what a name is declared as
 abbrev pub kind_fields : List NamedData → DefinedData → List (List ℕ)
 kind_fields objects (constant type value) = codes "const" ∷ type_text objects type ∷ value_text value ∷ []
+kind_fields objects (definition type right) = codes "type" ∷ type_text objects type ∷ type_text objects right ∷ []
+kind_fields objects (alias type) = codes "alias" ∷ type_text objects type ∷ []
+kind_fields objects (variable type) = codes "var" ∷ type_text objects type ∷ []
+kind_fields objects (field type) = codes "field" ∷ type_text objects type ∷ []
+kind_fields objects (function type) = codes "func" ∷ type_text objects type ∷ []
 kind_fields objects (imported path) = codes "package" ∷ path ∷ []
 
 -- where what a name denotes is declared

@@ -16,28 +16,28 @@ use Rattle.go_check.proofs.VerdictLemmas.{refused_names}
 use Rattle.go_check.proofs.package.check_package.Goals as goal
 
 -- names that are sound have their scopes
-pub sound_here : (g : _) (c : goal.After-check_values-arg-in-Sound-2-1 g) → sound_at c.args.names.now.verdicts.items c.args.place ≡ true
+pub sound_here : (g : _) (c : goal.After-check_shapes-arg-in-Sound-2-1 g) → sound_at c.args.names.now.verdicts.items c.args.place ≡ true
 sound_here g c =
     let verdict = get_at c.args.names.now.verdicts.items c.args.place c.index.result.now (omega (arith, c.requires.within, c.requires.names.verdicts_length)) c.index.ensures in
     ap (λ o. option_map_or is_sound o false) (verdict ∙ ap Some c.in-Sound.is)
 
-pub collected_here : (g : _) (c : goal.After-check_values-arg-in-Sound-2-1 g) → IsCollected (module_view c.args.book.now.judge.«module».now) c.args.place c.args.book.now.judge.scopes.now
+pub collected_here : (g : _) (c : goal.After-check_shapes-arg-in-Sound-2-1 g) → IsCollected (module_view c.args.book.now.judge.«module».now) c.args.place c.args.book.now.judge.scopes.now
 collected_here g c = subst (IsCollected (module_view c.args.book.now.judge.«module».now) c.args.place) (sym c.requires.scopes) (c.requires.names.sound c.args.place (sound_here g c))
 
-pub check_values-requires-clause-there : goal.check_values-requires-clause-there
-check_values-requires-clause-there g c = there_at c.args.book.now.judge.«module».now c.args.place c.args.book.now.judge.scopes.now (collected_here g c)
+pub check_shapes-requires-clause-there : goal.check_shapes-requires-clause-there
+check_shapes-requires-clause-there g c = there_at c.args.book.now.judge.«module».now c.args.place c.args.book.now.judge.scopes.now (collected_here g c)
 
 pub returns-in-Sound-clause-verdict : goal.returns-in-Sound-clause-verdict
 returns-in-Sound-clause-verdict g c =
     let m = module_view c.args.book.now.judge.«module».now in
     let scopes = c.args.book.now.judge.scopes.now in
     let is = collected_here g c.before in
-    IfOk-weaker c.check_values.result _ _
+    IfOk-weaker c.check_shapes.result _ _
     (λ verdict given p at. given p at c.requires.outline (names_are c.args.book.now.judge.«module».now c.args.place scopes is p at) (sound_there c.args.book.now.judge.«module».now c.args.place scopes is p at))
-    c.check_values.ensures.verdict
+    c.check_shapes.ensures.verdict
 
 pub returns-in-Sound-clause-sound : goal.returns-in-Sound-clause-sound
-returns-in-Sound-clause-sound g c = if_ok_any c.check_values.result _ (λ verdict accepted. sound_here g c.before)
+returns-in-Sound-clause-sound g c = if_ok_any c.check_shapes.result _ (λ verdict accepted. sound_here g c.before)
 
 pub returns-in_ok-placed_list-in-Broken-clause-verdict : goal.returns-in_ok-placed_list-in-Broken-clause-verdict
 returns-in_ok-placed_list-in-Broken-clause-verdict g c = λ p there.

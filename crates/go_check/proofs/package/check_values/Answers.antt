@@ -36,7 +36,7 @@ returns-clause-verdict g c =
     let list = c.in_ok-list.list.items in
     let here = viewed_at package_view c.args.book.now.judge.«module».now.packages.items k c.index.result.now c.requires.within c.index.ensures in
     IfOk-weaker c.verdict_by.result _ _
-    (λ verdict is p at outline names sound.
+    (λ verdict is p at outline names shapes.
     let same : own ≡ p = cc (here, at) in
     let named : book_names entered.judge ≡ names_in m k p = ap (λ (s : Standing). names_at s.«module» s.scopes s.place) c.enter.ensures.standing ∙ names in
     let naming = named in
@@ -45,7 +45,7 @@ returns-clause-verdict g c =
     (subst (λ (b : HeaderMap). (headers d ≡ Some h) ↔ Known (headers_view b) (book_names entered.judge) (declarations_of p) d h) c.enter.ensures.headers (c.in_ok-list.ensures.exact p at d h)) in
     let walked = subst (λ (ms : Naming). AreWalked ms headers (nodes_of p) (outcomes_view after.walker)) naming (c.in_ok-list.ensures.nodes p at) in
     let broken = subst (λ (ms : Naming). AreBroken ms headers p list) naming (c.in_ok-list.ensures.list p at) in
-    let found = breaks m k p before headers list sound known broken in
+    let found = breaks m k p before headers list shapes known broken in
     subst (λ (q : PackageData). book_names after.judge ≡ names_in m k q → AreWalked (names_in m k q) headers (nodes_of q) (outcomes_view after.walker) → BreaksValues m k q before headers c.deref.result.now → IsVerdict m k q before (verdict_view verdict) headers) same
     (is m k before headers outline) (c.rounds.ensures.names ∙ named) walked (subst (BreaksValues m k p before headers) (sym c.deref.ensures.value) found))
     c.verdict_by.ensures

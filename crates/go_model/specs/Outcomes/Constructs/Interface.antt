@@ -1,6 +1,8 @@
 -- Interface types (Go specification).
 -- Decides what is asked of an interface with these elements in the package of this path, which has so many
--- operands: the types in the signatures of its methods and in its unions, in source order. InterfaceElem = MethodElem | TypeElem .
+-- operands: the types in the signatures of its methods and in its unions, in source order.
+-- InterfaceElem = MethodElem | TypeElem . What its elements break together, as two methods of one name, is not asked yet, nor
+-- where an interface with terms may stand.
 use Rattle.std.specs.Prelude.{ℕ, Bool, true, false, List, [], ◌∷◌, ◌++◌, drop, length, map, take}
 use Rattle.go_base.specs.declared.ids.ObjId.{ObjId}
 use Rattle.go_tree.specs.declared.node_kind.NodeKind.{NodeKind}

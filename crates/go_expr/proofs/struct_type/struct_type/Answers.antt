@@ -1,0 +1,32 @@
+use Rattle.std.proofs.Common.{List, map, sym, ap, ◌∙◌}
+use Rattle.std.proofs.lemmas.Result.{IfOk-weaker}
+use Rattle.go_tree.specs.Tree.{list_of, parts_of, tree_of}
+use Rattle.go_term.specs.Types.{TypeData, struct_type, of_list}
+use Rattle.go_model.specs.Outcomes.Constructs.Struct.{fields_in}
+use Rattle.go_expr.specs.TypeLiteral.{type_outcome, typed_outcome}
+use Rattle.go_expr.proofs.struct_type.struct_type.Goals as goal
+
+pub returns-in_ok-fields-in-Types-clause-outcome : goal.returns-in_ok-fields-in-Types-clause-outcome
+returns-in_ok-fields-in-Types-clause-outcome g c =
+    let tree = g.J.Ask.tree c.args.judge.now in
+    let headers = g.J.Ask.headers c.args.judge.now in
+    let home = (g.J.Ask.names c.args.judge.now).home in
+    let fields = list_of (parts_of (tree_of c.args.node.now)) in
+    let make = λ (ts : List TypeData). of_list struct_type (fields_in home fields ts) in
+    let type = ap (of_list struct_type) (c.in_ok-fields-in-Types.ensures.fields ∙ ap (λ ts. fields_in home fields (map tree ts)) c.deref.ensures.value) in
+    IfOk-weaker c.type_literal.result _ _
+    (λ outcome is.
+    is
+    ∙ ap (type_outcome headers) type
+    ∙ ap (typed_outcome tree headers make) (sym c.in-Types.is)
+    ∙ c.in_ok-types.ensures.typed make)
+    c.type_literal.ensures.outcome
+
+pub returns-in-Without-clause-outcome : goal.returns-in-Without-clause-outcome
+returns-in-Without-clause-outcome g c =
+    let tree = g.J.Ask.tree c.args.judge.now in
+    let headers = g.J.Ask.headers c.args.judge.now in
+    let home = (g.J.Ask.names c.args.judge.now).home in
+    let fields = list_of (parts_of (tree_of c.args.node.now)) in
+    let make = λ (ts : List TypeData). of_list struct_type (fields_in home fields ts) in
+    ap (typed_outcome tree headers make) (sym c.in-Without.is) ∙ c.in_ok-types.ensures.typed make
