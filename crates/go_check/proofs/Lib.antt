@@ -2,6 +2,7 @@ pub mod BookLemmas
 pub mod DeclaredLemmas
 pub mod ExprLemmas
 pub mod FoundLemmas
+pub mod FoundValueLemmas
 pub mod NamedLemmas
 pub mod NamesLemmas
 pub mod OrderedLemmas

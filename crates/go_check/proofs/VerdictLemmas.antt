@@ -1,13 +1,12 @@
 -- The verdict on a package, by what was found of it.
 use Rattle.std.proofs.Common.{◌≡◌, ◌≢◌, ℕ, Option, Some, List, [], ◌∷◌, map, refl, sym, ap, ◌∙◌, subst}
-use Rattle.std.specs.Prelude.{◌↔◌, slice_get}
+use Rattle.std.specs.Prelude.{slice_get}
 use Rattle.std.specs.Option.{option_map_or}
 use Rattle.go_base.specs.declared.rule.Broken.{Broken}
 use Rattle.go_base.specs.declared.ids.ObjId.{ObjId}
 use Rattle.go_tree.specs.declared.node.NodeId.{NodeId}
 use Rattle.go_module.specs.declared.module.Module.{Module}
 use Rattle.go_module.specs.Modules.Module.{ModuleData, PackageData, module_view}
-use Rattle.go_module.specs.Names.Declarations.{declarations_of}
 use Rattle.go_module.specs.Names.Imports.{known_in}
 use Rattle.go_module.specs.Names.Rules.BrokenNames.{broken_names}
 use Rattle.go_module.specs.Order.{IsListOf}
@@ -17,12 +16,9 @@ use Rattle.go_model.specs.Outline.{outline_of}
 use Rattle.go_model.specs.PackageLines.{AreLines}
 use Rattle.go_model.specs.Phases.{ArePackageLines, BreaksShapes, BreaksValues, IsVerdict, by_names, by_shapes, by_values, denoted_in, sound}
 use Rattle.go_model.specs.Report.{VerdictData, refused}
-use Rattle.go_model.specs.Values.Headers.{Known}
 use Rattle.go_model.specs.Values.Meaning.{names_in, no_names}
-use Rattle.go_model.specs.Outcomes.Records.{HeaderData}
 use Rattle.go_model.specs.Outcomes.Walk.{Headers}
 use Rattle.go_scope.specs.Collecting.{IsBrokenNames}
-use Rattle.go_decl.specs.Broken.{AreBroken}
 use Rattle.go_cycles.specs.Shapes.{AreShapes, denoted_by}
 use Rattle.go_check.specs.Packages.Book.{home_at, names_at, scope_names}
 use Rattle.go_check.specs.Packages.Verdicts.{IsAccepting}
@@ -43,17 +39,6 @@ shapes_here «module» scopes k p own s list at same names unbroken shapes =
     }
 
 module _ (m : ModuleData) (k : ℕ) (p : PackageData) (before : Headers) where
-  -- what the values break
-  pub breaks : (headers : Headers) (list : List Broken) → BreaksShapes m k p []
-      → ((d : ℕ) (h : HeaderData) → (headers d ≡ Some h) ↔ Known before (names_in m k p) (declarations_of p) d h)
-      → AreBroken (names_in m k p) headers p list → BreaksValues m k p before headers list
-  breaks headers list shapes known broken = record {
-    sound_shapes = shapes;
-    cyclic = broken.cyclic;
-    has_headers = record { known = known; is_cyclic = broken.is_cyclic };
-    is_list = broken.is_list;
-  }
-
   -- no rule is broken
   pub sound_verdict : (headers : Headers) (denotes : NodeId → Option ObjId) (list : List Broken) (verdict : VerdictData) → BreaksValues m k p before headers list → list ≡ []
       → denotes ≡ denoted_in m k p

@@ -30,6 +30,7 @@ mod uses;
 // Reports.
 mod module;
 mod package;
+mod values;
 
 pub use module::check_module;
 pub use module_judge::ModuleJudge;

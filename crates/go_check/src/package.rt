@@ -24,9 +24,9 @@ use crate::outline::Outline;
 use crate::own_file::own_files;
 use crate::places::placed_list;
 use crate::rulebook::Rulebook;
+use crate::values::broken_values;
 use go_base::{Broken, NoMemory, Steps};
 use go_cycles::shapes;
-use go_decl::rounds;
 use go_model::{Headers, Records, Verdict};
 use go_module::{Package, breaks_none};
 use std::alloc::Global;
@@ -136,7 +136,7 @@ fn check_values<L: Ledger>(
     let module = book.judge.module;
     let scopes = book.judge.scopes;
     book.enter(alloc, place);
-    let list = rounds(alloc, book, known, place, module, scopes, steps)?;
+    let list = broken_values(alloc, book, known, place, module, scopes, steps)?;
     verdict_by(alloc, outline, book, &module.packages[place], &list)
 }
 

@@ -1,45 +1,131 @@
--- Source file organization; Declarations and scope; Constant declarations; Import declarations;
+-- Source file organization; Import declarations; Constant declarations; Variable declarations; Type declarations;
 -- Qualified identifiers; Expressions (Go specification).
--- Decides which forms of a file are built. It is no rule of Go.
-use Rattle.std.specs.Prelude.{Bool, true, false}
+-- Decides which forms of a file are built, by what they stand for: which parts such a node has, and what they stand for.
+-- It is no rule of Go. What stands in a part is left to `Unbuilt`.
 use Rattle.go_tree.specs.declared.node_kind.NodeKind.{NodeKind}
-use Rattle.go_tree.specs.declared.node_kind.NodeKind.TheVariants.{File, ImportDecl, ImportGroup, ConstDecl, ConstGroup, ConstSpec, VarDecl, VarGroup, TypeDecl, TypeGroup, IdentList, ExprList, Name, IntLit, FloatLit, ParenExpr, SelectorExpr, AddExpr}
-use Rattle.go_tree.specs.Tree.{Tree, branch, Trees, no_trees, more_trees}
-use Rattle.go_tree.specs.Grammar.Trees.TypeTrees.{is_name}
+use Rattle.go_tree.specs.declared.node_kind.NodeKind.TheVariants as k
+use Rattle.go_tree.specs.Tree.{Trees, no_trees, more_trees, kind_of}
+use Rattle.go_form.specs.declared.parts.Parts.{Parts}
+use Rattle.go_form.specs.declared.parts.Parts.TheVariants.{NotBuilt, AnyParts, NoParts, One, Two, Three, Each, OneAndEach}
+use Rattle.go_form.specs.declared.role.Role.{Role}
+use Rattle.go_form.specs.declared.role.Role.TheVariants.{AnyType, ConstSpec, Declaration, ChannelElement, Expression, ExpressionList, FieldDecl, Identifier, IdentifierList, InterfaceElem, ParameterDecl, Parameters, ReceiveChannel, Results, Signature, SourceFile, Tag, TypeSpec, Unbuilt, VarSpec}
+use Rattle.go_form.specs.BuiltTypes.{literal_parts, type_parts, channel_element_parts, receive_channel_parts, signature_parts, parameters_parts, result_parts, parameter_parts, field_parts, tag_parts, interface_element_parts}
 
--- the kinds of nodes that are built, what stands in them aside
-abbrev pub is_built : NodeKind → Bool
-is_built File = true
-is_built ConstDecl = true
-is_built ConstGroup = true
-is_built ConstSpec = true
--- of these the specs are unbuilt forms: `var ( )` holds none
-is_built VarDecl = true
-is_built VarGroup = true
-is_built TypeDecl = true
-is_built TypeGroup = true
-is_built IdentList = true
-is_built ExprList = true
-is_built Name = true
-is_built IntLit = true
--- another rule speaks of it
-is_built FloatLit = true
-is_built ParenExpr = true
-is_built AddExpr = true
-is_built kind = false
+-- DECLARATIONS
 
-abbrev pub begins_with_name : Trees → Bool
-begins_with_name no_trees = false
-begins_with_name (more_trees t ts) = is_name t
+-- SourceFile = PackageClause ";" { ImportDecl ";" } { TopLevelDecl ";" } .
+abbrev pub file_parts : NodeKind → Parts
+file_parts k.File = OneAndEach Identifier Declaration
+file_parts kind = NotBuilt
 
--- the forms that are built with all that stands in them: imports, and a qualified identifier `p.X`
-abbrev pub is_built_whole : NodeKind → Trees → Bool
-is_built_whole ImportDecl parts = true
-is_built_whole ImportGroup parts = true
-is_built_whole SelectorExpr parts = begins_with_name parts
-is_built_whole kind parts = false
+-- Declaration = ConstDecl | TypeDecl | VarDecl .
+-- ConstDecl = "const" ( ConstSpec | "(" { ConstSpec ";" } ")" ) . VarDecl and TypeDecl likewise. Other rules speak of
+-- imports.
+abbrev pub declaration_parts : NodeKind → Parts
+declaration_parts k.ImportDecl = AnyParts
+declaration_parts k.ImportGroup = AnyParts
+declaration_parts k.ConstDecl = One ConstSpec
+declaration_parts k.ConstGroup = Each ConstSpec
+declaration_parts k.TypeDecl = One TypeSpec
+declaration_parts k.TypeGroup = Each TypeSpec
+declaration_parts k.VarDecl = One VarSpec
+declaration_parts k.VarGroup = Each VarSpec
+declaration_parts kind = NotBuilt
 
--- values that are written; the copy of a list that a spec omits is none
-abbrev pub is_value_list : Tree → Bool
-is_value_list (branch id from to ExprList text parts) = true
-is_value_list t = false
+-- SPECS
+
+-- those of a spec of constants whose last part is of that kind: values that are written. The copy of a list that a spec
+-- omits is none.
+abbrev pub with_values : NodeKind → Parts → Parts
+with_values k.ExprList parts = parts
+with_values kind parts = NotBuilt
+
+-- IdentifierList [ [ Type ] "=" ExpressionList ], with values. The type is not built.
+abbrev pub constant_parts : Trees → Parts
+constant_parts (more_trees names (more_trees values no_trees)) = with_values (kind_of values) (Two IdentifierList ExpressionList)
+constant_parts (more_trees names (more_trees type (more_trees values no_trees))) =
+    with_values (kind_of values) (Three IdentifierList Unbuilt ExpressionList)
+constant_parts parts = NotBuilt
+
+-- ConstSpec = IdentifierList [ [ Type ] "=" ExpressionList ] .
+abbrev pub const_spec_parts : NodeKind → Trees → Parts
+const_spec_parts k.ConstSpec parts = constant_parts parts
+const_spec_parts kind parts = NotBuilt
+
+-- those of a spec of variables whose last part is of that kind: a type, and no values
+abbrev pub with_type : NodeKind → Parts
+with_type k.ExprList = NotBuilt
+with_type kind = Two IdentifierList AnyType
+
+-- IdentifierList ( Type [ "=" ExpressionList ] | "=" ExpressionList ), with a type alone
+abbrev pub variable_parts : Trees → Parts
+variable_parts (more_trees names (more_trees type no_trees)) = with_type (kind_of type)
+variable_parts parts = NotBuilt
+
+-- VarSpec = IdentifierList ( Type [ "=" ExpressionList ] | "=" ExpressionList ) .
+abbrev pub var_spec_parts : NodeKind → Trees → Parts
+var_spec_parts k.VarSpec parts = variable_parts parts
+var_spec_parts kind parts = NotBuilt
+
+-- AliasDecl = identifier [ TypeParameters ] "=" Type . TypeDef = identifier [ TypeParameters ] Type . Type parameters are
+-- not built.
+abbrev pub type_spec_parts : NodeKind → Parts
+type_spec_parts k.AliasSpec = Two Identifier AnyType
+type_spec_parts k.TypeSpec = Two Identifier AnyType
+type_spec_parts k.GenericAliasSpec = Three Identifier Unbuilt AnyType
+type_spec_parts k.GenericTypeSpec = Three Identifier Unbuilt AnyType
+type_spec_parts kind = NotBuilt
+
+-- IdentifierList = identifier { "," identifier } .
+abbrev pub identifiers_parts : NodeKind → Parts
+identifiers_parts k.IdentList = OneAndEach Identifier Identifier
+identifiers_parts kind = NotBuilt
+
+-- ExpressionList = Expression { "," Expression } .
+abbrev pub expressions_parts : NodeKind → Parts
+expressions_parts k.ExprList = OneAndEach Expression Expression
+expressions_parts kind = NotBuilt
+
+-- EXPRESSIONS
+
+abbrev pub identifier_parts : NodeKind → Parts
+identifier_parts k.Name = NoParts
+identifier_parts kind = NotBuilt
+
+-- A type literal is built where an expression is written: another rule speaks of it, as of a floating-point literal.
+abbrev pub expression_parts : NodeKind → Trees → Parts
+-- Operand = Literal | OperandName [ TypeArgs ] | "(" Expression ")" .
+expression_parts k.IntLit parts = NoParts
+expression_parts k.FloatLit parts = NoParts
+expression_parts k.Name parts = NoParts
+-- QualifiedIdent = PackageName "." identifier .
+expression_parts k.SelectorExpr parts = Two Identifier Identifier
+expression_parts k.ParenExpr parts = One Expression
+-- Expression = UnaryExpr | Expression binary_op Expression .
+expression_parts k.AddExpr parts = Two Expression Expression
+expression_parts kind parts = literal_parts kind parts
+
+-- ALL
+
+-- the parts that a node of that kind and with these parts has where it stands for that
+abbrev pub parts_as : Role → NodeKind → Trees → Parts
+parts_as SourceFile kind parts = file_parts kind
+parts_as Declaration kind parts = declaration_parts kind
+parts_as ConstSpec kind parts = const_spec_parts kind parts
+parts_as VarSpec kind parts = var_spec_parts kind parts
+parts_as TypeSpec kind parts = type_spec_parts kind
+parts_as IdentifierList kind parts = identifiers_parts kind
+parts_as ExpressionList kind parts = expressions_parts kind
+parts_as Identifier kind parts = identifier_parts kind
+parts_as Expression kind parts = expression_parts kind parts
+parts_as AnyType kind parts = type_parts kind parts
+parts_as ChannelElement kind parts = channel_element_parts kind parts
+parts_as ReceiveChannel kind parts = receive_channel_parts kind
+parts_as Signature kind parts = signature_parts kind parts
+parts_as Parameters kind parts = parameters_parts kind
+parts_as Results kind parts = result_parts kind parts
+parts_as ParameterDecl kind parts = parameter_parts kind
+parts_as FieldDecl kind parts = field_parts kind parts
+parts_as Tag kind parts = tag_parts kind
+parts_as InterfaceElem kind parts = interface_element_parts kind
+parts_as Unbuilt kind parts = NotBuilt

@@ -10,3 +10,4 @@ pub mod BuildConstraints
 -- forms that are not built yet
 pub mod Unbuilt
 pub mod BuiltForms
+pub mod BuiltTypes

@@ -27,7 +27,7 @@ tree_at [] n lt = absurd (omega (arith, lt))
 tree_at (t ∷ ts) zero lt = (t, refl)
 tree_at (t ∷ ts) (suc n) lt = tree_at ts n (omega (arith, lt))
 
-tree_among : (ts : List Tree) (n : ℕ) (t : Tree) → slice_get ts n ≡ Some t → Contains ts t
+pub tree_among : (ts : List Tree) (n : ℕ) (t : Tree) → slice_get ts n ≡ Some t → Contains ts t
 tree_among [] n t e = absurd (let never : None ≡ Some t = e in cc)
 tree_among (u ∷ ts) zero t e = contains_head u ts t (let same : u ≡ t = (let both : Some u ≡ Some t = e in cc) in same)
 tree_among (u ∷ ts) (suc n) t e = contains_tail u ts t (tree_among ts n t e)
@@ -36,6 +36,12 @@ outcome_there : (f : Tree → OutcomeData RecData) (ts : List Tree) (n : ℕ) (t
 outcome_there f [] n t e = absurd (let never : None ≡ Some t = e in cc)
 outcome_there f (u ∷ ts) zero t e = let same : u ≡ t = (let both : Some u ≡ Some t = e in cc) in ap f same
 outcome_there f (u ∷ ts) (suc n) t e = outcome_there f ts n t e
+
+-- and what has an outcome is one of these
+pub outcome_cases : (f : Tree → OutcomeData RecData) (ts : List Tree) (n : ℕ) (x : OutcomeData RecData) → (x ≡ Nothing → ⊥) → outcome_at (map f ts) n ≡ x → (t : Tree) × Contains ts t × (f t ≡ x)
+outcome_cases f [] n x something e = absurd (something (sym e))
+outcome_cases f (t ∷ ts) zero x something e = (t, contains_head t ts t refl, e)
+outcome_cases f (t ∷ ts) (suc n) x something e = let there = outcome_cases f ts n x something e in (there.0, contains_tail t ts there.0 there.1, there.2)
 
 row_there : (f : Tree → List Tree) (ts : List Tree) (n : ℕ) (t : Tree) → slice_get ts n ≡ Some t → row_at (map f ts) n ≡ f t
 row_there f [] n t e = absurd (let never : None ≡ Some t = e in cc)
@@ -57,12 +63,12 @@ module _ (naming : Naming) where
   self_asked t = subst (λ nodes. Contains nodes t) (sym (asked_by_operands t)) (contains_head t (flat_map (row_at (map (asked_in naming) (operands_of t))) (construct naming t).operands) t refl)
 
   -- one that stands in an operand
-  record IsInside (t s : Tree) : Type 0 where
-    place : ℕ
-    operand : Tree
-    chosen : Contains (construct naming t).operands place
-    there : slice_get (operands_of t) place ≡ Some operand
-    inside : Contains (asked_in naming operand) s
+  pub record IsInside (t s : Tree) : Type 0 where
+    pub place : ℕ
+    pub operand : Tree
+    pub chosen : Contains (construct naming t).operands place
+    pub there : slice_get (operands_of t) place ≡ Some operand
+    pub inside : Contains (asked_in naming operand) s
 
   inside_asked : (t s : Tree) → IsInside t s → Contains (asked_in naming t) s
   inside_asked t s is =
@@ -71,7 +77,7 @@ module _ (naming : Naming) where
       subst (λ nodes. Contains nodes s) (sym (asked_by_operands t))
       (contains_tail t (flat_map rows (construct naming t).operands) s (flat_contains rows (construct naming t).operands is.place s is.chosen here))
 
-  asked_cases : (t s : Tree) → Contains (asked_in naming t) s → (t ≡ s) ⊎ IsInside t s
+  pub asked_cases : (t s : Tree) → Contains (asked_in naming t) s → (t ≡ s) ⊎ IsInside t s
   asked_cases t s h = by_cases (cons_cases t (flat_map rows (construct naming t).operands) s (subst (λ nodes. Contains nodes s) (asked_by_operands t) h))
     where
       rows : ℕ → List Tree

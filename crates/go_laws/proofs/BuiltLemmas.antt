@@ -1,87 +1,79 @@
--- Something is asked of what is built, where its identifiers that are asked for records denote something.
-use Rattle.std.proofs.Common.{◌≡◌, ℕ, ◌<◌, Option, Some, None, List, [], ◌∷◌, ◌++◌, ◌⊎◌, inl, inr, length, Contains, refl, subst, arith}
-use Rattle.std.proofs.lemmas.List.Elements.{Contains-append_cases}
-use Rattle.go_tree.specs.declared.node_kind.NodeKind.TheVariants.{AddExpr, IntLit, Name, ParenExpr, SelectorExpr}
+-- Something is asked of each node of what is built, where its identifiers that are asked for records denote something.
+use Rattle.std.proofs.Common.{◌≡◌, ℕ, ◌<◌, Some, List, [], ◌∷◌, ◌⊎◌, inl, inr, length, Contains, refl, arith}
+use Rattle.go_tree.specs.declared.node_kind.NodeKind.TheVariants.{AddExpr, ArrayType, ArrowExpr, ChanType, EmbeddedPointer, FuncType, IntLit, InterfaceType, MapType, Name, ParenExpr, SelectorExpr, SliceType, StarExpr, StructType}
 use Rattle.go_tree.specs.Tree.{Tree, Trees, branch, id_of, more_trees, no_trees}
 use Rattle.go_module.proofs.MemberLemmas.{cons_cases, contains_none}
 use Rattle.go_model.specs.declared.meaning.Meaning.{Meaning}
 use Rattle.go_model.specs.declared.meaning.Meaning.TheVariants.{AnyType, BasicType, Declared, DefinedType, Other, Predeclared}
-use Rattle.go_model.specs.Outcomes.Constructs.Name.{name as name_construct}
-use Rattle.go_model.specs.Outcomes.Constructs.Selector.{selector as selector_construct}
-use Rattle.go_model.specs.Outcomes.Judged.{Asks}
-use Rattle.go_model.specs.Outcomes.Operands.{none_asks, one_asks, two_ask}
+use Rattle.go_model.specs.Outcomes.Constructs.Name.{name}
+use Rattle.go_model.specs.Outcomes.Constructs.Selector.{selector}
+use Rattle.go_model.specs.Outcomes.Judged.{Asks, Construct}
+use Rattle.go_model.specs.Outcomes.Operands.{leaf, of_all, of_one, of_two}
 use Rattle.go_model.specs.Outcomes.Records.{HeaderData, RecData}
-use Rattle.go_laws.specs.BuiltTrees.{IsBuilt, IsIdentifier, identifier, integer, name, parentheses, selector, sum}
-use Rattle.go_laws.specs.Complete.{asked_in}
-use Rattle.go_model.proofs.FlatLemmas.{only_is}
+use Rattle.go_model.specs.Outcomes.Walk.{construct, many_operands}
 use Rattle.go_model.specs.Values.Meaning.{Naming, meaning_by}
+use Rattle.go_model.proofs.FlatLemmas.{only_is}
+use Rattle.go_laws.specs.BuiltTrees.{HasForm, IsBuilt}
+use Rattle.go_laws.specs.Complete.{asked_in}
 use Rattle.go_laws.proofs.Asked.{IsAsked}
-use Rattle.go_laws.proofs.ListLemmas.{in_front}
-use Rattle.go_laws.proofs.OccursLemmas.{name_alone, selector_cases}
+use Rattle.go_laws.proofs.AskedLemmas.{asked_are_expressions}
+use Rattle.go_laws.proofs.ListLemmas.{in_range}
 
--- WITH AS MANY RECORDS AS OPERANDS
+-- CONSTRUCTS BY THEIR OPERANDS: with so many of these they are there, and with as many records something is asked
 
-abbrev Something : (List RecData → Option (Asks HeaderData RecData)) → List RecData → Type 0
-Something asks records = (a : Asks HeaderData RecData) × (asks records ≡ Some a)
+record Serves (c : Construct HeaderData RecData) (many : ℕ) : Type 0 where
+  within : (n : ℕ) → Contains c.operands n → n < many
+  asks : (records : List RecData) → length records ≡ length c.operands → (a : Asks HeaderData RecData) × (c.asks records ≡ Some a)
 
-none_asked : (asks : Asks HeaderData RecData) (records : List RecData) → length records ≡ 0 → Something (none_asks asks) records
-none_asked asks [] many = (asks, refl)
-none_asked asks (x ∷ xs) many = absurd (omega (arith, many))
-
-one_asked : (asks : RecData → Asks HeaderData RecData) (records : List RecData) → length records ≡ 1 → Something (one_asks asks) records
-one_asked asks [] many = absurd (omega (arith, many))
-one_asked asks (x ∷ []) many = (asks x, refl)
-one_asked asks (x ∷ (y ∷ ys)) many = absurd (omega (arith, many))
-
-two_asked : (asks : RecData → RecData → Asks HeaderData RecData) (records : List RecData) → length records ≡ 2 → Something (two_ask asks) records
-two_asked asks [] many = absurd (omega (arith, many))
-two_asked asks (x ∷ []) many = absurd (omega (arith, many))
-two_asked asks (x ∷ (y ∷ [])) many = (asks x y, refl)
-two_asked asks (x ∷ (y ∷ (z ∷ zs))) many = absurd (omega (arith, many))
-
-name_asked : (m : Meaning) → (m ≡ Other → ⊥) → (records : List RecData) → length records ≡ length (name_construct m).operands → Something (name_construct m).asks records
-name_asked (Declared d) denotes records many = none_asked _ records many
-name_asked (DefinedType d) denotes records many = none_asked _ records many
-name_asked (BasicType d basic) denotes records many = none_asked _ records many
-name_asked (AnyType d) denotes records many = none_asked _ records many
-name_asked Predeclared denotes records many = none_asked _ records many
-name_asked Other denotes records many = absurd (denotes refl)
-
-selector_asked : (m : Meaning) (records : List RecData) → length records ≡ length (selector_construct m).operands → Something (selector_construct m).asks records
-selector_asked (Declared d) records many = none_asked _ records many
-selector_asked (DefinedType d) records many = none_asked _ records many
-selector_asked (BasicType d basic) records many = none_asked _ records many
-selector_asked (AnyType d) records many = none_asked _ records many
-selector_asked Predeclared records many = none_asked _ records many
-selector_asked Other records many = one_asked _ records many
-
--- OPERANDS ARE THERE
-
-first_within : (n : ℕ) → Contains (0 ∷ []) n → n < 1
-first_within n h = let same : 0 ≡ n = only_is 0 n h in omega (arith, same)
-
-both_within : (n : ℕ) → Contains (0 ∷ (1 ∷ [])) n → n < 2
-both_within n h = by_cases (cons_cases 0 (1 ∷ []) n h)
+leaf_serves : (asks : Asks HeaderData RecData) (many : ℕ) → Serves (leaf asks) many
+leaf_serves asks many = record { within = λ n h. absurd (contains_none n h); asks = with_none }
   where
-    by_cases : (0 ≡ n) ⊎ Contains (1 ∷ []) n → n < 2
-    by_cases (inl same) = omega (arith, same)
-    by_cases (inr there) = let same : 1 ≡ n = only_is 1 n there in omega (arith, same)
+    with_none : (records : List RecData) → length records ≡ 0 → (a : Asks HeaderData RecData) × ((leaf asks).asks records ≡ Some a)
+    with_none [] same = (asks, refl)
+    with_none (x ∷ xs) same = absurd (omega (arith, same))
 
-name_within : (m : Meaning) (n : ℕ) → Contains (name_construct m).operands n → ⊥
-name_within (Declared d) n h = contains_none n h
-name_within (DefinedType d) n h = contains_none n h
-name_within (BasicType d basic) n h = contains_none n h
-name_within (AnyType d) n h = contains_none n h
-name_within Predeclared n h = contains_none n h
-name_within Other n h = contains_none n h
+one_serves : (asks : RecData → Asks HeaderData RecData) (many : ℕ) → many ≡ 1 → Serves (of_one asks) many
+one_serves asks many is = record { within = λ n h. (let same : 0 ≡ n = only_is 0 n h in omega (arith, same, is)); asks = with_one }
+  where
+    with_one : (records : List RecData) → length records ≡ 1 → (a : Asks HeaderData RecData) × ((of_one asks).asks records ≡ Some a)
+    with_one [] same = absurd (omega (arith, same))
+    with_one (x ∷ []) same = (asks x, refl)
+    with_one (x ∷ (y ∷ ys)) same = absurd (omega (arith, same))
 
-selector_within : (m : Meaning) (n : ℕ) → Contains (selector_construct m).operands n → n < 1
-selector_within (Declared d) n h = absurd (contains_none n h)
-selector_within (DefinedType d) n h = absurd (contains_none n h)
-selector_within (BasicType d basic) n h = absurd (contains_none n h)
-selector_within (AnyType d) n h = absurd (contains_none n h)
-selector_within Predeclared n h = absurd (contains_none n h)
-selector_within Other n h = first_within n h
+two_serves : (asks : RecData → RecData → Asks HeaderData RecData) (many : ℕ) → many ≡ 2 → Serves (of_two asks) many
+two_serves asks many is = record { within = λ n h. by_place n (cons_cases 0 (1 ∷ []) n h); asks = with_two }
+  where
+    by_place : (n : ℕ) → (0 ≡ n) ⊎ Contains (1 ∷ []) n → n < many
+    by_place n (inl same) = omega (arith, same, is)
+    by_place n (inr there) = let same : 1 ≡ n = only_is 1 n there in omega (arith, same, is)
+
+    with_two : (records : List RecData) → length records ≡ 2 → (a : Asks HeaderData RecData) × ((of_two asks).asks records ≡ Some a)
+    with_two [] same = absurd (omega (arith, same))
+    with_two (x ∷ []) same = absurd (omega (arith, same))
+    with_two (x ∷ (y ∷ [])) same = (asks x y, refl)
+    with_two (x ∷ (y ∷ (z ∷ zs))) same = absurd (omega (arith, same))
+
+all_serve : (many : ℕ) (asks : List RecData → Asks HeaderData RecData) → Serves (of_all many asks) many
+all_serve many asks = record {
+  within = λ n h. (let lt = (in_range 0 many n h).1 in omega (arith, lt));
+  asks = λ records same. (asks records, refl);
+}
+
+name_serves : (m : Meaning) (many : ℕ) → (m ≡ Other → ⊥) → Serves (name m) many
+name_serves (Declared d) many denotes = leaf_serves _ many
+name_serves (DefinedType d) many denotes = leaf_serves _ many
+name_serves (BasicType d basic) many denotes = leaf_serves _ many
+name_serves (AnyType d) many denotes = leaf_serves _ many
+name_serves Predeclared many denotes = leaf_serves _ many
+name_serves Other many denotes = absurd (denotes refl)
+
+selector_serves : (m : Meaning) (many : ℕ) → many ≡ 1 → Serves (selector m) many
+selector_serves (Declared d) many is = leaf_serves _ many
+selector_serves (DefinedType d) many is = leaf_serves _ many
+selector_serves (BasicType d basic) many is = leaf_serves _ many
+selector_serves (AnyType d) many is = leaf_serves _ many
+selector_serves Predeclared many is = leaf_serves _ many
+selector_serves Other many is = one_serves _ many is
 
 -- EACH NODE
 
@@ -90,57 +82,26 @@ module _ (naming : Naming) where
   abbrev pub Denotes : Tree → Type 0
   Denotes s = (id from to : ℕ) (text : List ℕ) (parts : Trees) → s ≡ branch id from to Name text parts → meaning_by naming id ≡ Other → ⊥
 
-  -- of one node
-  node_asked : {t : Tree} → IsBuilt t → Denotes t → IsAsked naming t
-  node_asked (integer id from to text) denotes = record {
-    within = λ n h. absurd (contains_none n h);
-    asks = λ records many. none_asked _ records many;
-  }
-  node_asked (name id from to text) denotes = record {
-    within = λ n h. absurd (name_within (meaning_by naming id) n h);
-    asks = λ records many. name_asked (meaning_by naming id) (denotes id from to text no_trees refl) records many;
-  }
-  node_asked (selector id from to text x f leaf other) denotes = record {
-    within = λ n h. selector_within (meaning_by naming (id_of f)) n h;
-    asks = λ records many. selector_asked (meaning_by naming (id_of f)) records many;
-  }
-  node_asked (parentheses id from to text x built) denotes = record {
-    within = λ n h. first_within n h;
-    asks = λ records many. one_asked _ records many;
-  }
-  node_asked (sum id from to text x y left right) denotes = record {
-    within = λ n h. both_within n h;
-    asks = λ records many. two_asked _ records many;
-  }
+  form_serves : (t : Tree) → HasForm t (many_operands t) → Denotes t → Serves (construct naming t) (many_operands t)
+  form_serves (branch id from to IntLit text parts) form denotes = leaf_serves _ _
+  form_serves (branch id from to Name text parts) form denotes = name_serves (meaning_by naming id) _ (denotes id from to text parts refl)
+  form_serves (branch id from to SelectorExpr text (more_trees x (more_trees f no_trees))) form denotes = selector_serves (meaning_by naming (id_of f)) _ refl
+  form_serves (branch id from to ParenExpr text parts) form denotes = one_serves _ _ form
+  form_serves (branch id from to AddExpr text parts) form denotes = two_serves _ _ form
+  form_serves (branch id from to StarExpr text parts) form denotes = one_serves _ _ form
+  form_serves (branch id from to EmbeddedPointer text parts) form denotes = one_serves _ _ form
+  form_serves (branch id from to SliceType text parts) form denotes = one_serves _ _ form
+  form_serves (branch id from to ArrayType text parts) form denotes = two_serves _ _ form
+  form_serves (branch id from to MapType text parts) form denotes = two_serves _ _ form
+  form_serves (branch id from to ChanType text (more_trees (branch i f t ArrowExpr x element) parts)) form denotes = one_serves _ _ form
+  form_serves (branch id from to ChanType text parts) form denotes = one_serves _ _ form
+  form_serves (branch id from to ArrowExpr text (more_trees (branch i f t ChanType x element) parts)) form denotes = one_serves _ _ form
+  form_serves (branch id from to FuncType text (more_trees signature parts)) form denotes = all_serve _ _
+  form_serves (branch id from to StructType text decls) form denotes = all_serve _ _
+  form_serves (branch id from to InterfaceType text elems) form denotes = all_serve _ _
+  form_serves t form denotes = absurd form
 
-  leaf_built : {x : Tree} → IsIdentifier x → (s : Tree) → Contains (asked_in naming x) s → IsBuilt s
-  leaf_built (identifier id from to text) s h =
-      let same = name_alone naming 0 None (meaning_by naming id) (branch id from to Name text no_trees) s [] h in
-      subst IsBuilt same (name id from to text)
-
-  -- the nodes that are asked in what is built are built
-  pub asked_built : {t : Tree} → IsBuilt t → (s : Tree) → Contains (asked_in naming t) s → IsBuilt s
-  asked_built (integer id from to text) s h = subst IsBuilt (only_is (branch id from to IntLit text no_trees) s h) (integer id from to text)
-  asked_built (name id from to text) s h = leaf_built (identifier id from to text) s h
-  asked_built (selector id from to text x f leaf other) s h = by_cases (selector_cases naming 0 None (meaning_by naming (id_of f)) (meaning_by naming (id_of f)) refl (branch id from to SelectorExpr text (more_trees x (more_trees f no_trees))) s (asked_in naming x) h)
-    where
-      by_cases : (branch id from to SelectorExpr text (more_trees x (more_trees f no_trees)) ≡ s) ⊎ (Contains (asked_in naming x) s × (meaning_by naming (id_of f) ≡ Other)) → IsBuilt s
-      by_cases (inl same) = subst IsBuilt same (selector id from to text x f leaf other)
-      by_cases (inr inside) = leaf_built leaf s inside.0
-  asked_built (parentheses id from to text x built) s h = by_cases (cons_cases (branch id from to ParenExpr text (more_trees x no_trees)) (asked_in naming x ++ []) s h) (asked_built built s)
-    where
-      by_cases : (branch id from to ParenExpr text (more_trees x no_trees) ≡ s) ⊎ Contains (asked_in naming x ++ []) s → (Contains (asked_in naming x) s → IsBuilt s) → IsBuilt s
-      by_cases (inl same) inner = subst IsBuilt same (parentheses id from to text x built)
-      by_cases (inr inside) inner = inner (in_front (asked_in naming x) s inside)
-  asked_built (sum id from to text x y left right) s h = by_cases (cons_cases (branch id from to AddExpr text (more_trees x (more_trees y no_trees))) (asked_in naming x ++ (asked_in naming y ++ [])) s h) (asked_built left s) (asked_built right s)
-    where
-      by_operands : Contains (asked_in naming x) s ⊎ Contains (asked_in naming y ++ []) s → (Contains (asked_in naming x) s → IsBuilt s) → (Contains (asked_in naming y) s → IsBuilt s) → IsBuilt s
-      by_operands (inl inside) one other = one inside
-      by_operands (inr inside) one other = other (in_front (asked_in naming y) s inside)
-
-      by_cases : (branch id from to AddExpr text (more_trees x (more_trees y no_trees)) ≡ s) ⊎ Contains (asked_in naming x ++ (asked_in naming y ++ [])) s → (Contains (asked_in naming x) s → IsBuilt s) → (Contains (asked_in naming y) s → IsBuilt s) → IsBuilt s
-      by_cases (inl same) one other = subst IsBuilt same (sum id from to text x y left right)
-      by_cases (inr inside) one other = by_operands (Contains-append_cases (asked_in naming x) (asked_in naming y ++ []) s inside) one other
-
-  pub built_asked : {t : Tree} → IsBuilt t → (s : Tree) → Denotes s → Contains (asked_in naming t) s → IsAsked naming s
-  built_asked built s denotes h = node_asked (asked_built built s h) denotes
+  pub built_asked : (t : Tree) → IsBuilt t → (s : Tree) → Denotes s → Contains (asked_in naming t) s → IsAsked naming s
+  built_asked t built s denotes h =
+      let serves = form_serves s (built.forms s (asked_are_expressions naming t s h)) denotes in
+      record { within = serves.within; asks = serves.asks }

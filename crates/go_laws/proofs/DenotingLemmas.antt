@@ -1,5 +1,5 @@
--- What identifiers mean where no rule on names is broken: one that is asked for a record denotes a universe name or a
--- constant.
+-- What identifiers mean where no rule on names is broken: one that is asked for a record denotes a universe name, or an
+-- object that means something.
 use Rattle.std.proofs.Common.{◌≡◌, ℕ, Bool, true, false, not, ◌&&◌, Option, Some, None, List, [], ◌∷◌, ◌++◌, ◌⊎◌, inl, inr, map, Contains, refl, sym, ap, ◌∙◌, subst, arith}
 use Rattle.std.specs.Prelude.{is_none, is_some, if◌then◌else◌, option_and_then, slice_get}
 use Rattle.std.specs.List.{flat_map}
@@ -18,7 +18,7 @@ use Rattle.go_module.specs.declared.block.Occurrence.{Occurrence}
 use Rattle.go_module.specs.declared.block.Region.{Region}
 use Rattle.go_module.specs.declared.block.Selected.{Selected}
 use Rattle.go_module.specs.declared.object.Object.{Object}
-use Rattle.go_module.specs.declared.object.ObjKind.TheVariants.{Const, Package}
+use Rattle.go_module.specs.declared.object.ObjKind.TheVariants.{Package}
 use Rattle.go_module.specs.Modules.Module.{ModuleData, PackageData, first_number}
 use Rattle.go_module.specs.Modules.ModuleLaws.{ImportsStandBefore}
 use Rattle.go_module.specs.Names.Declarations.{Spec, specs_in_file, specs_of}
@@ -35,17 +35,17 @@ use Rattle.go_module.specs.Names.Rules.OccurrenceRules.{blank_at, blank_value, b
 use Rattle.go_module.specs.Names.Tables.{Member, member_of, members_at, occurrences_from, uses_at, uses_of}
 use Rattle.go_module.specs.Scopes.{same_object}
 use Rattle.go_module.proofs.MemberLemmas.{contains_head}
-use Rattle.go_model.specs.declared.meaning.Meaning.TheVariants.{Declared, Other}
+use Rattle.go_model.specs.declared.meaning.Meaning.TheVariants.{Other}
 use Rattle.go_model.specs.Outline.{is_predeclared}
 use Rattle.go_model.specs.Values.Meaning.{denoted_meaning, kind_meaning, meaning_by, names_in as package_names, objects_table, predeclared_meaning}
 use Rattle.go_laws.specs.BuiltTrees.{IsBuilt}
-use Rattle.go_laws.specs.Complete.{asked_in, values_in}
+use Rattle.go_laws.specs.Complete.{asked_in, parts_in}
 use Rattle.go_laws.specs.NodeNumbers.{NodeNumbersAscend, numbers_in_files}
-use Rattle.go_laws.proofs.Constants.{DeclareConstants}
+use Rattle.go_laws.proofs.Declaring.{DeclareHeaders, IsMeaning}
 use Rattle.go_laws.proofs.DenotedLemmas.{IsImported, block_no_package, exported_declared, file_imported, universal}
 use Rattle.go_laws.proofs.FileLemmas.{AtFile, at_file, spec_file}
 use Rattle.go_model.proofs.FlatLemmas.{flat_cases, flat_contains, map_contains}
-use Rattle.go_laws.proofs.KindLemmas.{IsConst, block_const, export_const, file_entry, member_entry}
+use Rattle.go_laws.proofs.KindLemmas.{HasMeaning, block_means, export_means, file_entry, member_entry}
 use Rattle.go_laws.proofs.ListLemmas.{left_is_empty, map_is_empty, none_of_each, not_told, right_is_empty}
 use Rattle.go_laws.proofs.MeantLemmas.{is_universal, predeclared_universal}
 use Rattle.go_laws.proofs.OccursLemmas.{Occurs, asked_occurs}
@@ -66,16 +66,15 @@ none_found : {X : Type 0} (o : Option X) → is_some o ≡ false → o ≡ None
 none_found None e = refl
 none_found (Some x) e = absurd (let never : true ≡ false = e in cc)
 
--- what an object means is not nothing where it is a universe name, or the table has a constant of that number
-never_other : (a : Bool) (o : Option Object) (d : ObjId) → (a ≡ true) ⊎ ((x : Object) × (o ≡ Some x) × (x.kind ≡ Const)) → (if a then predeclared_meaning d else option_map_or (λ (x : Object). kind_meaning d x.kind) o Other) ≡ Other → ⊥
+-- what an object means is not nothing where it is a universe name, or the table has one of that number that means something
+never_other : (a : Bool) (o : Option Object) (d : ObjId) → (a ≡ true) ⊎ ((x : Object) × (o ≡ Some x) × IsMeaning x.kind) → (if a then predeclared_meaning d else option_map_or (λ (x : Object). kind_meaning d x.kind) o Other) ≡ Other → ⊥
 never_other true o d fine e = let never : false ≡ true = ap is_universal (sym e) ∙ predeclared_universal d in cc
 never_other false o d (inl fine) e = let never : false ≡ true = fine in cc
-never_other false o d (inr c) e =
-    let never : Declared d ≡ Other = sym (ap (λ (x : Option Object). option_map_or (λ (y : Object). kind_meaning d y.kind) x Other) c.1 ∙ ap (kind_meaning d) c.2) ∙ e in
-    cc
+never_other false o d (inr found) e =
+    found.2 d (sym (ap (λ (x : Option Object). option_map_or (λ (y : Object). kind_meaning d y.kind) x Other) found.1) ∙ e)
 
 module _ (m : ModuleData) (k : ℕ) (p : PackageData)
-    (constants : DeclareConstants m) (up : NodeNumbersAscend m) (here : slice_get m.packages k ≡ Some p) (stand : ImportsStandBefore m)
+    (give : DeclareHeaders m) (up : NodeNumbersAscend m) (here : slice_get m.packages k ≡ Some p) (stand : ImportsStandBefore m)
     (sound : broken_names (known_in m) k p ≡ []) where
   abbrev regions : List Region
   regions = regions_of (known_in m) k p
@@ -88,16 +87,16 @@ module _ (m : ModuleData) (k : ℕ) (p : PackageData)
 
   -- what an object means is not nothing
   abbrev IsFine : ObjId → Type 0
-  IsFine d = (is_predeclared d ≡ true) ⊎ IsConst m k p d
+  IsFine d = (is_predeclared d ≡ true) ⊎ HasMeaning m k p d
 
   use_fine : (id : NodeId) (d : ObjId) → Contains (uses_of (known_in m) k p) (id, d) → IsFine d → meaning_by (package_names m k p) id.0 ≡ Other → ⊥
   use_fine id d used fine e =
       never_other (is_predeclared d) (lookup (same_object d) (objects_table m k p)) d (by_cases fine)
       (sym (ap (denoted_meaning (package_names m k p).objects) (use_found m k p (up.ascend k p here) id d used)) ∙ e)
     where
-      by_cases : IsFine d → (is_predeclared d ≡ true) ⊎ ((x : Object) × (lookup (same_object d) (objects_table m k p) ≡ Some x) × (x.kind ≡ Const))
+      by_cases : IsFine d → (is_predeclared d ≡ true) ⊎ ((x : Object) × (lookup (same_object d) (objects_table m k p) ≡ Some x) × IsMeaning x.kind)
       by_cases (inl predeclared) = inl predeclared
-      by_cases (inr const) = inr (const.object, const.found, const.kind)
+      by_cases (inr has) = inr (has.object, has.found, has.kind)
 
   -- nothing is broken
   in_files : broken_in_files (known_in m) k p ≡ []
@@ -159,14 +158,14 @@ module _ (m : ModuleData) (k : ℕ) (p : PackageData)
     }
     imported_good r h is (inr dot) =
         let declared = (exported_declared m is.place).exports r.object dot.1 in
-        no_package r (inr (export_const m k p constants here up stand is.place is.among r.object declared (file_entry m k p r h))) dot.0
+        no_package r (inr (export_means m k p give here up stand is.place is.among r.object declared (file_entry m k p r h))) dot.0
 
     good : (r : Region) → Stands block own r → IsGood r
     good r (inl in_file) =
         let h = flat_contains (file_block (known_in m)) (imports_of k p) file.imports r file.listed in_file in
         let is = file_imported (known_in m) k p r h in
         imported_good r h is is.denoted
-    good r (inr (inl in_block)) = no_package r (inr (block_const m k p constants here r in_block)) (block_no_package k p r in_block)
+    good r (inr (inl in_block)) = no_package r (inr (block_means m k p give here r in_block)) (block_no_package k p r in_block)
     good r (inr (inr in_universe)) = let is = universal r in_universe in no_package r (inl (lt-ltb r.object.at.0 first_number is.below)) is.no_package
 
     module _ (x : Occurrence) (among : Contains occurring x) (placed : x.file ≡ file.number) where
@@ -227,7 +226,7 @@ module _ (m : ModuleData) (k : ℕ) (p : PackageData)
 
         member_fine : Contains p.imports q → IsFine (object_id o)
         member_fine imported =
-            inr (export_const m k p constants here up stand q imported o ((exported_declared m q).exported s.name o found)
+            inr (export_means m k p give here up stand q imported o ((exported_declared m q).exported s.name o found)
             (member_entry m k p member (flat_contains (members_at (known_in m) regions) (occurrences_from 0 p.files) x member (file.occurs x among) member_here)))
 
       -- by itself it denotes no package
@@ -249,19 +248,19 @@ module _ (m : ModuleData) (k : ℕ) (p : PackageData)
               let found = some_found (((known_in m) q).exported s.name) (not_told (is_none (((known_in m) q).exported s.name)) (broken_at x.file s.at missing_member) missing) in
               use_fine s.id (object_id found.0) (member_use q s found.0 at selected found.1) (member_fine q s found.0 at selected found.1 ((good denoted.region denoted.stands).imported q named)) behind
 
-  asked_fine : (t : Tree) → Contains (values_in p) t → IsBuilt t → (s : Tree) → Contains (asked_in (package_names m k p) t) s → kind_of s ≡ Name → meaning_by (package_names m k p) (id_of s) ≡ Other → ⊥
+  asked_fine : (t : Tree) → Contains (parts_in p) t → IsBuilt t → (s : Tree) → Contains (asked_in (package_names m k p) t) s → kind_of s ≡ Name → meaning_by (package_names m k p) (id_of s) ≡ Other → ⊥
   asked_fine t among built s asked is e =
-      let from = flat_cases (λ (spec : Spec). spec.values) (specs_of p) t among in
+      let from = flat_cases (λ (spec : Spec). spec.types ++ spec.values) (specs_of p) t among in
       in_spec from.0 from.2 (at_file (known_in m) k is_main regions block 0 p.files p.imports from.0 from.1 files_sound)
     where
-      in_spec : (spec : Spec) → Contains spec.values t → AtFile (known_in m) k is_main regions block 0 p.files p.imports spec → ⊥
-      in_spec spec value file = by_cases (asked_occurs (package_names m k p) spec.file spec.told_at built s is asked)
+      in_spec : (spec : Spec) → Contains (spec.types ++ spec.values) t → AtFile (known_in m) k is_main regions block 0 p.files p.imports spec → ⊥
+      in_spec spec part file = by_cases (asked_occurs (package_names m k p) spec.file spec.told_at t built s is asked)
         where
           placed : spec.file ≡ file.number
           placed = spec_file file.number file.file.tree spec file.among
 
           inside : (x : Occurrence) → Contains (names_in spec.file spec.told_at t) x → Contains (occurrences_in_file file.number file.file.tree) x
-          inside x h = flat_contains names_in_parts (specs_in_file file.number file.file.tree) spec x file.among (flat_contains (names_in spec.file spec.told_at) (spec.types ++ spec.values) t x (Contains-append_right spec.types spec.values t value) h)
+          inside x h = flat_contains names_in_parts (specs_in_file file.number file.file.tree) spec x file.among (flat_contains (names_in spec.file spec.told_at) (spec.types ++ spec.values) t x part h)
 
           by_cases : Occurs (package_names m k p) spec.file spec.told_at (names_in spec.file spec.told_at t) (occurrence spec.file spec.told_at (id_of s) (start_of s) (text_of s)) → ⊥
           by_cases (inl alone) =
@@ -272,12 +271,12 @@ module _ (m : ModuleData) (k : ℕ) (p : PackageData)
               before_fine spec file x (inside x is_before.among) placed (selected_name spec.file spec.told_at is_before.selected) refl is_before.other e
 
 -- So an identifier that is asked for a record (not the name of a package before a `.`) does not mean nothing: it
--- denotes a universe name, or a constant of the package or of one that it imports.
-pub names_denote : (m : ModuleData) (k : ℕ) (p : PackageData) → DeclareConstants m → NodeNumbersAscend m → slice_get m.packages k ≡ Some p → ImportsStandBefore m
+-- denotes a universe name, or what the package declares or one that it imports exports.
+pub names_denote : (m : ModuleData) (k : ℕ) (p : PackageData) → DeclareHeaders m → NodeNumbersAscend m → slice_get m.packages k ≡ Some p → ImportsStandBefore m
     → broken_names (known_in m) k p ≡ []
-    → ((t : Tree) → Contains (values_in p) t → IsBuilt t)
-    → (t : Tree) → Contains (values_in p) t → (s : Tree) → Contains (asked_in (package_names m k p) t) s
+    → ((t : Tree) → Contains (parts_in p) t → IsBuilt t)
+    → (t : Tree) → Contains (parts_in p) t → (s : Tree) → Contains (asked_in (package_names m k p) t) s
     → (id from to : ℕ) (text : List ℕ) (parts : Trees) → s ≡ branch id from to Name text parts
     → meaning_by (package_names m k p) id ≡ Other → ⊥
-names_denote m k p constants up at stand sound built t among s asked id from to text parts is e =
-    asked_fine m k p constants up at stand sound t among (built t among) s asked (ap kind_of is) (ap (λ (r : Tree). meaning_by (package_names m k p) (id_of r)) is ∙ e)
+names_denote m k p give up at stand sound built t among s asked id from to text parts is e =
+    asked_fine m k p give up at stand sound t among (built t among) s asked (ap kind_of is) (ap (λ (r : Tree). meaning_by (package_names m k p) (id_of r)) is ∙ e)

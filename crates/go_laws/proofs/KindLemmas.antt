@@ -1,5 +1,5 @@
 -- What the table of a package's objects holds: of a declaration of the package, and of what a package that it imports
--- exports, a constant.
+-- exports, an object that means something.
 use Rattle.std.proofs.Common.{◌≡◌, ℕ, ◌<◌, Bool, true, false, cond, Option, Some, None, List, [], ◌∷◌, ◌++◌, ◌⊎◌, inl, inr, map, Contains, refl, sym, ap, ◌∙◌, subst, arith}
 use Rattle.std.specs.Prelude.{filter, if◌then◌else◌, is_some, option_and_then, slice_get}
 use Rattle.std.specs.List.{flat_map}
@@ -13,7 +13,7 @@ use Rattle.go_module.specs.declared.block.Occurrence.{Occurrence}
 use Rattle.go_module.specs.declared.block.Region.{Region}
 use Rattle.go_module.specs.declared.block.Selected.{Selected}
 use Rattle.go_module.specs.declared.object.Object.{Object}
-use Rattle.go_module.specs.declared.object.ObjKind.TheVariants.{Const, Package}
+use Rattle.go_module.specs.declared.object.ObjKind.TheVariants.{Package}
 use Rattle.go_module.specs.Modules.Module.{ModuleData, PackageData, first_number}
 use Rattle.go_module.specs.Modules.ModuleLaws.{ImportsStandBefore}
 use Rattle.go_module.specs.Names.Declarations.{Declaration, declarations_of}
@@ -31,8 +31,8 @@ use Rattle.go_model.proofs.FlatLemmas.{filter_within, find_within, flat_cases, m
 use Rattle.go_model.proofs.ThereLemmas.{object_self}
 use Rattle.go_laws.specs.NodeNumbers.{NodeNumbersAscend, numbers_in_files}
 use Rattle.go_laws.proofs.DenotedLemmas.{IsDeclaredAt, IsImported, block_declared, block_no_package, exported_declared, file_imported, universal}
-use Rattle.go_laws.proofs.Constants.{DeclareConstants}
-use Rattle.go_laws.proofs.NameNodeLemmas.{is_constant, name_there}
+use Rattle.go_laws.proofs.Declaring.{DeclareHeaders, IsMeaning}
+use Rattle.go_laws.proofs.NameNodeLemmas.{declared_means, name_there}
 
 -- TABLES THAT PAIRS ARE PUT INTO: by a key of the last pairs one of these is found
 
@@ -187,13 +187,13 @@ module _ (m : ModuleData) (k : ℕ) (p : PackageData) where
   pub table_origin : (d : ObjId) (o : Object) → lookup (same_object d) (objects_table m k p) ≡ Some o → IsEntry d o
   table_origin d o found = entry_is d o (object_declared (objects_table m k p) entries d o refl found)
 
-  -- CONSTANTS
+  -- OBJECTS THAT MEAN SOMETHING
 
-  -- the object that a number has in the table is a constant
-  pub record IsConst (d : ObjId) : Type 0 where
+  -- the object that a number has in the table means something
+  pub record HasMeaning (d : ObjId) : Type 0 where
     pub object : Object
     pub found : lookup (same_object d) (objects_table m k p) ≡ Some object
-    pub kind : object.kind ≡ Const
+    pub kind : IsMeaning object.kind
 
   -- the entries of a dot import, and of a qualified identifier
   pub file_entry : (r : Region) → Contains (flat_map (file_block (known_in m)) (imports_of k p)) r → Contains entries (object_id r.object, r.object)
@@ -210,14 +210,14 @@ module _ (m : ModuleData) (k : ℕ) (p : PackageData) where
   there : (d : ObjId) (o : Object) → Contains entries (d, o) → (x : Object) × (lookup (same_object d) (objects_table m k p) ≡ Some x)
   there d o h = some_there (lookup (same_object d) (objects_table m k p)) (present_in same_object object_self [] entries d o h)
 
-  -- in a module of constants
-  module _ (constants : DeclareConstants m) (at : slice_get m.packages k ≡ Some p) where
-    declared_const : (home : PackageData) (i : ℕ) (d : Declaration) (o : Object) → slice_get m.packages i ≡ Some home → Contains (declarations_of home) d → declared_object i d ≡ o → o.kind ≡ Const
-    declared_const home i d o there among is = ap (λ (x : Object). x.kind) (sym is) ∙ is_constant home (constants i home there) d among
+  -- in a module whose specs give headers
+  module _ (give : DeclareHeaders m) (at : slice_get m.packages k ≡ Some p) where
+    object_means : (home : PackageData) (i : ℕ) (d : Declaration) (o : Object) → slice_get m.packages i ≡ Some home → Contains (declarations_of home) d → declared_object i d ≡ o → IsMeaning o.kind
+    object_means home i d o there among is = subst (λ (x : Object). IsMeaning x.kind) is (declared_means home (give i home there) d among)
 
     -- a declaration of the package: its block stands last
-    pub block_const : (r : Region) → Contains (package_block k p) r → IsConst (object_id r.object)
-    block_const r h =
+    pub block_means : (r : Region) → Contains (package_block k p) r → HasMeaning (object_id r.object)
+    block_means r h =
         let front = region_entries (outer_regions (known_in m) k p) in
         let block = region_entries (package_block k p) in
         let own = map_contains (λ (x : Region). (object_id x.object, x.object)) (package_block k p) r h in
@@ -226,22 +226,22 @@ module _ (m : ModuleData) (k : ℕ) (p : PackageData) where
         let last = behind_found same_object object_is object_self [] front (member_entries ++ block) (object_id r.object) r.object found.0 behind found.1 in
         record { object = found.0; found = found.1; kind = by_cases (object_id r.object) found.0 (Contains-append_cases member_entries block (object_id r.object, found.0) last) }
       where
-        by_cases : (d : ObjId) (o : Object) → Contains member_entries (d, o) ⊎ Contains (region_entries (package_block k p)) (d, o) → o.kind ≡ Const
+        by_cases : (d : ObjId) (o : Object) → Contains member_entries (d, o) ⊎ Contains (region_entries (package_block k p)) (d, o) → IsMeaning o.kind
         by_cases d o (inl here) =
             let made = map_cases (λ (member : Member). (object_id member.object, member.object)) (members_of (known_in m) k p) (d, o) here in
             let from = flat_cases (members_at (known_in m) regions) (occurrences_from 0 p.files) made.0 made.1 in
             let member = member_by m (denoted_package regions from.0) from.0.selected made.0 from.2 in
             let is = member.declared in
-            ap (λ (e : ObjId × Object). e.1.kind) (sym made.2) ∙ declared_const is.home member.home is.declaration made.0.object is.at is.among is.is
+            subst (λ (e : ObjId × Object). IsMeaning e.1.kind) made.2 (object_means is.home member.home is.declaration made.0.object is.at is.among is.is)
         by_cases d o (inr last) =
             let made = map_cases (λ (x : Region). (object_id x.object, x.object)) (package_block k p) (d, o) last in
             let own = block_declared k p made.0 made.1 in
-            ap (λ (e : ObjId × Object). e.1.kind) (sym made.2) ∙ declared_const p k own.declaration made.0.object at own.among (ap (λ (s : Region). s.object) own.is)
+            subst (λ (e : ObjId × Object). IsMeaning e.1.kind) made.2 (object_means p k own.declaration made.0.object at own.among (ap (λ (s : Region). s.object) own.is))
 
     -- what an imported package exports: no node of this package has its number
     module _ (up : NodeNumbersAscend m) (stand : ImportsStandBefore m) where
-      pub export_const : (q : ℕ) → Contains p.imports q → (o : Object) → IsDeclaredAt m q o → Contains entries (object_id o, o) → IsConst (object_id o)
-      export_const q among o is h =
+      pub export_means : (q : ℕ) → Contains p.imports q → (o : Object) → IsDeclaredAt m q o → Contains entries (object_id o, o) → HasMeaning (object_id o)
+      export_means q among o is h =
           let found = there (object_id o) o h in
           let entry = table_origin (object_id o) found.0 found.1 in
           record { object = found.0; found = found.1; kind = by_origin found.0 (ap (λ (d : ObjId). d.0) entry.number) entry.origin }
@@ -252,9 +252,9 @@ module _ (m : ModuleData) (k : ℕ) (p : PackageData) where
           not_here : q ≡ k → ⊥
           not_here same = let first = stand.before k p at q among in omega (arith, first, same)
 
-          by_origin : (x : Object) → x.at.0 ≡ o.at.0 → Origin m k p x → x.kind ≡ Const
+          by_origin : (x : Object) → x.at.0 ≡ o.at.0 → Origin m k p x → IsMeaning x.kind
           by_origin x same (of_universe below) = absurd (let first = up.from_first q is.home is.at o.at.0 own in omega (arith, below, first, same))
           by_origin x same (of_import kind here) =
               absurd (up.apart q k is.home p not_here is.at at o.at.0 own (subst (λ n. Contains (numbers_in_files p.files) n) same here))
-          by_origin x same (of_export i imported declared) = declared_const declared.home i declared.declaration x declared.at declared.among declared.is
-          by_origin x same (of_block d declared made) = declared_const p k d x at declared made
+          by_origin x same (of_export i imported declared) = object_means declared.home i declared.declaration x declared.at declared.among declared.is
+          by_origin x same (of_block d declared made) = object_means p k d x at declared made

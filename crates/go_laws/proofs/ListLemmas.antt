@@ -1,7 +1,8 @@
 -- What stands in a list that is made of others; and what makes an empty list makes nothing.
-use Rattle.std.proofs.Common.{◌≡◌, Bool, true, false, Option, Some, None, List, [], ◌∷◌, ◌++◌, ◌⊎◌, inl, inr, map, Contains, refl, sym, ap, ◌∙◌, subst}
-use Rattle.std.specs.List.{cons_option, filter_map, flat_map}
+use Rattle.std.proofs.Common.{◌≡◌, ℕ, ◌+◌, ◌<◌, ◌≤◌, Bool, true, false, Option, Some, None, List, [], ◌∷◌, ◌++◌, ◌⊎◌, inl, inr, map, Contains, refl, sym, ap, ◌∙◌, subst, arith}
+use Rattle.std.specs.List.{cons_option, filter_map, flat_map, range_with_len}
 use Rattle.std.proofs.lemmas.List.Elements.{Contains-append_cases}
+use Rattle.std.proofs.lemmas.List.FromFn.{get_or-range_with_len, length-range_with_len}
 use Rattle.go_base.specs.declared.rule.Broken.{Broken}
 use Rattle.go_module.specs.Broken.{told_if}
 use Rattle.go_model.proofs.FlatLemmas.{flat_contains}
@@ -30,6 +31,17 @@ found_by {X = X} h x xs (Some w) y e c later = by_cases (cons_cases w (filter_ma
 pub found_from : {X Y : Type 0} (h : X → Option Y) (xs : List X) (y : Y) → Contains (filter_map h xs) y → (x : X) × Contains xs x × (h x ≡ Some y)
 found_from h [] y c = absurd (contains_none y c)
 found_from h (x ∷ xs) y c = found_by h x xs (h x) y refl c (found_from h xs y)
+
+-- n numbers, from a on
+pub in_range : (a n x : ℕ) → Contains (range_with_len a n) x → (a ≤ x) × (x < a + n)
+in_range a n x h =
+    let place = h.0 in
+    let lt = h.1 in
+    let long = length-range_with_len a n in
+    let inside : place < n = omega (arith, lt, long) in
+    let at = get_or-range_with_len a n place x inside in
+    let is = h.2 in
+    (omega (arith, at, is), omega (arith, at, is, inside))
 
 -- EMPTY LISTS
 

@@ -16,7 +16,7 @@ use Rattle.go_module.specs.NodeParts.{first_part}
 use Rattle.go_module.proofs.MemberLemmas.{cons_cases, contains_head, contains_none, contains_tail}
 use Rattle.go_model.proofs.FlatLemmas.{flat_cases, flat_contains, map_cases, map_contains}
 use Rattle.go_laws.specs.NodeNumbers.{nodes_by_end, nodes_in_files, numbers_in_files}
-use Rattle.go_laws.proofs.Constants.{AreConstants}
+use Rattle.go_laws.proofs.Declaring.{AllGiveHeaders, IsMeaning, giving_means}
 use Rattle.go_laws.proofs.FileLemmas.{IsSpecOf, file_of_spec, of_constants, of_type, of_variables, spec_is}
 use Rattle.go_laws.proofs.NodeFileLemmas.{IsUnder, part_under, self_by_end}
 use Rattle.go_laws.proofs.PickedLemmas.{picked_contains, picked_first}
@@ -90,9 +90,11 @@ name_there p d h =
     let inside = names_under top node.node under file.0 own.0 node.is d.name one.name d.name (self_by_end d.name) in
     map_contains id_of (nodes_in_files p.files) d.name (flat_contains (λ (f : FileData). nodes_by_end f.tree) p.files file.1 d.name file.2 inside)
 
--- and where all specs are of constants, so is the declaration
-pub is_constant : (p : PackageData) → AreConstants (specs_of p) → (d : Declaration) → Contains (declarations_of p) d → d.kind ≡ Const
-is_constant p constants d h = let own = flat_cases declared_in (specs_of p) d h in (of_spec own.0 d own.2).kind ∙ constants own.0 own.1
+-- and where all specs give headers, the declaration means something
+pub declared_means : (p : PackageData) → AllGiveHeaders (specs_of p) → (d : Declaration) → Contains (declarations_of p) d → IsMeaning d.kind
+declared_means p give d h =
+    let own = flat_cases declared_in (specs_of p) d h in
+    subst IsMeaning (sym (of_spec own.0 d own.2).kind) (giving_means own.0.kind own.0.types (give own.0 own.1))
 
 -- IMPORTS
 

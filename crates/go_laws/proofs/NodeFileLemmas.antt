@@ -12,7 +12,6 @@ use Rattle.go_operands.proofs.OperandLemmas.{expressions_within}
 use Rattle.go_model.specs.Outcomes.Walked.{NodesAreNumbered, nodes_of}
 use Rattle.go_module.specs.NodeParts.{all_but_first}
 use Rattle.go_module.proofs.MemberLemmas.{cons_cases, contains_head, contains_none, contains_tail}
-use Rattle.go_laws.specs.Complete.{values_in}
 use Rattle.go_laws.specs.NodeNumbers.{NodeNumbersAscend, nodes_by_end, nodes_by_end_among}
 use Rattle.go_laws.proofs.FileLemmas.{IsSpecOf, file_of_spec, of_constants, of_type, of_variables, spec_is}
 use Rattle.go_model.proofs.FlatLemmas.{flat_cases, only_is}
@@ -130,7 +129,7 @@ in_file file tree spec h t part =
     let under = part_under tree declaration.0 node.node (part_under tree tree declaration.0 (λ s i. i) declaration.1) node.among in
     spec_under tree node.node under file spec node.is t part
 
--- the file of an expression of a package
+-- the file of a type or an expression of a package
 pub record IsInFile (files : List FileData) (t : Tree) : Type 0 where
   pub file : FileData
   pub among : Contains files file
@@ -141,16 +140,7 @@ file_of_part p spec h t part =
     let from = file_of_spec 0 p.files spec h in
     record { file = from.1; among = from.2; under = in_file from.0 from.1.tree spec from.3 t part }
 
-pub file_of_value : (p : PackageData) (t : Tree) → Contains (values_in p) t → IsInFile p.files t
-file_of_value p t h =
-    let spec = flat_cases (λ (spec : Spec). spec.values) (specs_of p) t h in
-    file_of_part p spec.0 spec.1 t (Contains-append_right spec.0.types spec.0.values t spec.2)
-
--- each node of an expression of a package is a node of one of its files
-pub nodes_are_there : (p : PackageData) (t : Tree) → Contains (values_in p) t → (s : Tree) → Contains (nodes_in t) s → (f : FileData) × Contains p.files f × Contains (nodes_by_end f.tree) s
-nodes_are_there p t h s i = let there = file_of_value p t h in (there.file, there.among, there.under s (inside t s i))
-
--- so is each node of a type or an expression
+-- each node of a type or an expression is a node of one of its files
 node_there : (p : PackageData) (s : Tree) → Contains (nodes_of p) s → (f : FileData) × Contains p.files f × Contains (nodes_by_end f.tree) s
 node_there p s h =
     let spec = flat_cases expressions_in_parts (specs_of p) s h in

@@ -29,7 +29,7 @@ use Rattle.go_load.proofs.PathSetLemmas.{same}
 use Rattle.go_load.proofs.SlotLemmas.{passes}
 use Rattle.go_laws.specs.NodeNumbers.{NodeNumbersAscend, nodes_by_end, nodes_by_end_among, nodes_in_files, numbers_in_files}
 use Rattle.go_model.proofs.FlatLemmas.{flat_cases, flat_contains, map_cases, map_contains}
-use Rattle.go_laws.proofs.ListLemmas.{found_from}
+use Rattle.go_laws.proofs.ListLemmas.{found_from, in_range}
 use Rattle.go_laws.proofs.PickedLemmas.{one_numbered, pairs_ascend}
 
 -- LISTS OF NUMBERS THAT ASCEND: the first is below the others, and two such lists, one below the other, make one
@@ -63,16 +63,6 @@ range_ascends a n i j d lt within =
     let at_i = get_or-range_with_len a n i d (omega arith) in
     let at_j = get_or-range_with_len a n j d (omega arith) in
     omega arith
-
-in_range : (a n x : ℕ) → Contains (range_with_len a n) x → (a ≤ x) × (x < a + n)
-in_range a n x h =
-    let place = h.0 in
-    let lt = h.1 in
-    let long = length-range_with_len a n in
-    let inside : place < n = omega (arith, lt, long) in
-    let at = get_or-range_with_len a n place x inside in
-    let is = h.2 in
-    (omega (arith, at, is), omega (arith, at, is, inside))
 
 range_append : (a m n : ℕ) → range_with_len a (m + n) ≡ range_with_len a m ++ range_with_len (a + m) n
 range_append a zero n =

@@ -72,7 +72,7 @@ module _ {X : Type 0} (tree : X → Tree) where
   picked_first [] = none
   picked_first (x ∷ xs) = keep none
 
-  picked_last : (xs : List X) → Picked (last_alone tree xs) xs
+  pub picked_last : (xs : List X) → Picked (last_alone tree xs) xs
   picked_last [] = none
   picked_last (x ∷ []) = picked_self (x ∷ [])
   picked_last (x ∷ (y ∷ ys)) = skip (picked_last (y ∷ ys))

@@ -21,14 +21,14 @@ use Rattle.go_model.specs.Phases.{AreReports, BreaksValues, IsVerdict, ReportOf,
 use Rattle.go_model.specs.Report.{LineData, NamedData, PackageReportData, ReportData, VerdictData, accepted, refused, skipped}
 use Rattle.go_model.specs.Values.Meaning.{names_in}
 use Rattle.go_model.specs.Values.Quests.{IsPart}
-use Rattle.go_laws.specs.BuiltTrees.{ValuesAreBuilt}
-use Rattle.go_laws.specs.Complete.{IsAcceptedAt, IsComplete, IsReached, checks, first, skips, values_in}
+use Rattle.go_laws.specs.BuiltTrees.{PartsAreBuilt}
+use Rattle.go_laws.specs.Complete.{IsAcceptedAt, IsComplete, IsReached, checks, first, parts_in, skips}
 use Rattle.go_laws.specs.NodeNumbers.{NodeNumbersAscend}
 use Rattle.go_laws.proofs.Asked.{AreAsked}
 use Rattle.go_laws.proofs.BuiltLemmas.{built_asked}
-use Rattle.go_laws.proofs.BuiltModuleLemmas.{specs_are_constants, values_are_built}
+use Rattle.go_laws.proofs.BuiltModuleLemmas.{parts_are_built, specs_give_headers}
 use Rattle.go_laws.proofs.CompleteLemmas.{complete_where_asked}
-use Rattle.go_laws.proofs.Constants.{DeclareConstants}
+use Rattle.go_laws.proofs.Declaring.{DeclareHeaders}
 use Rattle.go_laws.proofs.Denoting.{ImportsHaveHeaders}
 use Rattle.go_laws.proofs.DenotingLemmas.{names_denote}
 use Rattle.go_laws.proofs.NodeNumberLemmas.{node_numbers_ascend}
@@ -98,11 +98,11 @@ module _ (m : ModuleData) where
   imports_known : (k : ℕ) (marks : List Bool) (p : PackageData) (before : Headers) → IsKnown k marks before → imports_accepted marks p ≡ true → ImportsHaveHeaders m p before
   imports_known k marks p before is imports i q among at = is.declared i q (All-contains (λ j. is_marked marks j ≡ true) p.imports i (AllPass-from_list_all (is_marked marks) p.imports imports) among) at
 
-  module _ (ascend : NodeNumbersAscend m) (stand : ImportsStandBefore m) (constants : DeclareConstants m) (built : ValuesAreBuilt m) where
-    all_asked : (k : ℕ) (p : PackageData) → slice_get m.packages k ≡ Some p → broken_names (known_in m) k p ≡ [] → AreAsked (names_in m k p) (values_in p)
+  module _ (ascend : NodeNumbersAscend m) (stand : ImportsStandBefore m) (give : DeclareHeaders m) (built : PartsAreBuilt m) where
+    all_asked : (k : ℕ) (p : PackageData) → slice_get m.packages k ≡ Some p → broken_names (known_in m) k p ≡ [] → AreAsked (names_in m k p) (parts_in p)
     all_asked k p at names t among s asked =
-        built_asked (names_in m k p) (built k p at t among) s
-        (names_denote m k p constants ascend at stand names (built k p at) t among s asked)
+        built_asked (names_in m k p) t (built k p at t among) s
+        (names_denote m k p give ascend at stand names (built k p at) t among s asked)
         asked
 
     -- an accepted package is complete
@@ -110,7 +110,7 @@ module _ (m : ModuleData) where
         → IsKnown k marks before → slice_get m.packages k ≡ Some p → imports_accepted marks p ≡ true → IsVerdict m k p before (accepted lines named) after
         → broken_names (known_in m) k p ≡ [] → IsComplete (names_in m k p) after p
     complete_at k marks p before after lines named is at imports verdict names =
-        complete_where_asked m k p before after lines named verdict (constants k p at) (imports_known k marks p before is imports) (built k p at) (all_asked k p at names)
+        complete_where_asked m k p before after lines named verdict (give k p at) (imports_known k marks p before is imports) (all_asked k p at names)
 
     -- the headers behind a package whose names are sound
     part_of : (k : ℕ) (p : PackageData) (before headers : Headers) (list : List Broken) → BreaksValues m k p before headers list → IsPart before headers
@@ -146,9 +146,9 @@ pub accepted_complete : (own stubs : Folder) (m : ModuleData) → IsModule own s
 accepted_complete own stubs m is k marks p before after lines named reached at imports verdict =
     let ascend = node_numbers_ascend own stubs m is in
     let stand = stand_before own stubs m is in
-    let constants = specs_are_constants own stubs m is in
-    let built = values_are_built own stubs m is in
-    complete_at m ascend stand constants built k marks p before after lines named (known_reached m ascend stand constants built reached) at imports verdict (sound_names m k p before after lines named verdict)
+    let give = specs_give_headers own stubs m is in
+    let built = parts_are_built own stubs m is in
+    complete_at m ascend stand give built k marks p before after lines named (known_reached m ascend stand give built reached) at imports verdict (sound_names m k p before after lines named verdict)
 
 -- REPORTS
 

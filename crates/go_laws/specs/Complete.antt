@@ -1,6 +1,6 @@
--- Constant declarations; Constant expressions; Packages; Package initialization (Go specification).
--- Says which nodes of an expression are asked for records, what it is that a package is complete, and through which
--- states the check of a module goes.
+-- Declarations and scope; Constant expressions; Types; Packages; Package initialization (Go specification).
+-- Says which nodes of an expression or a type are asked for records, what it is that a package is complete, and through
+-- which states the check of a module goes.
 use Rattle.std.specs.Prelude.{◌≡◌, ℕ, ◌+◌, Bool, true, false, Some, List, [], ◌∷◌, ◌++◌, Contains, IsSome, slice_get}
 use Rattle.std.specs.List.{flat_map}
 use Rattle.go_graph.specs.Graph.{row_at}
@@ -19,18 +19,19 @@ use Rattle.go_model.specs.Values.Records.{record_of}
 abbrev pub with_asked : Naming → Tree → List (List Tree) → List Tree
 with_asked naming node operands = node ∷ flat_map (row_at operands) (construct naming node).operands
 
--- the nodes of an expression that are asked for records: itself, and those of its operands
+-- the nodes of an expression or a type that are asked for records: itself, and those of its operands
 abbrev pub asked_in : Naming → Tree → List Tree
 asked_in naming t = (folded (with_asked naming) t).own
 
--- the expressions of the declarations of a package, with the copies that stand for omitted lists; no types
-abbrev pub values_in : PackageData → List Tree
-values_in p = flat_map (λ spec. spec.values) (specs_of p)
+-- the types and the expressions of the declarations of a package, with the copies that stand for omitted lists
+abbrev pub parts_in : PackageData → List Tree
+parts_in p = flat_map (λ spec. spec.types ++ spec.values) (specs_of p)
 
--- each declaration of the package has a header, and each node of these expressions that is asked for a record has one
+-- each declaration of the package has a header, and each node of its types and its expressions that is asked for a record
+-- has one
 pub record IsComplete (naming : Naming) (headers : Headers) (p : PackageData) : Type 0 where
   pub declared : (d : Declaration) → Contains (declarations_of p) d → IsSome (headers (number_of d).0)
-  pub recorded : (t : Tree) → Contains (values_in p) t → (s : Tree) → Contains (asked_in naming t) s
+  pub recorded : (t : Tree) → Contains (parts_in p) t → (s : Tree) → Contains (asked_in naming t) s
       → IsSome (record_of naming headers s)
 
 -- STATES OF THE CHECK

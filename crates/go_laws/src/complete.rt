@@ -1,5 +1,5 @@
-// What an accepted package has (Go specification, "Constant declarations", "Constant expressions"). A law is the
-// contract of a function that does nothing.
+// What an accepted package has (Go specification, "Declarations and scope", "Constant expressions", "Types"). A law is
+// the contract of a function that does nothing.
 ghost use Rattle.std.specs.Prelude.{◌≡◌, ℕ, Bool, Some, true, List, slice_get};
 ghost use Rattle.go_mod.specs.Folders.{Folder};
 ghost use Rattle.go_module.specs.Modules.Module.{ModuleData, PackageData};
@@ -11,8 +11,8 @@ ghost use Rattle.go_model.specs.Values.Meaning.{names_in};
 ghost use Rattle.go_laws.specs.Complete.{IsAcceptedAt, IsComplete, IsReached};
 
 /// Where the check of a module that is loaded comes to a package whose imports are accepted, and accepts it, each
-/// declaration of the package has a header, and each node of its expressions that is asked for a record has one, over
-/// the headers that are known behind it.
+/// declaration of the package has a header, and each node of its types and its expressions that is asked for a record
+/// has one, over the headers that are known behind it.
 pub fn accepted_is_complete()
     ensures { (own stubs : Folder) (m : ModuleData) → IsModule own stubs m
         → (k : ℕ) (marks : List Bool) (p : PackageData) (before after : Headers)

@@ -11,12 +11,7 @@ use Rattle.go_model.specs.Types.Own.{IsOwnHeader, KeepsTypes}
 use Rattle.go_model.specs.Values.Headers.{headers_of}
 use Rattle.go_model.specs.Values.HeadersView.{AreOwnHeaders, header_in, headers_as}
 use Rattle.go_model.proofs.EntryLemmas.{chosen}
-use Rattle.go_model.proofs.OwnDataLemmas.{header_agrees, header_stays_own, some_header_any}
-use Rattle.go_model.proofs.OwnLemmas.{Any}
-
--- where any type is a judge's own
-pub headers_any : (headers : Headers) → AreOwnHeaders Any headers
-headers_any headers d = some_header_any (header_in headers d)
+use Rattle.go_model.proofs.OwnDataLemmas.{header_agrees, header_stays_own}
 
 -- over types that stay
 module _ (own own' : Term → Type 0) (tree tree' : Term → TypeData) (keeps : KeepsTypes own own' tree tree') (headers : Headers) (are : AreOwnHeaders own headers) where

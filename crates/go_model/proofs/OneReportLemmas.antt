@@ -1,17 +1,20 @@
 -- A module has one report at most.
-use Rattle.std.proofs.Common.{◌≡◌, ℕ, ◌+◌, Bool, true, false, List, [], ◌∷◌, ◌++◌, map, Option, Some, None, refl, sym, ap, ◌∙◌, subst}
+use Rattle.std.proofs.Common.{◌≡◌, ℕ, ◌+◌, Bool, true, false, List, [], ◌∷◌, ◌++◌, ◌⊎◌, inl, inr, map, Contains, Option, Some, None, refl, sym, ap, ◌∙◌, subst}
 use Rattle.std.specs.Prelude.{◌↔◌}
 use Rattle.std.proofs.Math.Path.{fun_ext}
+use Rattle.std.proofs.lemmas.List.Elements.{Contains-append_cases, Contains-append_left, Contains-append_right}
 use Rattle.go_base.specs.declared.rule.Broken.{Broken}
 use Rattle.go_module.specs.Names.Declarations.{Declaration, declarations_of}
 use Rattle.go_module.specs.Order.{IsListOf}
 use Rattle.go_model.specs.Values.Meaning.{Naming, names_in}
 use Rattle.go_module.specs.Modules.Module.{ModuleData, PackageData}
 use Rattle.go_module.specs.Places.{placed_by}
-use Rattle.go_model.specs.Outcomes.Walk.{Headers}
+use Rattle.go_model.specs.Obligations.Obliged.{Obliged}
+use Rattle.go_model.specs.Outcomes.Walk.{Headers, outcome}
 use Rattle.go_model.specs.Outline.{outline_of}
 use Rattle.go_model.specs.PackageLines.{named_in}
 use Rattle.go_model.specs.Report.{LineData, VerdictData, refused, skipped, accepted, PackageReportData, ReportData}
+use Rattle.go_model.specs.Values.ByValue.{Contained, broken_contained}
 use Rattle.go_model.specs.Values.Rules.{broken_values}
 use Rattle.go_model.specs.Values.Waiting.{Chain}
 use Rattle.go_module.specs.Names.Rules.BrokenNames.{broken_names}
@@ -36,6 +39,12 @@ same_bool false false f g = refl
 -- nothing that was found has no list of some
 no_list : (found : List Broken) (b : Broken) (bs : List Broken) → found ≡ [] → IsListOf found (b ∷ bs) → ⊥
 no_list found b bs e i = let none = none_of_none (b ∷ bs) (subst (λ (f : List Broken). IsListOf f (b ∷ bs)) e i) in cc none
+
+-- what has the same members has one list
+list_of_same : (f g xs ys : List Broken) → ((b : Broken) → Contains f b → Contains g b) → ((b : Broken) → Contains g b → Contains f b) → IsListOf f xs → IsListOf g ys → xs ≡ ys
+list_of_same f g xs ys to from i j =
+    let there : IsListOf f ys = record { ascending = j.ascending; same = λ b. (λ h. from b ((j.same b).0 h), λ h. (j.same b).1 (to b h)) } in
+    one_list f xs ys i there
 
 -- a question that is answered exactly has one answer
 same_answers : {P : ℕ → Type 0} (f g : ℕ → Bool) → ((d : ℕ) → (f d ≡ true) ↔ P d) → ((d : ℕ) → (g d ≡ true) ↔ P d) → f ≡ g
@@ -64,13 +73,34 @@ module _ (m : ModuleData) (k : ℕ) (p : PackageData) (before : Headers) where
   same_headers : (v w : Headers) (xs ys : List Broken) → BreaksValues m k p before v xs → BreaksValues m k p before w ys → v ≡ w
   same_headers v w xs ys a b = one_map before (names_in m k p) (declarations_of p) v w a.cyclic b.cyclic a.has_headers b.has_headers
 
-  same_values : (v w : Headers) (xs ys : List Broken) → BreaksValues m k p before v xs → BreaksValues m k p before w ys → xs ≡ ys
-  same_values v w xs ys a b =
+  -- what values break is one list of found rules, but for the order of obligations
+  abbrev all_broken : (headers : Headers) (xs : List Broken) → BreaksValues m k p before headers xs → List Broken
+  all_broken headers xs a = broken_values (names_in m k p) headers a.cyclic p ++ (broken_contained a.contained p ++ a.obliged)
+
+  all_within : (v w : Headers) (xs ys : List Broken) (a : BreaksValues m k p before v xs) (b : BreaksValues m k p before w ys) (x : Broken) → Contains (all_broken v xs a) x → Contains (all_broken w ys b) x
+  all_within v w xs ys a b x among =
       let naming = names_in m k p in
       let headers = same_headers v w xs ys a b in
       let marks = one_mark before naming (declarations_of p) v w a.cyclic b.cyclic a.has_headers b.has_headers in
-      let there : IsListOf (broken_values naming v a.cyclic p) ys = subst (λ (c : ℕ → Bool). IsListOf (broken_values naming v c p) ys) (sym marks) (subst (λ (hs : Headers). IsListOf (broken_values naming hs b.cyclic p) ys) (sym headers) b.is_list) in
-      one_list (broken_values naming v a.cyclic p) xs ys a.is_list there
+      let values : broken_values naming v a.cyclic p ≡ broken_values naming w b.cyclic p = (λ i. broken_values naming (headers i) (marks i) p) in
+      let there : (d : ℕ) → (b.contained d ≡ true) ↔ Contained (declarations_of p) v d = subst (λ (hs : Headers). (d : ℕ) → (b.contained d ≡ true) ↔ Contained (declarations_of p) hs d) (sym headers) b.is_contained in
+      let contained : a.contained ≡ b.contained = same_answers a.contained b.contained a.is_contained there in
+      let obliged : Contains a.obliged x → Contains b.obliged x = (λ h. (b.is_obliged x).1 (subst (λ (hs : Headers). Obliged (outcome naming hs) hs p x) headers ((a.is_obliged x).0 h))) in
+      by_part values contained obliged (Contains-append_cases (broken_values naming v a.cyclic p) (broken_contained a.contained p ++ a.obliged) x among)
+    where
+      by_rest : a.contained ≡ b.contained → (Contains a.obliged x → Contains b.obliged x) → Contains (broken_contained a.contained p) x ⊎ Contains a.obliged x → Contains (broken_contained b.contained p ++ b.obliged) x
+      by_rest contained obliged (inl h) = Contains-append_left (broken_contained b.contained p) b.obliged x (subst (λ (c : ℕ → Bool). Contains (broken_contained c p) x) contained h)
+      by_rest contained obliged (inr h) = Contains-append_right (broken_contained b.contained p) b.obliged x (obliged h)
+
+      by_part : broken_values (names_in m k p) v a.cyclic p ≡ broken_values (names_in m k p) w b.cyclic p → a.contained ≡ b.contained → (Contains a.obliged x → Contains b.obliged x)
+          → Contains (broken_values (names_in m k p) v a.cyclic p) x ⊎ Contains (broken_contained a.contained p ++ a.obliged) x → Contains (all_broken w ys b) x
+      by_part values contained obliged (inl h) = Contains-append_left (broken_values (names_in m k p) w b.cyclic p) (broken_contained b.contained p ++ b.obliged) x (subst (λ (l : List Broken). Contains l x) values h)
+      by_part values contained obliged (inr h) =
+          Contains-append_right (broken_values (names_in m k p) w b.cyclic p) (broken_contained b.contained p ++ b.obliged) x
+          (by_rest contained obliged (Contains-append_cases (broken_contained a.contained p) a.obliged x h))
+
+  same_values : (v w : Headers) (xs ys : List Broken) → BreaksValues m k p before v xs → BreaksValues m k p before w ys → xs ≡ ys
+  same_values v w xs ys a b = list_of_same (all_broken v xs a) (all_broken w ys b) xs ys (all_within v w xs ys a b) (all_within w v ys xs b a) a.is_list b.is_list
 
   same_shapes : (xs ys : List Broken) → BreaksShapes m k p xs → BreaksShapes m k p ys → xs ≡ ys
   same_shapes xs ys a b = one_shapes (denoted_in m k p) p xs ys a.are_shapes b.are_shapes

@@ -16,7 +16,7 @@ use Rattle.go_model.specs.Outcomes.Judged as outcomes
 use Rattle.go_model.specs.Outcomes.Judged.{OutcomeData}
 use Rattle.go_model.specs.Outcomes.Records.{RecData, alias, constant, definition, func, header_as, param_as, rec_as, rec_view, variable}
 use Rattle.go_model.specs.Outcomes.View.{outcome_as, outcome_view}
-use Rattle.go_model.specs.Types.Own.{IsOwnHeader, IsOwnOutcome, IsOwnParam, IsOwnRec, KeepsTypes}
+use Rattle.go_model.specs.Types.Own.{IsOwnHeader, IsOwnOutcome, IsOwnParam, IsOwnRec}
 use Rattle.go_model.proofs.OwnLemmas.{Any}
 
 -- where types of its own stand for the same, so do the records, headers and outcomes that have them
@@ -71,16 +71,6 @@ module _ (own own' : Term → Type 0) (more : (t : Term) → own t → own' t) w
   outcome_stays_own (O.Waits d) is = tt
   outcome_stays_own O.Nothing is = tt
 
--- what a call keeps
-pub rec_kept : (own own' : Term → Type 0) (tree tree' : Term → TypeData) → KeepsTypes own own' tree tree' → (r : Rec) → IsOwnRec own r → IsOwnRec own' r × (rec_as tree' r ≡ rec_as tree r)
-rec_kept own own' tree tree' keeps r is = (rec_stays_own own own' keeps.types r is, rec_agrees own tree tree' keeps.trees r is)
-
-pub header_kept : (own own' : Term → Type 0) (tree tree' : Term → TypeData) → KeepsTypes own own' tree tree' → (h : Header) → IsOwnHeader own h → IsOwnHeader own' h × (header_as tree' h ≡ header_as tree h)
-header_kept own own' tree tree' keeps h is = (header_stays_own own own' keeps.types h is, header_agrees own tree tree' keeps.trees h is)
-
-pub outcome_kept : (own own' : Term → Type 0) (tree tree' : Term → TypeData) → KeepsTypes own own' tree tree' → (o : Outcome) → IsOwnOutcome own o → IsOwnOutcome own' o × (outcome_as tree' o ≡ outcome_as tree o)
-outcome_kept own own' tree tree' keeps o is = (outcome_stays_own own own' keeps.types o is, outcome_agrees own tree tree' keeps.trees o is)
-
 -- copies, where a type once more is a judge's own and stands for the same
 module _ (own : Term → Type 0) (tree : Term → TypeData) (copies : (t copy : Term) → type_of copy ≡ type_of t → own t → own copy × (tree copy ≡ tree t)) where
   some_copied : (o copy : Option Term) → option_map type_of copy ≡ option_map type_of o → IfSome o own → IfSome copy own × (option_map tree copy ≡ option_map tree o)
@@ -118,14 +108,7 @@ module _ (own : Term → Type 0) (tree : Term → TypeData) (copies : (t copy : 
   outcome_copied O.Nothing (O.Waits d) same is = (tt, same)
   outcome_copied O.Nothing O.Nothing same is = (tt, same)
 
--- where any type is a judge's own, so is each record, header and outcome
-pub rec_any : (r : Rec) → IsOwnRec Any r
-rec_any r = some_any r.ty
-  where
-    some_any : (o : Option Term) → IfSome o Any
-    some_any None = tt
-    some_any (Some t) = tt
-
+-- where any type is a judge's own, so is each header
 params_any : (ps : List TypeParam) → AllByRecursion (IsOwnParam Any) ps
 params_any [] = tt
 params_any (p ∷ ps) = (tt, params_any ps)
@@ -136,17 +119,3 @@ header_any (H.Var type) = tt
 header_any (H.Func params type) = (params_any params.items, tt)
 header_any (H.Defined params right methods) = (params_any params.items, tt)
 header_any (H.Alias type) = tt
-
-pub outcome_any : (o : Outcome) → IsOwnOutcome Any o
-outcome_any (O.Found rec) = rec_any rec
-outcome_any (O.Broken rule spots) = tt
-outcome_any (O.Waits d) = tt
-outcome_any O.Nothing = tt
-
-pub some_header_any : (h : Option Header) → IfSome h (IsOwnHeader Any)
-some_header_any None = tt
-some_header_any (Some h) = header_any h
-
-pub some_outcome_any : (o : Option Outcome) → IfSome o (IsOwnOutcome Any)
-some_outcome_any None = tt
-some_outcome_any (Some o) = outcome_any o

@@ -12,6 +12,7 @@ pub mod Values
 pub mod Outcomes
 pub mod Types
 pub mod Laws
+pub mod Obligations
 -- how tables by numbers are hashed
 pub mod NumberHasher
 -- what these rest on

@@ -1,7 +1,7 @@
 -- Struct types; Interface types; Function types (Go specification).
 -- Decides which names a type literal declares, and what each is declared as: fields, methods of interfaces, and parameters
 -- and results. They are read off the type for which the literal stands. Parameters and results without a name are none.
-use Rattle.std.specs.Prelude.{Bool, if◌then◌else◌, List, [], ◌∷◌, ◌++◌}
+use Rattle.std.specs.Prelude.{if◌then◌else◌, List, [], ◌∷◌, ◌++◌}
 use Rattle.std.specs.List.{flat_map, list_any}
 use Rattle.go_tree.specs.declared.node_kind.NodeKind.TheVariants.{FuncType, InterfaceType, MethodElem, Param, Params, StructType, UnnamedParam, VariadicParam}
 use Rattle.go_tree.specs.Tree.{Tree, branch, kind_of, list_of, more_trees, no_trees, parts_of}

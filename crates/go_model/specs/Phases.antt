@@ -2,9 +2,9 @@
 -- Decides which report a module has. The packages are taken in import order; of each the first phase that
 -- breaks a rule ends it: names, then type declarations that lead back to themselves, then values. What the phases
 -- before break: `Loading` of go_load; names: `Names` of go_module; type declarations: `Shapes` of go_cycles; values:
--- `Rules`; the lines of an accepted package: `PackageLines`. What a type contains by value (`ByValue`) is not asked yet.
+-- `Rules`, `ByValue` and `Obliged`; the lines of an accepted package: `PackageLines`.
 -- Files are known by their numbers, which differ in each module that is loaded.
-use Rattle.std.specs.Prelude.{◌≡◌, ℕ, ◌+◌, ◌↔◌, Bool, true, false, Option, None, Some, List, [], ◌∷◌, ◌++◌, map}
+use Rattle.std.specs.Prelude.{◌≡◌, ℕ, ◌+◌, ◌↔◌, Bool, true, false, Option, None, Some, List, [], ◌∷◌, ◌++◌, Contains, map}
 use Rattle.std.specs.List.{list_all}
 use Rattle.std.specs.Map.{lookup}
 use Rattle.go_base.specs.declared.ids.ObjId.{ObjId}
@@ -20,8 +20,10 @@ use Rattle.go_model.specs.PackageLines.{AreLines, named_in}
 use Rattle.go_module.specs.Graph.{is_marked}
 use Rattle.go_module.specs.Places.{placed_by}
 use Rattle.go_model.specs.Outcomes.Records.{HeaderData}
-use Rattle.go_model.specs.Outcomes.Walk.{Headers}
+use Rattle.go_model.specs.Obligations.Obliged.{Obliged}
+use Rattle.go_model.specs.Outcomes.Walk.{Headers, outcome}
 use Rattle.go_model.specs.Report.{LineData, VerdictData, accepted, refused, skipped, PackageReportData, ReportData}
+use Rattle.go_model.specs.Values.ByValue.{Contained, broken_contained}
 use Rattle.go_model.specs.Values.Rules.{broken_values}
 use Rattle.go_module.specs.Scopes.{same_node}
 use Rattle.go_model.specs.Values.Waiting.{Chain}
@@ -49,7 +51,11 @@ pub record BreaksValues (m : ModuleData) (k : ℕ) (p : PackageData) (before hea
   pub sound_shapes : BreaksShapes m k p []
   pub cyclic : ℕ → Bool
   pub has_headers : HasHeaders before (names_in m k p) (declarations_of p) headers cyclic
-  pub is_list : IsListOf (broken_values (names_in m k p) headers cyclic p) list
+  pub contained : ℕ → Bool
+  pub is_contained : (d : ℕ) → (contained d ≡ true) ↔ Contained (declarations_of p) headers d
+  pub obliged : List Broken
+  pub is_obliged : (b : Broken) → Contains obliged b ↔ Obliged (outcome (names_in m k p) headers) headers p b
+  pub is_list : IsListOf (broken_values (names_in m k p) headers cyclic p ++ (broken_contained contained p ++ obliged)) list
 
 -- the lines of the package at a place, over these headers
 abbrev pub ArePackageLines : ModuleData → ℕ → PackageData → Headers → List LineData → Type 0

@@ -35,7 +35,17 @@ fn files(rt: HostRuntime) -> Result<(), Fail> {
             "file 7, root 56",
         ),
         ("a.go", "package p\nconst init = int\n", "file 7, root 52"),
-        ("a@.go", "package p\nvar x int\n", "0 U6;14 U0;"),
+        ("a@.go", "package p\nvar x = 1\n", "0 U6;14 U0;"),
+        (
+            "a.go",
+            "package p\nvar x *func(...chan<- T) (y <-chan T)\ntype T struct { a, b, c [1]q.E \"t\"; *E }\n",
+            "file 7, root 80",
+        ),
+        (
+            "a.go",
+            "package p\nvar x *int\ntype T[P any] [*x]int\ntype U interface { T[P]; *T | int }\n",
+            "27 U0;36 U0;63 U0;68 U0;",
+        ),
     ];
     for (path, text, wanted) in rows {
         let answer = told(rt.alloc(), path, text.as_bytes())?;

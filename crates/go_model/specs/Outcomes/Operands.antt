@@ -1,5 +1,5 @@
 -- Constructs by their operands, and what is asked of operands.
-use Rattle.std.specs.Prelude.{ℕ, ℤ, pos, ◌+◌, ◌&&◌, Bool, true, false, not, is_some, Option, Some, None, List, [], ◌∷◌, length, unwrap_or}
+use Rattle.std.specs.Prelude.{ℕ, ℤ, pos, ◌+◌, ◌&&◌, Bool, true, false, not, is_some, Option, Some, None, List, [], ◌∷◌, unwrap_or}
 use Rattle.std.specs.List.{range_with_len}
 use Rattle.go_base.specs.declared.rule.Rule.{Rule}
 use Rattle.go_module.specs.Rules.{unbuilt_form}

@@ -1,7 +1,7 @@
 -- Constant declarations; Variable declarations; Type declarations (Go specification).
 -- Decides the record of an expression over a map of headers, which is that of its outcome, and the header that a
 -- declaration has by it.
-use Rattle.std.specs.Prelude.{ℕ, List, [], Option, None, option_and_then, slice_get}
+use Rattle.std.specs.Prelude.{List, [], Option, None, option_and_then, slice_get}
 use Rattle.std.specs.Option.{option_map}
 use Rattle.go_tree.specs.Tree.{Tree}
 use Rattle.go_model.specs.Values.Meaning.{Naming}

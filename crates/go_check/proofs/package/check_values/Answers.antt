@@ -1,28 +1,22 @@
-use Rattle.std.proofs.Common.{◌≡◌, ◌∙◌, ℕ, Some, sym, ap, subst}
-use Rattle.std.specs.Prelude.{◌↔◌}
+use Rattle.std.proofs.Common.{◌≡◌, ◌∙◌, sym, ap, subst}
 use Rattle.std.proofs.lemmas.Result.{IfOk-weaker}
 use Rattle.go_module.specs.Modules.Module.{PackageData, module_view, package_view}
-use Rattle.go_module.specs.Names.Declarations.{declarations_of}
 use Rattle.go_model.specs.declared.headers.Headers.{Headers as HeaderMap}
-use Rattle.go_model.specs.Outcomes.Records.{HeaderData}
 use Rattle.go_model.specs.Outcomes.Walked.{AreWalked, nodes_of}
 use Rattle.go_model.specs.Phases.{BreaksValues, IsVerdict}
 use Rattle.go_model.specs.Report.{verdict_view}
-use Rattle.go_model.specs.Values.Headers.{Known}
 use Rattle.go_model.specs.Values.HeadersView.{headers_view}
 use Rattle.go_model.specs.Values.Meaning.{AreThere, Naming, names_in}
 use Rattle.go_expr.specs.Walker.{outcomes_view}
-use Rattle.go_decl.specs.Broken.{AreBroken}
 use Rattle.go_decl.proofs.ListLemmas.{on_ok, viewed_at}
 use Rattle.go_check.specs.Packages.Book.{Standing, book_names, names_at}
-use Rattle.go_check.proofs.VerdictLemmas.{breaks}
 use Rattle.go_check.proofs.package.check_values.Goals as goal
 
-pub rounds-requires-clause-there : goal.rounds-requires-clause-there
-rounds-requires-clause-there g c = subst AreThere (ap (λ (s : Standing). names_at s.«module» s.scopes s.place) (sym c.enter.ensures.standing)) c.requires.there
+pub broken_values-requires-clause-there : goal.broken_values-requires-clause-there
+broken_values-requires-clause-there g c = subst AreThere (ap (λ (s : Standing). names_at s.«module» s.scopes s.place) (sym c.enter.ensures.standing)) c.requires.there
 
-pub rounds-requires-clause-same : goal.rounds-requires-clause-same
-rounds-requires-clause-same g c = c.requires.same ∙ ap headers_view (sym c.enter.ensures.headers)
+pub broken_values-requires-clause-same : goal.broken_values-requires-clause-same
+broken_values-requires-clause-same g c = c.requires.same ∙ ap headers_view (sym c.enter.ensures.headers)
 
 pub returns-clause-verdict : goal.returns-clause-verdict
 returns-clause-verdict g c =
@@ -30,7 +24,7 @@ returns-clause-verdict g c =
     let k = c.args.place in
     let before = headers_view c.args.book.now.judge.headers in
     let entered = c.enter.new.self in
-    let after = c.rounds.new.rules in
+    let after = c.broken_values.new.rules in
     let headers = headers_view after.judge.headers in
     let own = package_view c.index.result.now in
     let list = c.in_ok-list.list.items in
@@ -39,22 +33,17 @@ returns-clause-verdict g c =
     (λ verdict is p at outline names shapes.
     let same : own ≡ p = cc (here, at) in
     let named : book_names entered.judge ≡ names_in m k p = ap (λ (s : Standing). names_at s.«module» s.scopes s.place) c.enter.ensures.standing ∙ names in
-    let naming = named in
-    let known : (d : ℕ) (h : HeaderData) → (headers d ≡ Some h) ↔ Known before (names_in m k p) (declarations_of p) d h =
-    λ d h. subst (λ (ms : Naming). (headers d ≡ Some h) ↔ Known before ms (declarations_of p) d h) naming
-    (subst (λ (b : HeaderMap). (headers d ≡ Some h) ↔ Known (headers_view b) (book_names entered.judge) (declarations_of p) d h) c.enter.ensures.headers (c.in_ok-list.ensures.exact p at d h)) in
-    let walked = subst (λ (ms : Naming). AreWalked ms headers (nodes_of p) (outcomes_view after.walker)) naming (c.in_ok-list.ensures.nodes p at) in
-    let broken = subst (λ (ms : Naming). AreBroken ms headers p list) naming (c.in_ok-list.ensures.list p at) in
-    let found = breaks m k p before headers list shapes known broken in
+    let walked = subst (λ (ms : Naming). AreWalked ms headers (nodes_of p) (outcomes_view after.walker)) named (c.in_ok-list.ensures.nodes p at) in
+    let found = subst (λ (b : HeaderMap). BreaksValues m k p (headers_view b) headers list) c.enter.ensures.headers (c.in_ok-list.ensures.list p at named shapes) in
     subst (λ (q : PackageData). book_names after.judge ≡ names_in m k q → AreWalked (names_in m k q) headers (nodes_of q) (outcomes_view after.walker) → BreaksValues m k q before headers c.deref.result.now → IsVerdict m k q before (verdict_view verdict) headers) same
-    (is m k before headers outline) (c.rounds.ensures.names ∙ named) walked (subst (BreaksValues m k p before headers) (sym c.deref.ensures.value) found))
+    (is m k before headers outline) (c.broken_values.ensures.names ∙ named) walked (subst (BreaksValues m k p before headers) (sym c.deref.ensures.value) found))
     c.verdict_by.ensures
 
 pub returns-clause-known : goal.returns-clause-known
 returns-clause-known g c = on_ok c.verdict_by.result _ c.in_ok-list.ensures.known
 
 pub returns-clause-module : goal.returns-clause-module
-returns-clause-module g c = ap (λ (s : Standing). s.«module») (c.rounds.ensures.world ∙ c.enter.ensures.standing)
+returns-clause-module g c = ap (λ (s : Standing). s.«module») (c.broken_values.ensures.world ∙ c.enter.ensures.standing)
 
 pub returns-clause-scopes : goal.returns-clause-scopes
-returns-clause-scopes g c = ap (λ (s : Standing). s.scopes) (c.rounds.ensures.world ∙ c.enter.ensures.standing)
+returns-clause-scopes g c = ap (λ (s : Standing). s.scopes) (c.broken_values.ensures.world ∙ c.enter.ensures.standing)

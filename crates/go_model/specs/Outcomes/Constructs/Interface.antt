@@ -4,7 +4,6 @@
 -- InterfaceElem = MethodElem | TypeElem . What its elements break together, as two methods of one name, is not asked yet, nor
 -- where an interface with terms may stand.
 use Rattle.std.specs.Prelude.{ℕ, Bool, true, false, List, [], ◌∷◌, ◌++◌, drop, length, map, take}
-use Rattle.go_base.specs.declared.ids.ObjId.{ObjId}
 use Rattle.go_tree.specs.declared.node_kind.NodeKind.{NodeKind}
 use Rattle.go_tree.specs.declared.node_kind.NodeKind.TheVariants.{MethodElem, TildeType, Union}
 use Rattle.go_tree.specs.Tree.{Tree, branch, id_of, kind_of, list_of, more_trees, no_trees}

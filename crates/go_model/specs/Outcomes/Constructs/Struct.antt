@@ -4,7 +4,6 @@
 -- embedded is not asked yet.
 use Rattle.std.specs.Prelude.{ℕ, Bool, true, false, List, [], find, map, option_and_then, unwrap_or}
 use Rattle.std.specs.List.{flat_map, zip}
-use Rattle.go_base.specs.declared.ids.ObjId.{ObjId}
 use Rattle.go_tree.specs.declared.node_kind.NodeKind.{NodeKind}
 use Rattle.go_tree.specs.declared.node_kind.NodeKind.TheVariants.{EmbeddedField, EmbeddedPointer}
 use Rattle.go_tree.specs.Tree.{Tree, id_of, kind_of, list_of, parts_of, text_of}

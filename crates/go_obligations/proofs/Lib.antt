@@ -1,0 +1,11 @@
+pub mod ConstraintLemmas
+pub mod EmbeddingLemmas
+pub mod LayerLemmas
+pub mod ListLemmas
+pub mod SearchLemmas
+pub mod MethodLemmas
+pub mod ConflictLemmas
+pub mod ComponentLemmas
+pub mod OwedLemmas
+pub mod ReadLemmas
+pub mod ToldLemmas
