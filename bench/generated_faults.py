@@ -4,10 +4,10 @@ from generated_plan import LIMIT, Constant, Import, Spec, rng
 # A text in place of a value, its rule, and at which of its bytes that is told.
 TERMS = [('undeclared', 'P7', 0), ('Undeclared.Name', 'P7', 0), ('_', 'P12', 0), ('_.Name', 'P12', 0),
          ('complex', 'U8', 0), ('complex128', 'U8', 0), ('iota', 'U0', 0), ('false', 'U0', 0), ('nil', 'U0', 0),
-         ('string', 'U0', 0)]
+         ('append', 'U0', 0)]
 
 # What stands behind all else in a file, and what it breaks.
-TAILS = [('\nvar v int\n', [(5, 'U0')]), ('\nconst W\n', [(7, 'U0'), (7, 'S8')]),
+TAILS = [('\nvar v = 1\n', [(5, 'U0')]), ('\nconst W\n', [(7, 'U0'), (7, 'S8')]),
          ('\nconst W = )\n', [(11, 'S3')]), ('\nconst W = 1.5\n', [(11, 'U2')]), ('\nconst W = #\n', [(11, 'S2')]),
          ('\nfunc f(a, b ...int)\n', [(1, 'U0'), (8, 'S5')]), ('\nconst W int = 1 - 2\n', [(9, 'U0'), (15, 'U0')]),
          ('\nconst (\n\tV = 1\n\tW\n)\n', [(17, 'U0')])]

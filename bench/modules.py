@@ -25,6 +25,7 @@ def source(number):
 
 
 def write_module(root, packages):
+    os.makedirs(root, exist_ok=True)
     with open(root + '/go.mod', 'w') as file:
         file.write('module m\n\ngo 1.21\n')
     for number in range(packages):
@@ -53,16 +54,20 @@ def read(path):
         return file.read()
 
 
-def compare(program, other, packages, times, folder):
-    """Runs both on a module of so many packages, and says whether they agree."""
-    root = folder + '/module'
-    os.makedirs(root, exist_ok=True)
-    write_module(root, packages)
+def build(other, folder):
+    """Builds the program over go/types."""
+    sources = [f'{os.path.dirname(os.path.abspath(__file__))}/modules_go/{name}.go' for name in ('main', 'types')]
+    env = {**os.environ, 'GO111MODULE': 'off', 'GOCACHE': folder + '/cache'}
+    subprocess.run([GO, 'build', '-o', other, *sources], check=True, env=env)
+
+
+def compare(program, other, what, root, times, folder):
+    """Runs both on a module, and says whether they agree."""
     status, own, memory = measure([program, root], folder + '/own', times)
     go_status, go, go_memory = measure([other, root], folder + '/go', times)
     text = read(folder + '/own')
     agree = (status, go_status) == (0, 0) and text == read(folder + '/go')
-    print(f'{packages:5} packages, {len(text):9} bytes: status {status}, {own:.3f} s, Go {go:.3f} s, '
+    print(f'{what}, {len(text):9} bytes: status {status}, {own:.3f} s, Go {go:.3f} s, '
           f'{own / max(go, .001):.2f} times, {memory:.0f} MiB, Go {go_memory:.0f} MiB, '
           f'{"the same report" if agree else "THE REPORTS DIFFER"}', flush=True)
     return agree
@@ -73,11 +78,14 @@ def main():
     program = os.path.abspath(sys.argv[1] if len(sys.argv) > 1 else here + '/../crates/gocheck/out/gocheck')
     with tempfile.TemporaryDirectory() as folder:
         other = folder + '/modules'
-        env = {**os.environ, 'GO111MODULE': 'off', 'GOCACHE': folder + '/cache'}
-        subprocess.run([GO, 'build', '-o', other, here + '/modules_go/main.go'], check=True, env=env)
-        agree = [compare(program, other, packages, times, folder)
-                 for packages, times in ((100, 5), (1000, 3), (2000, 3))]
+        build(other, folder)
+        agree = []
+        for packages, times in ((100, 5), (1000, 3), (2000, 3)):
+            root = f'{folder}/{packages}'
+            write_module(root, packages)
+            agree.append(compare(program, other, f'{packages:5} packages', root, times, folder))
     sys.exit(not all(agree))
 
 
-main()
+if __name__ == '__main__':
+    main()

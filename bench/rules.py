@@ -36,9 +36,13 @@ IN_WORDS = {
     ('L1', 'a file of 16,777,217 bytes'): {'a.go, quoted': '"package p"\n" " * 16777208\n'},
     ('P2', '`import "m"` in the package m'): {'a.go': 'package p\n\nimport "m"\n'},
     ('P3', '`package p` and `package q` in two files of a folder'): {'a.go': 'package p\n', 'b.go': 'package q\n'},
+    ('L4', '`type T` with 256 times `[]` before `int`'): {
+        'a.go, quoted': '"package p\\n"\n"\\n"\n"type T "\n"[]" * 256\n"int\\n"\n'
+    },
+    ('L5', 'a struct with 65,536 times `_ int`'): {
+        'a.go, quoted': '"package p\\n"\n"\\n"\n"type T struct {\\n"\n"_ int\\n" * 65536\n"}\\n"\n'
+    },
 }
-# The rules that no module which is loaded can break yet: each is told of below its table, and stands in none.
-UNTOLD = {'P5', 'C3', 'C4', 'C5', 'C12', 'C13', 'L4', 'L5'}
 wrong = []
 
 
@@ -179,7 +183,7 @@ def check_all_told(pairs, folder, suffix, pattern):
     """Each definition or constant of a rule is in the tables."""
     for path in sorted(CRATES.glob(f'*/{folder}/**/*{suffix}')):
         for name, family, number in pattern.findall(path.read_text()):
-            if family + number not in UNTOLD and (name, str(path.relative_to(CRATES))) not in pairs:
+            if (name, str(path.relative_to(CRATES))) not in pairs:
                 say(f'{family}{number}: {name} of {path.relative_to(CRATES)} is not in the tables')
 
 

@@ -1,4 +1,4 @@
-// Checks a module of constants with go/parser and go/types, and prints the lines of gocheck's report, to compare
+// Checks a module of constants and types with go/parser and go/types, and prints the lines of gocheck's report, to compare
 // gocheck with.
 //
 // usage: modules ROOT [STUBS]    ends with status 1 at the first error, which is printed
@@ -162,22 +162,43 @@ func (m *module) print(files []*ast.File, info *types.Info) {
 }
 
 func (m *module) printDefs(file *ast.File, info *types.Info) {
+	rights := map[*ast.Ident]ast.Expr{}
 	ast.Inspect(file, func(node ast.Node) bool {
+		if spec, ok := node.(*ast.TypeSpec); ok {
+			rights[spec.Name] = spec.Type
+		}
 		name, ok := node.(*ast.Ident)
 		if !ok {
 			return true
 		}
 		switch object := info.Defs[name].(type) {
 		case *types.Const:
-			fmt.Fprintf(m.out, "def\t%s\t%s\tconst\t%s\t%s\n", m.place(name.Pos()), name.Name, object.Type(), text(object.Val()))
-		case *types.PkgName:
-			if name.Name == "." {
-				return true
+			m.printDef(name, "const", object.Type().String(), text(object.Val()))
+		case *types.TypeName:
+			if object.IsAlias() {
+				m.printDef(name, "alias", typeText(object.Type()))
+			} else {
+				m.printDef(name, "type", typeText(object.Type()), typeText(info.TypeOf(rights[name])))
 			}
-			fmt.Fprintf(m.out, "def\t%s\t%s\tpackage\t%s\n", m.place(name.Pos()), name.Name, object.Imported().Path())
+		case *types.Var:
+			kind := "var"
+			if object.IsField() {
+				kind = "field"
+			}
+			m.printDef(name, kind, typeText(object.Type()))
+		case *types.Func:
+			m.printDef(name, "func", typeText(object.Type()))
+		case *types.PkgName:
+			if name.Name != "." {
+				m.printDef(name, "package", object.Imported().Path())
+			}
 		}
 		return true
 	})
+}
+
+func (m *module) printDef(name *ast.Ident, fields ...string) {
+	fmt.Fprintf(m.out, "def\t%s\t%s\t%s\n", m.place(name.Pos()), name.Name, strings.Join(fields, "\t"))
 }
 
 // printExpr prints the line of an expression, and says whether its parts have lines.
@@ -186,12 +207,31 @@ func (m *module) printExpr(node ast.Node, info *types.Info) bool {
 	if !ok {
 		return true
 	}
-	if known, ok := info.Types[expr]; ok && known.Value != nil {
-		end := m.files.Position(expr.End())
-		fmt.Fprintf(m.out, "expr\t%s\t%d:%d\tconst\t%s\t%s\n", m.place(expr.Pos()), end.Line, end.Column, known.Type, text(known.Value))
+	known, ok := info.Types[expr]
+	if _, dots := expr.(*ast.Ellipsis); dots {
+		// `...T` is no type, though go/types says []T of it
+		ok = false
+	}
+	if ok && known.Value != nil {
+		m.printRecord(expr, "const", known.Type.String(), text(known.Value))
+	} else if ok && known.IsType() {
+		m.printRecord(expr, "type", typeText(known.Type))
+	}
+	if literal, ok := expr.(*ast.InterfaceType); ok {
+		// the signature of a method has no line
+		for _, field := range literal.Methods.List {
+			if signature, ok := field.Type.(*ast.FuncType); ok && len(field.Names) > 0 {
+				delete(info.Types, signature)
+			}
+		}
 	}
 	_, selects := expr.(*ast.SelectorExpr)
 	return !selects
+}
+
+func (m *module) printRecord(expr ast.Expr, fields ...string) {
+	end := m.files.Position(expr.End())
+	fmt.Fprintf(m.out, "expr\t%s\t%d:%d\t%s\n", m.place(expr.Pos()), end.Line, end.Column, strings.Join(fields, "\t"))
 }
 
 func text(value constant.Value) string {
@@ -199,6 +239,9 @@ func text(value constant.Value) string {
 }
 
 func (m *module) place(pos token.Pos) string {
+	if !pos.IsValid() {
+		return "universe"
+	}
 	at := m.files.Position(pos)
 	sign, root := "", m.root
 	if m.stubs != "" && strings.HasPrefix(at.Filename, m.stubs+"/") {
