@@ -9,6 +9,7 @@ their peak memory in MiB. Ends with status 1 where the reports differ.
 """
 import os, subprocess, sys, tempfile
 
+HERE = os.path.dirname(os.path.abspath(__file__))
 GO = '/usr/lib/go-1.19/bin/go'
 TIME = '/usr/bin/time'
 CONSTANTS = 10
@@ -54,9 +55,14 @@ def read(path):
         return file.read()
 
 
+def program_named():
+    """The program that the first word names, or the one that is built here."""
+    return os.path.abspath(sys.argv[1] if len(sys.argv) > 1 else HERE + '/../crates/gocheck/out/gocheck')
+
+
 def build(other, folder):
     """Builds the program over go/types."""
-    sources = [f'{os.path.dirname(os.path.abspath(__file__))}/modules_go/{name}.go' for name in ('main', 'types')]
+    sources = [f'{HERE}/modules_go/{name}.go' for name in ('main', 'types')]
     env = {**os.environ, 'GO111MODULE': 'off', 'GOCACHE': folder + '/cache'}
     subprocess.run([GO, 'build', '-o', other, *sources], check=True, env=env)
 
@@ -74,8 +80,7 @@ def compare(program, other, what, root, times, folder):
 
 
 def main():
-    here = os.path.dirname(os.path.abspath(__file__))
-    program = os.path.abspath(sys.argv[1] if len(sys.argv) > 1 else here + '/../crates/gocheck/out/gocheck')
+    program = program_named()
     with tempfile.TemporaryDirectory() as folder:
         other = folder + '/modules'
         build(other, folder)

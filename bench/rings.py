@@ -82,8 +82,7 @@ def check(program, what, lines, wanted, folder):
 
 
 def main():
-    here = os.path.dirname(os.path.abspath(__file__))
-    program = os.path.abspath(sys.argv[1] if len(sys.argv) > 1 else here + '/../crates/gocheck/out/gocheck')
+    program = modules.program_named()
     with tempfile.TemporaryDirectory() as folder:
         right = [check(program, what, lines, wanted, folder) for what, lines, wanted in CASES]
     sys.exit(not all(right))

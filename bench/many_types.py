@@ -1,7 +1,7 @@
 #!/usr/bin/env python3
 """Times the program on modules of types, and beside it a program over go/parser and go/types.
 
-usage: bench/types.py [PROGRAM]    (crates/gocheck/out/gocheck if left out)
+usage: bench/many_types.py [PROGRAM]    (crates/gocheck/out/gocheck if left out)
 
 Needs Debian's golang-1.19-go and time. 1,000 packages have ten types each, of every form, that use those before them and
 those of the package before; one package has 20,000 types, each of which uses the one before. Prints what bench/modules.py
@@ -72,8 +72,7 @@ def write(folder, name, text):
 
 
 def main():
-    here = os.path.dirname(os.path.abspath(__file__))
-    program = os.path.abspath(sys.argv[1] if len(sys.argv) > 1 else here + '/../crates/gocheck/out/gocheck')
+    program = modules.program_named()
     with tempfile.TemporaryDirectory() as folder:
         other = folder + '/modules'
         modules.build(other, folder)
