@@ -26,8 +26,8 @@ ends_field (more_trees t no_trees) = is_tag t
 ends_field (more_trees t (more_trees u ts)) = false
 
 -- The unbuilt forms in a tree, by what it stands for, each by its first byte; what stands in one is not asked. A node
--- with other parts than those of a built form is one. Type arguments are told at their `[`: where the part ends that
--- stands before them.
+-- with other parts than those of a built form is one. Type arguments are told where the part ends that stands before
+-- them, which is at their `[` where nothing stands between.
 abbrev mutual
   pub unbuilt_as : Role → Tree → List ℕ
   unbuilt_as role (branch id from to kind text parts) = unbuilt_parts (parts_as role kind parts) from parts

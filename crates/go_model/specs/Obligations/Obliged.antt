@@ -1,7 +1,8 @@
 -- Struct types; Interface types; Type declarations (Go specification).
 -- Decides what the types of a package break that needs headers no node waits for, over those known at the end: C9 at an
--- embedded field, C15 where a constraint is the type of a variable or a component of a type that is no interface, C19 at an
--- interface. Where a node that is needed has no record, or a header is lacking, nothing is broken.
+-- embedded field, C15 where a constraint is the type of a variable, a component of a type that is no interface, or the type
+-- of a parameter or result of an interface's method, C19 at an interface. Where a node that is needed has no record,
+-- nothing is broken; nor where a header is lacking that no answer does without.
 use Rattle.std.specs.Prelude.{◌≡◌, Bool, true, false, Option, Some, List, [], Contains, drop, filter, option_and_then, unwrap_or}
 use Rattle.std.specs.List.{flat_map, zip}
 use Rattle.go_base.specs.declared.rule.Broken.{Broken}

@@ -1,8 +1,8 @@
 -- Interface types (Go specification).
 -- Decides what is asked of an interface with these elements in the package of this path, which has so many
 -- operands: the types in the signatures of its methods and in its unions, in source order.
--- InterfaceElem = MethodElem | TypeElem . What its elements break together, as two methods of one name, is not asked yet, nor
--- where an interface with terms may stand.
+-- InterfaceElem = MethodElem | TypeElem . What its elements break together, as two methods of one name, and where an
+-- interface with terms may stand, is left to `Obliged`.
 use Rattle.std.specs.Prelude.{ℕ, Bool, true, false, List, [], ◌∷◌, ◌++◌, drop, length, map, take}
 use Rattle.go_tree.specs.declared.node_kind.NodeKind.{NodeKind}
 use Rattle.go_tree.specs.declared.node_kind.NodeKind.TheVariants.{MethodElem, TildeType, Union}

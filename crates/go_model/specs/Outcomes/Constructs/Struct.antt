@@ -1,7 +1,7 @@
 -- Struct types (Go specification).
 -- Decides what is asked of a struct with these field declarations in the package of this path, which has so many
 -- operands: the types of its fields, in source order. StructType = "struct" "{" { FieldDecl ";" } "}" . Which types may be
--- embedded is not asked yet.
+-- embedded is left to `Obliged`.
 use Rattle.std.specs.Prelude.{ℕ, Bool, true, false, List, [], find, map, option_and_then, unwrap_or}
 use Rattle.std.specs.List.{flat_map, zip}
 use Rattle.go_tree.specs.declared.node_kind.NodeKind.{NodeKind}
