@@ -16,8 +16,7 @@ ghost use Rattle.go_decl.specs.Parts.{broken_under, unequal_for};
 
 use crate::rules::UNEQUAL_SIDES;
 use go_base::{Broken, NoMemory, Rule};
-use go_expr::{NO_TYPE, NO_VALUE};
-use go_model::{ExprWalk, Mode, Outcome, Spot};
+use go_model::{ExprWalk, Mode, NO_TYPE, NO_VALUE, Outcome, Spot};
 use go_module::{Built, ObjKind, add_if, broken_at};
 use go_names::{Declaration, Spec};
 use go_operands::{expressions_in, operands_of};

@@ -9,13 +9,11 @@ ghost use Rattle.go_model.specs.Types.Own.{IsOwnOutcome, IsOwnRec, Keeps};
 ghost use Rattle.go_expr.specs.Given.{AreOwnRecs, recs_as};
 ghost use Rattle.go_expr.specs.TypeLiteral.{array_outcome, element_outcome};
 
-use crate::broken::broken_at;
 use crate::given::{Given, copy_of, first_records, type_in};
 use crate::integer::integer_in;
-use crate::rules::{NO_LENGTH, NO_TYPE};
 use crate::type_literal::type_literal;
 use go_base::NoMemory;
-use go_model::{Judge, Outcome, Rec, Spot};
+use go_model::{Judge, NO_LENGTH, NO_TYPE, Outcome, Rec, Spot, broken_at};
 use go_term::Shape;
 use std::alloc::Global;
 

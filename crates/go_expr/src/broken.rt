@@ -1,6 +1,5 @@
-// Nodes that break a rule.
-ghost use Rattle.std.specs.Prelude.{◌≡◌, ◌∷◌, [], IfOk};
-ghost use Rattle.go_model.specs.declared.outcome.Spot.TheVariants as spots;
+// Nodes that break a rule at operands.
+ghost use Rattle.std.specs.Prelude.{◌≡◌, IfOk};
 ghost use Rattle.go_model.specs.Outcomes.Judged as outcomes;
 ghost use Rattle.go_model.specs.Outcomes.View.{outcome_as};
 ghost use Rattle.go_model.specs.Types.Own.{IsOwnOutcome};
@@ -9,31 +8,6 @@ ghost use Rattle.go_expr.specs.Outcomes.{spots_of_two};
 use go_base::{NoMemory, Rule};
 use go_model::{Judge, Outcome, Spot};
 use std::alloc::Global;
-
-/// A node that breaks a rule, as a whole. An error is want of memory.
-pub fn broken<J: Judge>(alloc: Global, judge: &J, rule: Rule) -> Result<Outcome, NoMemory>
-    ensures outcome { IfOk result (λ outcome. outcome_as (J.tree judge.now) outcome
-        ≡ outcomes.Broken rule (spots.Whole ∷ [])) }
-    ensures own { IfOk result (IsOwnOutcome (J.is_type judge.now)) }
-{
-    broken_at(alloc, judge, rule, Spot::Whole)
-}
-
-/// A node that breaks a rule, here. An error is want of memory.
-pub fn broken_at<J: Judge>(
-    alloc: Global,
-    judge: &J,
-    rule: Rule,
-    spot: Spot,
-) -> Result<Outcome, NoMemory>
-    ensures outcome { IfOk result (λ outcome. outcome_as (J.tree judge.now) outcome
-        ≡ outcomes.Broken rule (spot ∷ [])) }
-    ensures own { IfOk result (IsOwnOutcome (J.is_type judge.now)) }
-{
-    let mut list = Vec::new(alloc);
-    list.push(spot)?;
-    Ok(Outcome::Broken(rule, list))
-}
 
 /// A node that breaks a rule at its first two operands, at each of which the answer is No. An error is want of memory.
 pub fn broken_at_two<J: Judge>(

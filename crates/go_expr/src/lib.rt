@@ -7,8 +7,6 @@
 //! found is left to go_decl, which rules are told where to go_check.
 #![tactic(auto)]
 
-mod rules;
-
 // What identifiers mean.
 mod meaning;
 
@@ -44,5 +42,4 @@ mod headers;
 mod walker;
 
 pub use headers::{header_by, header_over};
-pub use rules::{NO_TYPE, NO_VALUE};
 pub use walker::Walker;

@@ -9,11 +9,9 @@ ghost use Rattle.go_model.specs.Outcomes.Walk as walk;
 ghost use Rattle.go_model.specs.Types.Own.{IsOwnOutcome, IsOwnRec, Keeps};
 ghost use Rattle.go_expr.specs.Outcomes.{limited_view};
 
-use crate::broken::broken;
-use crate::rules::WIDE_INTEGER;
 use crate::types::basic_type;
 use go_base::NoMemory;
-use go_model::{Judge, Mode, Outcome, Rec};
+use go_model::{Judge, Mode, Outcome, Rec, WIDE_INTEGER, broken};
 use go_num::Value;
 use go_scan::int_lit_value;
 use go_term::Basic;
@@ -65,5 +63,6 @@ fn integer_record<J: Judge>(alloc: Global, judge: &mut J, value: i128) -> Result
         ty: Some(basic_type(alloc, judge, Basic::UntypedInt)?),
         value: Some(Value::Int(value)),
         object: None,
+        span: None,
     })
 }

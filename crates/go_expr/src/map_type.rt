@@ -9,10 +9,9 @@ ghost use Rattle.go_model.specs.Outcomes.Records.{rec_as};
 ghost use Rattle.go_expr.specs.Given.{AreOwnRecs, recs_as, term_in};
 
 use crate::given::{Given, copy_of, first_records, no_types, type_in};
-use crate::rules::NO_TYPE;
 use crate::type_literal::type_literal;
 use go_base::NoMemory;
-use go_model::{Judge, Outcome, Rec};
+use go_model::{Judge, NO_TYPE, Outcome, Rec};
 use go_term::{Shape, Ty};
 use std::alloc::Global;
 

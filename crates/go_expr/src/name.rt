@@ -10,10 +10,9 @@ ghost use Rattle.go_model.specs.Outcomes.Records.{RecData, header_as, named_reco
 ghost use Rattle.go_model.specs.Outcomes.View.{outcome_as};
 ghost use Rattle.go_model.specs.Types.Own.{IsOwnHeader, IsOwnOutcome, IsOwnRec, Keeps};
 
-use crate::broken::broken;
 use crate::types::{any_type, basic_type, named_type};
 use go_base::NoMemory;
-use go_model::{Header, Judge, Meaning, Mode, Outcome, Rec};
+use go_model::{Header, Judge, Meaning, Mode, Outcome, Rec, broken};
 use go_module::{ObjId, UNBUILT_FORM};
 use go_term::Ty;
 use std::alloc::Global;
@@ -107,6 +106,7 @@ fn named_record<J: Judge>(
             ty: Some(ty),
             value: Some(value),
             object: Some(d),
+            span: None,
         }),
         Header::Var(ty) => Ok(typed_record(judge, d, Mode::Var, ty)),
         Header::Func(_, ty) => Ok(typed_record(judge, d, Mode::Value, ty)),
@@ -129,5 +129,6 @@ fn typed_record<J: Judge>(judge: &J, d: ObjId, mode: Mode, ty: Ty) -> Rec
         ty: Some(ty),
         value: None,
         object: Some(d),
+        span: None,
     }
 }

@@ -10,12 +10,10 @@ ghost use Rattle.go_model.specs.Types.Own.{AreOwn, IsOwnOutcome, IsOwnRec, Keeps
 ghost use Rattle.go_expr.specs.Given.{AreOwnRecs, recs_as};
 ghost use Rattle.go_expr.specs.TypeLiteral.{head_of, one_literal};
 
-use crate::broken::broken_at;
 use crate::given::{Given, copy_of, first_records, type_in};
-use crate::rules::NO_TYPE;
 use crate::type_literal::type_literal;
 use go_base::NoMemory;
-use go_model::{Judge, Outcome, Rec, Spot};
+use go_model::{Judge, NO_TYPE, Outcome, Rec, Spot, broken_at};
 use go_term::{Dir, Shape, Ty};
 use std::alloc::Global;
 

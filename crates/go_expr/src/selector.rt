@@ -8,10 +8,9 @@ ghost use Rattle.go_model.specs.Outcomes.View.{outcome_as};
 ghost use Rattle.go_model.specs.Outcomes.Walk as walk;
 ghost use Rattle.go_model.specs.Types.Own.{IsOwnOutcome, Keeps};
 
-use crate::broken::broken;
 use crate::name::name;
 use go_base::NoMemory;
-use go_model::{Judge, Meaning, Outcome};
+use go_model::{Judge, Meaning, Outcome, broken};
 use go_module::UNBUILT_FORM;
 use std::alloc::Global;
 

@@ -13,12 +13,11 @@ ghost use Rattle.go_model.specs.Outcomes.Walk as walk;
 ghost use Rattle.go_model.specs.Types.Own.{IsOwnOutcome, IsOwnRec, Keeps};
 ghost use Rattle.go_expr.specs.Outcomes.{is_taken, operand_in, sum_by_kinds, sum_of_others};
 
-use crate::broken::{broken, broken_at_two};
+use crate::broken::broken_at_two;
 use crate::integer::integer_in;
 use crate::literal::limited_outcome;
-use crate::rules::NO_VALUE;
 use go_base::NoMemory;
-use go_model::{Judge, Mode, Outcome, Rec};
+use go_model::{Judge, Mode, NO_VALUE, Outcome, Rec, broken};
 use go_module::{ObjId, UNBUILT_FORM};
 use go_num::{IntOp, int_binary};
 use std::alloc::Global;

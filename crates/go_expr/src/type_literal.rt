@@ -7,10 +7,8 @@ ghost use Rattle.go_model.specs.Outcomes.View.{outcome_as};
 ghost use Rattle.go_model.specs.Types.Own.{AreOwn, IsOwnOutcome, IsOwnRec, Keeps};
 ghost use Rattle.go_expr.specs.TypeLiteral.{type_outcome};
 
-use crate::broken::broken;
-use crate::rules::{DEEP_TYPE, LARGE_TYPE};
 use go_base::NoMemory;
-use go_model::{Judge, Mode, Outcome, Rec};
+use go_model::{DEEP_TYPE, Judge, LARGE_TYPE, Mode, Outcome, Rec, broken};
 use go_term::{Shape, TermFault, Ty};
 use std::alloc::Global;
 
@@ -49,5 +47,6 @@ fn type_record<J: Judge>(judge: &J, ty: Ty) -> Rec
         ty: Some(ty),
         value: None,
         object: None,
+        span: None,
     }
 }

@@ -11,9 +11,8 @@ ghost use Rattle.go_expr.specs.Given.{AreOwnRecs, no_type_spots, recs_as};
 ghost use Rattle.go_expr.specs.TypeLiteral.{IsOwnTyped, literal_of_all, typed_outcome};
 
 use crate::given::{Given, first_records, no_types, types_of};
-use crate::rules::NO_TYPE;
 use go_base::NoMemory;
-use go_model::{Judge, Outcome, Rec, Spot};
+use go_model::{Judge, NO_TYPE, Outcome, Rec, Spot};
 use go_term::Ty;
 use std::alloc::Global;
 

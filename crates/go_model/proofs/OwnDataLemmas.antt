@@ -26,7 +26,7 @@ module _ (own : Term → Type 0) (tree tree' : Term → TypeData) (same : (t : T
   some_agree (Some t) is = ap Some (same t is)
 
   pub rec_agrees : (r : Rec) → IsOwnRec own r → rec_as tree' r ≡ rec_as tree r
-  rec_agrees r is = ap (λ (type : Option TypeData). record { mode = r.mode; type = type; value = r.value; object = r.object }) (some_agree r.ty is)
+  rec_agrees r is = ap (λ (type : Option TypeData). record { mode = r.mode; type = type; value = r.value; object = r.object; span = r.span }) (some_agree r.ty is)
 
   params_agree : (ps : List TypeParam) → AllByRecursion (IsOwnParam own) ps → map (param_as tree') ps ≡ map (param_as tree) ps
   params_agree [] is = refl
@@ -85,7 +85,7 @@ module _ (own : Term → Type 0) (tree : Term → TypeData) (copies : (t copy : 
   pub rec_copied : (r copy : Rec) → rec_view copy ≡ rec_view r → IsOwnRec own r → IsOwnRec own copy × (rec_as tree copy ≡ rec_as tree r)
   rec_copied r copy same is =
       let type = some_copied r.ty copy.ty (ap (λ (x : RecData). x.type) same) is in
-      (type.0, λ i. record { mode = (same i).mode; type = type.1 i; value = (same i).value; object = (same i).object })
+      (type.0, λ i. record { mode = (same i).mode; type = type.1 i; value = (same i).value; object = (same i).object; span = (same i).span })
 
   pub outcome_copied : (o copy : Outcome) → outcome_view copy ≡ outcome_view o → IsOwnOutcome own o → IsOwnOutcome own copy × (outcome_as tree copy ≡ outcome_as tree o)
   outcome_copied (O.Found r) (O.Found c) same is =

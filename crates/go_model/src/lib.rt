@@ -14,6 +14,7 @@ mod laws;
 
 // What is known of declarations and expressions.
 mod ask;
+mod broken;
 mod expr_walk;
 mod form;
 mod header;
@@ -23,6 +24,7 @@ mod meaning;
 mod number_hasher;
 mod outcome;
 mod rec;
+mod rules;
 mod value;
 
 // Reports.
@@ -37,6 +39,7 @@ mod headers_tests;
 mod law_tests;
 
 pub use ask::Ask;
+pub use broken::{broken, broken_at};
 pub use declared_object::DeclaredObject;
 pub use expr_walk::ExprWalk;
 pub use form::{Form, Reached};
@@ -56,4 +59,5 @@ pub use number_hasher::NumberHasher;
 pub use outcome::{Answer, Outcome, Spot};
 pub use rec::{Mode, Rec};
 pub use report::{PackageReport, Report, Verdict};
+pub use rules::{DEEP_TYPE, LARGE_TYPE, NO_LENGTH, NO_TYPE, NO_VALUE, WIDE_INTEGER};
 pub use value::copy_of;

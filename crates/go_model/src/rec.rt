@@ -33,14 +33,17 @@ pub enum Mode {
     CommaOk,
 }
 
-/// The record of an expression: what it stands for, its type, its value where it is a constant, and the
-/// object that it denotes where it is a name or a qualified identifier, parentheses aside.
+/// The record of an expression: what it stands for, its type, its value where it is a constant, the object
+/// that it denotes where it is a name or a qualified identifier, parentheses aside, and, of an untyped integer
+/// or rune that is no constant, the least and the greatest constant in it whose final type is that of the
+/// whole.
 #[derive(Debug, Drop)]
 pub struct Rec {
     pub mode: Mode,
     pub ty: Option<Ty>,
     pub value: Option<Value>,
     pub object: Option<ObjId>,
+    pub span: Option<(i128, i128)>,
 }
 
 impl Clone for Rec {
@@ -53,6 +56,7 @@ impl Clone for Rec {
             ty: type_copy(&self.ty)?,
             value: some_copy(&self.value)?,
             object: self.object,
+            span: self.span,
         })
     }
 }

@@ -18,12 +18,14 @@ use Rattle.go_model.specs.declared.rec.Mode.TheVariants as M
 use Rattle.go_model.specs.declared.rec.Rec.{Rec}
 
 -- what an expression stands for; its type; its value where it is a constant; the object that it denotes where it is a name
--- or a qualified identifier, parentheses aside
+-- or a qualified identifier, parentheses aside; and of an untyped integer or rune that is no constant, the least and the
+-- greatest constant in it whose final type is that of the whole
 pub record RecData : Type 0 where
   pub mode : Mode
   pub type : Option TypeData
   pub value : Option Value
   pub object : Option ObjId
+  pub span : Option (ℤ × ℤ)
 
 -- a type parameter: its object, and its constraint as an interface
 pub record ParamData : Type 0 where
@@ -46,7 +48,7 @@ pub data HeaderData : Type 0 where
 -- what the records, type parameters and headers of the program stand for, where a type stands for what `tree` says
 module _ (tree : Term → TypeData) where
   abbrev pub rec_as : Rec → RecData
-  rec_as r = record { mode = r.mode; type = option_map tree r.ty; value = r.value; object = r.object }
+  rec_as r = record { mode = r.mode; type = option_map tree r.ty; value = r.value; object = r.object; span = r.span }
 
   abbrev pub param_as : TypeParam → ParamData
   param_as p = record { object = p.object; constraint = tree p.bound }
@@ -76,7 +78,7 @@ untyped_int = basic_type UntypedInt
 
 -- the record of an untyped integer constant without a name
 abbrev pub integer_record : ℤ → RecData
-integer_record v = record { mode = M.Const; type = Some untyped_int; value = Some (Int v); object = None }
+integer_record v = record { mode = M.Const; type = Some untyped_int; value = Some (Int v); object = None; span = None }
 
 -- the value of an untyped integer constant
 abbrev pub integer_by : Option TypeData → Option Value → Option ℤ
@@ -90,7 +92,7 @@ integer_in r = integer_by r.type r.value
 
 -- the record of a name of this type that has no value
 abbrev pub typed_record : ObjId → Mode → TypeData → RecData
-typed_record d mode type = record { mode = mode; type = Some type; value = None; object = Some d }
+typed_record d mode type = record { mode = mode; type = Some type; value = None; object = Some d; span = None }
 
 -- the type that a record stands for, where it stands for one
 abbrev pub type_by : Mode → Option TypeData → Option TypeData
@@ -102,7 +104,7 @@ type_in r = type_by r.mode r.type
 
 -- the record of a type literal
 abbrev pub type_record : TypeData → RecData
-type_record type = record { mode = M.IsType; type = Some type; value = None; object = None }
+type_record type = record { mode = M.IsType; type = Some type; value = None; object = None; span = None }
 
 -- the record of a name, by the header of the declaration that it denotes
 abbrev pub named_record : ObjId → HeaderData → RecData

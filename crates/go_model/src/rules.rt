@@ -1,4 +1,5 @@
-// The rules on expressions and types by themselves. U0, which they break too, stands in go_module.
+// The rules on expressions and types by themselves that several constructs can break. U0, which they break too, stands in
+// go_module.
 use go_base::{Family, Rule};
 
 /// An integer constant outside -2^127 to 2^127-1 (Go specification, "Constants").
