@@ -40,8 +40,8 @@ pub enum NumFault {
     Count,
 }
 
-/// The exact value of `a op b`; Zero exactly where b is 0 in a quotient or a remainder, else Wide exactly where the value
-/// is outside -2^127 to 2^127-1.
+/// The exact value of `a op b`; Zero exactly where b is 0 in a quotient or a remainder, else Wide exactly where the
+/// value is outside -2^127 to 2^127-1.
 pub fn int_binary(op: IntOp, a: i128, b: i128) -> Result<i128, NumFault>
     ensures value { result ≡ binary_result op a b }
     ensures bits { IfOk result (λ v. IsBitwise op a b v) }

@@ -1,8 +1,8 @@
 //! Values of constants: arithmetic on 128 bits, comparisons, texts of limited length, and how a value reads.
 //!
-//! `value` has what a constant can be; `arithmetic`, `bits`, `unary`, `shifts` and `comparisons` the operators, `ranges`
-//! the integer types; `text` the operators on strings and the string of a rune; `value_texts` how a value reads. Which
-//! types represent a value of another kind is left out.
+//! `value` has what a constant can be; `arithmetic`, `bits`, `unary`, `shifts` and `comparisons` the operators,
+//! `ranges` the integer types; `text` the operators on strings and the string of a rune; `value_texts` how a value
+//! reads. Which types represent a value that is no integer is left out.
 #![tactic(auto)]
 
 mod arithmetic;
@@ -24,5 +24,7 @@ pub use unary::{UnOp, int_unary};
 pub use value::{NumKind, Value};
 pub use value_texts::{put_quoted, value_text};
 
+#[cfg(test)]
+mod int_tests;
 #[cfg(test)]
 mod tests;
