@@ -1,6 +1,6 @@
 -- Lemmas on the binary digits of whole numbers: what the bitwise operators make of them, and that a number is told by
 -- them.
-use Rattle.std.proofs.Common.{◌≡◌, ℕ, zero, suc, ◌+◌, ◌%◌, ◌^◌, ◌<◌, ◌≤◌, min, max, ℤ, pos, negsuc, Bool, true, false, not, ◌&&◌, ◌||◌, ◌==◌, bit_and, bit_or, bit_xor, refl, ap, sym, ◌∙◌, arith, pow_pos, pow-suc}
+use Rattle.std.proofs.Common.{◌≡◌, ℕ, zero, suc, ◌+◌, ◌-◌, ◌%◌, ◌^◌, ◌<◌, ◌≤◌, min, max, ℤ, pos, negsuc, Bool, true, false, not, ◌&&◌, ◌||◌, ◌==◌, bit_and, bit_or, bit_xor, refl, ap, ap₂, sym, ◌∙◌, arith, pow_pos, pow-suc, mul_comm}
 use Rattle.std.specs.Int.{bit_at}
 use Rattle.std.proofs.lemmas.Nat.Bits.{bit_at_and, bit_at_or, bit_at_xor, bit_at-lt, bit_at_above, same_from_bits}
 use Rattle.go_num.specs.declared.arithmetic.IntOp.{IntOp}
@@ -57,9 +57,7 @@ and_xor false q = refl
 
 is_set_without : (a b i : ℕ) → is_set (bits_without a b) i ≡ (is_set a i && not (is_set b i))
 is_set_without a b i =
-    is_set_and a (bit_xor a b) i
-    ∙ ap (λ (q : Bool). is_set a i && q) (is_set_xor a b i)
-    ∙ and_xor (is_set a i) (is_set b i)
+    is_set_and a (bit_xor a b) i ∙ ap (λ (q : Bool). is_set a i && q) (is_set_xor a b i) ∙ and_xor (is_set a i) (is_set b i)
 
 self_below : (n : ℕ) → n < 2 ^ n
 self_below zero = omega arith

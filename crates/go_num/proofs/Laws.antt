@@ -1,5 +1,5 @@
 -- Laws of the arithmetic of constants (Go specification, "Integer operators").
-use Rattle.std.proofs.Common.{◌≡◌, ◌≢◌, ℕ, ◌<◌, ℤ, pos, negsuc, ◌+ℤ◌, ◌*ℤ◌, ◌<ℤ◌, ◌≤ℤ◌, neg_ℤ, unsigned_abs, suc, zero, ◌%◌, refl, arith, zero-lt-suc}
+use Rattle.std.proofs.Common.{◌≡◌, ◌≢◌, ℕ, ◌<◌, ℤ, pos, negsuc, ◌+ℤ◌, ◌*ℤ◌, ◌<ℤ◌, ◌≤ℤ◌, neg_ℤ, unsigned_abs, suc, zero, ◌%◌, refl, ap, arith, zero-lt-suc}
 use Rattle.std.proofs.lemmas.Int.{ints, quot-rem, rem_below}
 use Rattle.go_num.specs.declared.arithmetic.IntOp.TheVariants.{Quo, Rem}
 use Rattle.go_num.specs.Arithmetic.{binary_value}
@@ -26,8 +26,7 @@ not_below : (n : ℕ) → pos 0 ≤ℤ pos n
 not_below n = omega (arith, ints)
 
 -- "truncated towards zero": a remainder has the sign of the dividend, or is 0
-pub remainder_sign : (a b : ℤ)
-    → (pos 0 ≤ℤ a → pos 0 ≤ℤ binary_value Rem a b) × (a <ℤ pos 0 → binary_value Rem a b ≤ℤ pos 0)
+pub remainder_sign : (a b : ℤ) → (pos 0 ≤ℤ a → pos 0 ≤ℤ binary_value Rem a b) × (a <ℤ pos 0 → binary_value Rem a b ≤ℤ pos 0)
 remainder_sign (pos a) b = (λ h. not_below (a % unsigned_abs b), λ h. absurd (omega (arith, ints, h)))
 remainder_sign (negsuc a) b = (λ h. absurd (omega (arith, ints, h)), λ h. neg_below (suc a % unsigned_abs b))
 

@@ -1,5 +1,5 @@
 -- Lemmas on shifts of numbers that fit an i128.
-use Rattle.std.proofs.Common.{◌≡◌, ◌≢◌, ℕ, zero, suc, ◌-◌, ◌*◌, ◌/◌, ◌%◌, ◌^◌, ◌<◌, ◌≤◌, min, ℤ, pos, negsuc, ◌*ℤ◌, neg_ℤ, false, true, FitsSigned, SomeIff, Option, None, ⊎_elim, refl, ap, ap₂, sym, ◌∙◌, arith, to_z, of_z, pow_mono, mul-le-mul, lt_of_lt_of_le, lt_of_le_of_lt, le_refl}
+use Rattle.std.proofs.Common.{◌≡◌, ◌≢◌, ℕ, zero, suc, ◌+◌, ◌-◌, ◌*◌, ◌/◌, ◌%◌, ◌^◌, ◌<◌, ◌≤◌, min, ℤ, pos, negsuc, ◌*ℤ◌, neg_ℤ, false, true, FitsSigned, SomeIff, Option, Some, None, ⊎_elim, refl, ap, ap₂, sym, ◌∙◌, subst, arith, to_z, of_z, pow_mono, mul-le-mul, lt_of_lt_of_le, lt_of_le_of_lt, le_refl}
 use Rattle.std.specs.Int.{w128, int_shr}
 use Rattle.std.proofs.lemmas.Int.{to_z-of_z, to_z_pos}
 use Rattle.std.proofs.lemmas.Nat.{one_shl, pow_below, shr_le}
@@ -15,8 +15,7 @@ one_shifted n h =
     ap (to_z w128) (one_shl n 128 (omega arith)) ∙ to_z_pos w128 (2 ^ n) (pow_below n 127 h)
 
 pub shifted_by_product : (o : Option ℤ) (a : ℤ) (n : ℕ) → FitsSigned w128 a → n < 127
-    → (let product = to_z w128 (of_z w128 a) *ℤ to_z w128 ((1 * 2 ^ n) % 2 ^ 128) in
-    SomeIff o (FitsSigned w128 product) product)
+    → SomeIff o (FitsSigned w128 (to_z w128 (of_z w128 a) *ℤ to_z w128 ((1 * 2 ^ n) % 2 ^ 128))) (to_z w128 (of_z w128 a) *ℤ to_z w128 ((1 * 2 ^ n) % 2 ^ 128))
     → o ≡ limited (shift_value true a n)
 shifted_by_product o a n f h s =
     limited_checked o (to_z w128 (of_z w128 a) *ℤ to_z w128 ((1 * 2 ^ n) % 2 ^ 128)) s
@@ -30,23 +29,17 @@ product_above : (k p : ℕ) → 2 ^ 127 ≤ p → 2 ^ 127 ≤ suc k * p
 product_above k p h = let more : 1 * p ≤ suc k * p = mul-le-mul (omega arith) (le_refl p) in omega arith
 
 product_below : (k n : ℕ) → 127 ≤ n → (k ≡ 0 → n ≢ 127) → 2 ^ 127 < suc k * 2 ^ n
-product_below zero n h far =
-    let further : n ≢ 127 = far refl in
-    let large : 2 ^ 128 ≤ 2 ^ n = pow_mono {i = 128} {j = n} (omega arith) in omega arith
+product_below zero n h far = let further : n ≢ 127 = far refl in let large : 2 ^ 128 ≤ 2 ^ n = pow_mono {i = 128} {j = n} (omega arith) in omega arith
 product_below (suc k) n h far =
     let large : 2 ^ 127 ≤ 2 ^ n = pow_mono {i = 127} {j = n} h in
     let more : 2 * 2 ^ n ≤ suc (suc k) * 2 ^ n = mul-le-mul (omega arith) (le_refl (2 ^ n)) in omega arith
 
-pub wide_shifted : (a : ℤ) (n : ℕ) → 127 ≤ n → (of_z w128 a ≡ 0 → ⊥) → (of_z w128 a ≡ 2 ^ 128 - 1 → n ≡ 127 → ⊥)
-    → None ≡ limited (shift_value true a n)
+pub wide_shifted : (a : ℤ) (n : ℕ) → 127 ≤ n → (of_z w128 a ≡ 0 → ⊥) → (of_z w128 a ≡ 2 ^ 128 - 1 → n ≡ 127 → ⊥) → None ≡ limited (shift_value true a n)
 wide_shifted (pos zero) n h nonzero far = absurd (nonzero refl)
-wide_shifted (pos (suc k)) n h nonzero far =
-    sym (limited_above (suc k * 2 ^ n) (product_above k (2 ^ n) (pow_mono {i = 127} {j = n} h)))
+wide_shifted (pos (suc k)) n h nonzero far = sym (limited_above (suc k * 2 ^ n) (product_above k (2 ^ n) (pow_mono {i = 127} {j = n} h)))
 wide_shifted (negsuc k) n h nonzero far =
     let large = product_below k n h (λ (e : k ≡ 0). far (ap (λ (m : ℕ). 2 ^ 128 - suc m) e)) in
-    let size : ℕ = suc k * 2 ^ n - 1 in
-    let same : suc k * 2 ^ n ≡ suc size = omega arith in
-    sym (ap limited (neg_suc (suc k * 2 ^ n) size same) ∙ limited_below size (omega arith))
+    sym (ap limited (neg_suc (suc k * 2 ^ n) (suc k * 2 ^ n - 1) (omega arith)) ∙ limited_below (suc k * 2 ^ n - 1) (omega arith))
 
 -- ---- to the right
 
@@ -73,8 +66,7 @@ shr_fits : (a : ℤ) (k : ℕ) → FitsSigned w128 a → FitsSigned w128 (int_sh
 shr_fits (pos m) k f = record { sfits = lt_of_le_of_lt (shr_le m k) f.sfits }
 shr_fits (negsuc m) k f = record { sfits = lt_of_le_of_lt (shr_le m k) f.sfits }
 
-pub shifted_right_is : (a : ℤ) (n k : ℕ) → FitsSigned w128 a → k ≡ min n 127
-    → to_z w128 (of_z w128 (int_shr (to_z w128 (of_z w128 a)) k)) ≡ shift_value false a n
+pub shifted_right_is : (a : ℤ) (n k : ℕ) → FitsSigned w128 a → k ≡ min n 127 → to_z w128 (of_z w128 (int_shr (to_z w128 (of_z w128 a)) k)) ≡ shift_value false a n
 shifted_right_is a n k f e =
     ap (λ (z : ℤ). to_z w128 (of_z w128 (int_shr z k))) (to_z-of_z w128 a f)
     ∙ to_z-of_z w128 (int_shr a k) (shr_fits a k f)

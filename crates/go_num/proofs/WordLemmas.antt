@@ -1,5 +1,5 @@
 -- Lemmas on the operators of an i128: on numbers that fit, they are the bitwise operators of whole numbers.
-use Rattle.std.proofs.Common.{◌≡◌, ℕ, ◌-◌, ◌^◌, ◌<◌, ◌≤◌, min, ℤ, pos, negsuc, Bool, true, false, not, ◌&&◌, ◌||◌, ◌==◌, ⊎_elim, bit_and, bit_or, bit_xor, FitsSigned, refl, ap, ap₂, sym, ◌∙◌, subst, arith, to_z, of_z, lt_of_le_of_lt}
+use Rattle.std.proofs.Common.{◌≡◌, ℕ, suc, ◌-◌, ◌^◌, ◌<◌, ◌≤◌, min, ℤ, pos, negsuc, Bool, true, false, not, ◌&&◌, ◌||◌, ◌==◌, ⊎_elim, bit_and, bit_or, bit_xor, FitsSigned, refl, ap, ap₂, sym, ◌∙◌, subst, arith, to_z, of_z, lt_of_le_of_lt}
 use Rattle.std.specs.Int.{w128, bit_at, int_bit_and, int_bit_or, int_bit_xor}
 use Rattle.std.proofs.lemmas.Int.{to_z-of_z, to_z_pos}
 use Rattle.std.proofs.lemmas.Nat.{and_le_l, or_lt, xor_lt}
@@ -39,10 +39,8 @@ low_digits m i l =
 high_far : (m i : ℕ) → m < 2 ^ 128 → 2 ^ 127 ≤ m → 128 ≤ i → not (is_set (2 ^ 128 - 1 - m) i) ≡ is_set m (min i 127)
 high_far m i l large h =
     let small : 2 ^ 128 - 1 - m < 2 ^ 127 = omega arith in
-    let here : not (is_set (2 ^ 128 - 1 - m) i) ≡ true =
-    ap not (clear_from (2 ^ 128 - 1 - m) 127 i small (omega arith)) in
-    let last : not (is_set (2 ^ 128 - 1 - m) 127) ≡ true =
-    ap not (clear_from (2 ^ 128 - 1 - m) 127 127 small (omega arith)) in
+    let here : not (is_set (2 ^ 128 - 1 - m) i) ≡ true = ap not (clear_from (2 ^ 128 - 1 - m) 127 i small (omega arith)) in
+    let last : not (is_set (2 ^ 128 - 1 - m) 127) ≡ true = ap not (clear_from (2 ^ 128 - 1 - m) 127 127 small (omega arith)) in
     let there : is_set m (min i 127) ≡ is_set m 127 = ap (is_set m) (far_place i h) in
     here ∙ sym last ∙ flipped m 127 l (omega arith) ∙ sym there
 
@@ -114,18 +112,14 @@ not_fits : (b : ℤ) → FitsSigned w128 b → FitsSigned w128 (not_value b)
 not_fits (pos n) f = record { sfits = f.sfits }
 not_fits (negsuc n) f = record { sfits = f.sfits }
 
-pub word_and_not : (a b : ℤ) → FitsSigned w128 a → FitsSigned w128 b
-    → to_z w128 (bit_and (of_z w128 a) (2 ^ 128 - 1 - of_z w128 b)) ≡ and_not_value a b
+pub word_and_not : (a b : ℤ) → FitsSigned w128 a → FitsSigned w128 b → to_z w128 (bit_and (of_z w128 a) (2 ^ 128 - 1 - of_z w128 b)) ≡ and_not_value a b
 word_and_not a b f g =
     ap (λ (n : ℕ). to_z w128 (bit_and (of_z w128 a) n)) (word_flipped b g) ∙ word_and a (not_value b) f (not_fits b g)
 
 -- the digits of what a bitwise operation answers
 pub word_bits : (op same : IntOp) (a b v : ℤ) → op ≡ same → FitsSigned w128 a → FitsSigned w128 b → FitsSigned w128 v
-    → v ≡ binary_value same (to_z w128 (of_z w128 a)) (to_z w128 (of_z w128 b))
-    → IsBitwise op a b (to_z w128 (of_z w128 v))
+    → v ≡ binary_value same (to_z w128 (of_z w128 a)) (to_z w128 (of_z w128 b)) → IsBitwise op a b (to_z w128 (of_z w128 v))
 word_bits op same a b v is f g h e =
-    let parts : binary_value same (to_z w128 (of_z w128 a)) (to_z w128 (of_z w128 b)) ≡ binary_value same a b =
-    ap₂ (binary_value same) (to_z-of_z w128 a f) (to_z-of_z w128 b g) in
-    let whole : binary_value op a b ≡ to_z w128 (of_z w128 v) =
-    ap (λ (o : IntOp). binary_value o a b) is ∙ sym parts ∙ sym e ∙ sym (to_z-of_z w128 v h) in
+    let parts : binary_value same (to_z w128 (of_z w128 a)) (to_z w128 (of_z w128 b)) ≡ binary_value same a b = ap₂ (binary_value same) (to_z-of_z w128 a f) (to_z-of_z w128 b g) in
+    let whole : binary_value op a b ≡ to_z w128 (of_z w128 v) = ap (λ (o : IntOp). binary_value o a b) is ∙ sym parts ∙ sym e ∙ sym (to_z-of_z w128 v h) in
     subst (IsBitwise op a b) whole (is_bitwise op a b)

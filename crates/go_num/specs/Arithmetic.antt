@@ -1,7 +1,7 @@
 -- Arithmetic operators; Integer operators; Constant expressions (Go specification).
 -- Decides the value of an operation on integer constants, over all whole numbers, which of them a constant can have,
 -- and why an operation has no value.
-use Rattle.std.specs.Prelude.{ℤ, pos, negsuc, ◌+ℤ◌, ◌-ℤ◌, ◌*ℤ◌, int_div, int_rem, ◌^◌, ◌==◌, nat_lt, Bool, false, Option, Some, None, Result, Err, ok_or, if◌then◌else◌}
+use Rattle.std.specs.Prelude.{ℕ, ℤ, pos, negsuc, ◌+ℤ◌, ◌-ℤ◌, ◌*ℤ◌, int_div, int_rem, ◌^◌, ◌==◌, nat_lt, Bool, false, Option, Some, None, Result, Err, ok_or, if◌then◌else◌}
 use Rattle.go_num.specs.declared.arithmetic.IntOp.{IntOp}
 use Rattle.go_num.specs.declared.arithmetic.IntOp.TheVariants.{Add, Sub, Mul, Quo, Rem, And, Or, Xor, AndNot}
 use Rattle.go_num.specs.declared.arithmetic.NumFault.{NumFault}
