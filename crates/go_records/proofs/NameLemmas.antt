@@ -14,7 +14,7 @@ use Rattle.go_model.proofs.EntryLemmas.{found_behind}
 abbrev pub ArePlacesFrom : List NamedObject → ℕ → List (ObjId × ℕ) → Type 0
 ArePlacesFrom objects n entries =
     (d : ObjId) → option_and_then (slice_get objects) (lookup (same_object d) entries)
-        ≡ find (λ o. same_object d o.object) (drop n objects)
+    ≡ find (λ o. same_object d o.object) (drop n objects)
 
 first_by : {A B : Type 0} (f : A → Option B) (test : Bool) (a : A) (b : B) (place : Option A) (found : Option B)
     → f a ≡ Some b → option_and_then f place ≡ found
@@ -31,7 +31,7 @@ one_more_place objects n x es new some lt added so_far d =
     let found = find (λ (o : NamedObject). same_object d o.object) in
     let after : suc (n - 1) ≡ n = omega (arith, some) in
     let split : drop (n - 1) objects ≡ object ∷ drop n objects =
-        drop-cons objects (n - 1) x lt ∙ ap (λ k. object ∷ drop k objects) after in
+    drop-cons objects (n - 1) x lt ∙ ap (λ k. object ∷ drop k objects) after in
     let here : slice_get objects (n - 1) ≡ Some object = slice_get-get_or objects (n - 1) x lt in
     ap (λ es. option_and_then (slice_get objects) (lookup (same_object d) es)) added
     ∙ (ap (option_and_then (slice_get objects)) (found_behind d es object.object (n - 1))

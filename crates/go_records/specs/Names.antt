@@ -11,4 +11,4 @@ use Rattle.go_model.specs.declared.lines.NamedObject.{NamedObject}
 abbrev pub ArePlaces : List NamedObject → List (ObjId × ℕ) → Type 0
 ArePlaces objects entries =
     (d : ObjId) → option_and_then (slice_get objects) (lookup (same_object d) entries)
-        ≡ find (λ n. same_object d n.object) objects
+    ≡ find (λ n. same_object d n.object) objects

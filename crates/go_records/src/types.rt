@@ -22,12 +22,7 @@ pub fn type_text(alloc: Global, named: &Names, term: &Term) -> Result<Vec<u8>, A
 }
 
 #[cycle(types)]
-fn put_type(
-    alloc: Global,
-    out: &mut Vec<u8>,
-    named: &Names,
-    term: &Term,
-) -> Result<(), AllocError>
+fn put_type(alloc: Global, out: &mut Vec<u8>, named: &Names, term: &Term) -> Result<(), AllocError>
     ensures { OnOk result (out.new.items ≡ out.old.items ++ texts.type_text (map named_view named.now) (type_of term.now)) }
 {
     match term {

@@ -15,5 +15,5 @@ pub returns-in_ok-put_package-in-Refused : goal.returns-in_ok-put_package-in-Ref
 returns-in_ok-put_package-in-Refused c =
     let own = c.args.own.now in
     on_ok_weaker c.put_list.result
-    (refused_lines (package_view own) own.verdict c.in-Refused.list.items c.deref-in-Refused.result.now c.args.out.now.items c.put_package-in-Refused.new.out.items c.put_list.new.out.items (ap verdict_view c.in-Refused.is) c.deref-in-Refused.ensures.value c.in_ok-put_package-in-Refused.ensures)
+    (refused_lines (package_view own) own.verdict c.in-Refused.list.items c.deref.result.now c.args.out.now.items c.put_package-in-Refused.new.out.items c.put_list.new.out.items (ap verdict_view c.in-Refused.is) c.deref.ensures.value c.in_ok-put_package-in-Refused.ensures)
     c.put_list.ensures
