@@ -1,4 +1,5 @@
 pub mod FieldLemmas
+pub mod NameLemmas
 pub mod TextLemmas
 pub mod TypeLemmas
 pub mod VerdictLemmas

@@ -7,6 +7,7 @@
 
 mod fields;
 mod lines;
+mod names;
 mod objects;
 mod places;
 mod status;

@@ -9,10 +9,11 @@ ghost use Rattle.go_model.specs.Text.Places.{end_text, place_text};
 ghost use Rattle.go_model.specs.Text.Types.{type_text};
 
 use crate::fields::{put_field, put_fields, put_line};
+use crate::names::Names;
 use crate::places::{declared_text, end_text, place_text};
 use crate::types::type_text;
 use go_base::{LineCol, Name};
-use go_model::{DefKind, Line, Mode, NamedObject, PackageReport, Report, What};
+use go_model::{DefKind, Line, Mode, PackageReport, Report, What};
 use go_module::{At, Placed};
 use go_num::{Value, value_text};
 use go_term::Term;
@@ -59,7 +60,7 @@ pub fn put_broken(alloc: Global, out: &mut Vec<u8>, broken: &Placed) -> Result<(
 pub fn put_package_line(
     alloc: Global,
     out: &mut Vec<u8>,
-    named: &[NamedObject],
+    named: &Names,
     line: &Line,
 ) -> Result<(), AllocError>
     ensures { OnOk result (out.new.items ≡ out.old.items ++ line_text (line_fields (map named_view named.now) (line_view line.now))) }
@@ -81,7 +82,7 @@ pub fn put_package_line(
 fn put_def(
     alloc: Global,
     out: &mut Vec<u8>,
-    named: &[NamedObject],
+    named: &Names,
     at: &At,
     name: &Name,
     kind: &DefKind,
@@ -103,7 +104,7 @@ fn put_def(
 fn put_const(
     alloc: Global,
     out: &mut Vec<u8>,
-    named: &[NamedObject],
+    named: &Names,
     at: &At,
     name: &Name,
     term: &Term,
@@ -129,7 +130,7 @@ fn put_const(
 fn put_defined(
     alloc: Global,
     out: &mut Vec<u8>,
-    named: &[NamedObject],
+    named: &Names,
     at: &At,
     name: &Name,
     term: &Term,
@@ -155,7 +156,7 @@ fn put_defined(
 fn put_typed(
     alloc: Global,
     out: &mut Vec<u8>,
-    named: &[NamedObject],
+    named: &Names,
     at: &At,
     name: &Name,
     word: &[u8],
@@ -251,7 +252,7 @@ fn mode_text(mode: Mode) -> &'static [u8]
 fn put_type_field(
     alloc: Global,
     out: &mut Vec<u8>,
-    named: &[NamedObject],
+    named: &Names,
     term: &Option<Term>,
 ) -> Result<(), AllocError>
     ensures { OnOk result (out.new.items ≡ out.old.items ++ flat_map (λ field. 9 ∷ field) (type_fields (map named_view named.now) (option_map type_of term.now))) }

@@ -1,10 +1,9 @@
 // The names that types are written by: those of declared types and of type parameters.
-ghost use Rattle.std.specs.Prelude.{◌≡◌, [], ◌++◌, IfOk, OnOk, find, map, slice_get, string_bytes, unwrap_or};
-ghost use Rattle.std.specs.Option.{option_copied};
-ghost use Rattle.go_module.specs.Scopes.{same_object};
+ghost use Rattle.std.specs.Prelude.{◌≡◌, [], ◌++◌, IfOk, OnOk, map, slice_get, string_bytes, unwrap_or};
 ghost use Rattle.go_model.specs.Report.{named_view};
 ghost use Rattle.go_model.specs.Text.Types as texts;
 
+use crate::names::Names;
 use crate::places::place_text;
 use go_base::ObjId;
 use go_model::NamedObject;
@@ -16,12 +15,12 @@ use std::alloc::{AllocError, Global};
 pub fn put_object(
     alloc: Global,
     out: &mut Vec<u8>,
-    named: &[NamedObject],
+    named: &Names,
     object: ObjId,
 ) -> Result<(), AllocError>
     ensures { OnOk result (out.new.items ≡ out.old.items ++ texts.object_text (map named_view named.now) object) }
 {
-    match find_named(named, object) {
+    match named.get(object) {
         Some(found) => out.extend_from_slice(named_text(alloc, found)?.as_bytes()),
         None => Ok(()),
     }
@@ -31,13 +30,13 @@ pub fn put_object(
 #[tactic(auto, using(crate::proofs::TypeLemmas::param_texts))]
 pub fn put_param(
     out: &mut Vec<u8>,
-    named: &[NamedObject],
+    named: &Names,
     object: ObjId,
     place: usize,
 ) -> Result<(), AllocError>
     ensures { OnOk result (out.new.items ≡ out.old.items ++ texts.param_text (map named_view named.now) object place) }
 {
-    match find_named(named, object) {
+    match named.get(object) {
         Some(found) => put_param_of(out, found, place),
         None => Ok(()),
     }
@@ -51,13 +50,6 @@ fn put_param_of(out: &mut Vec<u8>, found: &NamedObject, place: usize) -> Result<
         Some(name) => out.extend_from_slice(name.as_bytes()),
         None => Ok(()),
     }
-}
-
-// The object of this number among these.
-fn find_named(named: &[NamedObject], object: ObjId) -> Option<&NamedObject>
-    ensures { option_copied result ≡ find (λ n. same_object object n.object) named.now }
-{
-    named.iter().find(|n| n.object == object)
 }
 
 // The name of an object behind its path, and its place behind them where it is declared in a function.

@@ -6,8 +6,9 @@ ghost use Rattle.go_model.specs.Text.Lines.{broken_fields, first_text, line_fiel
 
 use crate::fields::put_line;
 use crate::lines::{put_broken, put_module, put_package, put_package_line};
+use crate::names::Names;
 use go_base::NoMemory;
-use go_model::{Line, NamedObject, PackageReport, Report, Verdict};
+use go_model::{Line, PackageReport, Records, Report, Verdict};
 use go_module::Placed;
 use std::alloc::{AllocError, Global};
 
@@ -64,7 +65,7 @@ fn put_verdict(alloc: Global, out: &mut Vec<u8>, own: &PackageReport) -> Result<
     match &own.verdict {
         Verdict::Accepted(records) => {
             put_package(out, own, b"accepted")?;
-            put_package_lines(alloc, out, &records.named, &records.lines)
+            put_records(alloc, out, records)
         }
         Verdict::Refused(list) => {
             put_package(out, own, b"refused")?;
@@ -74,11 +75,19 @@ fn put_verdict(alloc: Global, out: &mut Vec<u8>, own: &PackageReport) -> Result<
     }
 }
 
+// The lines of an accepted package below its own.
+fn put_records(alloc: Global, out: &mut Vec<u8>, records: &Records) -> Result<(), AllocError>
+    ensures { OnOk result (out.new.items ≡ out.old.items ++ flat_map (λ line. line_text (line_fields (map named_view records.now.named.items) (line_view line))) records.now.lines.items) }
+{
+    let named = Names::of(alloc, &records.named)?;
+    put_package_lines(alloc, out, &named, &records.lines)
+}
+
 // The lines of an accepted package, whose types name these objects.
 fn put_package_lines(
     alloc: Global,
     out: &mut Vec<u8>,
-    named: &[NamedObject],
+    named: &Names,
     lines: &[Line],
 ) -> Result<(), AllocError>
     ensures { OnOk result (out.new.items ≡ out.old.items ++ flat_map (λ line. line_text (line_fields (map named_view named.now) (line_view line))) lines.now) }

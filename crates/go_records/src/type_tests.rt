@@ -1,4 +1,5 @@
 // Types, as the Go specification writes them.
+use crate::names::Names;
 use crate::tests::{name, object};
 use crate::types::type_text;
 use go_base::{Bytes, NoMemory, ObjId};
@@ -116,7 +117,8 @@ fn rows(alloc: Global) -> Result<Vec<(Term, &'static str)>, NoMemory> {
 #[test]
 fn types_have_their_text(rt: HostRuntime) -> Result<(), Fail> {
     let alloc = rt.alloc();
-    let named = named(alloc)?;
+    let objects = named(alloc)?;
+    let named = Names::of(alloc, &objects)?;
     for (term, text) in simple_rows(alloc)? {
         assert_eq!(rt;
             type_text(alloc, &named, &term)?.as_slice(),

@@ -6,14 +6,14 @@ ghost use Rattle.go_term.specs.View.{elem_of, field_of, signature_of, type_of, u
 ghost use Rattle.go_model.specs.Report.{NamedData, named_view};
 ghost use Rattle.go_model.specs.Text.Types as texts;
 
+use crate::names::Names;
 use crate::objects::{put_object, put_param};
-use go_model::NamedObject;
 use go_num::put_quoted;
 use go_term::{Basic, Dir, ElemTerm, FieldTerm, FuncTerm, Term, UnionTerm};
 use std::alloc::{AllocError, Global};
 
 /// The text of a type, by the objects that the types of its package's lines name.
-pub fn type_text(alloc: Global, named: &[NamedObject], term: &Term) -> Result<Vec<u8>, AllocError>
+pub fn type_text(alloc: Global, named: &Names, term: &Term) -> Result<Vec<u8>, AllocError>
     ensures { IfOk result (λ text. text.items ≡ texts.type_text (map named_view named.now) (type_of term.now)) }
 {
     let mut out = Vec::new(alloc);
@@ -22,12 +22,7 @@ pub fn type_text(alloc: Global, named: &[NamedObject], term: &Term) -> Result<Ve
 }
 
 #[cycle(types)]
-fn put_type(
-    alloc: Global,
-    out: &mut Vec<u8>,
-    named: &[NamedObject],
-    term: &Term,
-) -> Result<(), AllocError>
+fn put_type(alloc: Global, out: &mut Vec<u8>, named: &Names, term: &Term) -> Result<(), AllocError>
     ensures { OnOk result (out.new.items ≡ out.old.items ++ texts.type_text (map named_view named.now) (type_of term.now)) }
 {
     match term {
@@ -64,7 +59,7 @@ fn put_type(
 fn put_around(
     alloc: Global,
     out: &mut Vec<u8>,
-    named: &[NamedObject],
+    named: &Names,
     around: (&[u8], &[u8]),
     term: &Term,
 ) -> Result<(), AllocError>
@@ -80,7 +75,7 @@ fn put_around(
 fn put_list(
     alloc: Global,
     out: &mut Vec<u8>,
-    named: &[NamedObject],
+    named: &Names,
     around: (&[u8], &[u8]),
     terms: &[Term],
     variadic: bool,
@@ -105,7 +100,7 @@ fn put_list(
 fn put_signature(
     alloc: Global,
     out: &mut Vec<u8>,
-    named: &[NamedObject],
+    named: &Names,
     f: &FuncTerm,
 ) -> Result<(), AllocError>
     ensures { OnOk result (out.new.items ≡ out.old.items ++ texts.signature_text (map named_view named.now) (signature_of f.now).variadic (signature_of f.now).parts) }
@@ -125,7 +120,7 @@ fn put_signature(
 fn put_fields(
     alloc: Global,
     out: &mut Vec<u8>,
-    named: &[NamedObject],
+    named: &Names,
     fields: &[FieldTerm],
 ) -> Result<(), AllocError>
     ensures { OnOk result (out.new.items ≡ out.old.items ++ (codes "struct{" ++ (texts.joined (codes "; ") (texts.texts_of (map named_view named.now) (parts_of (map field_of fields.now))) ++ codes "}"))) }
@@ -144,7 +139,7 @@ fn put_fields(
 fn put_field(
     alloc: Global,
     out: &mut Vec<u8>,
-    named: &[NamedObject],
+    named: &Names,
     field: &FieldTerm,
 ) -> Result<(), AllocError>
     ensures { OnOk result (out.new.items ≡ out.old.items ++ texts.type_text (map named_view named.now) (field_of field.now)) }
@@ -158,7 +153,7 @@ fn put_field(
 fn put_elems(
     alloc: Global,
     out: &mut Vec<u8>,
-    named: &[NamedObject],
+    named: &Names,
     elems: &[ElemTerm],
 ) -> Result<(), AllocError>
     ensures { OnOk result (out.new.items ≡ out.old.items ++ (codes "interface{" ++ (texts.joined (codes "; ") (texts.texts_of (map named_view named.now) (parts_of (map elem_of elems.now))) ++ codes "}"))) }
@@ -177,7 +172,7 @@ fn put_elems(
 fn put_elem(
     alloc: Global,
     out: &mut Vec<u8>,
-    named: &[NamedObject],
+    named: &Names,
     elem: &ElemTerm,
 ) -> Result<(), AllocError>
     ensures { OnOk result (out.new.items ≡ out.old.items ++ texts.type_text (map named_view named.now) (elem_of elem.now)) }
@@ -195,7 +190,7 @@ fn put_elem(
 fn put_union(
     alloc: Global,
     out: &mut Vec<u8>,
-    named: &[NamedObject],
+    named: &Names,
     terms: &[UnionTerm],
 ) -> Result<(), AllocError>
     ensures { OnOk result (out.new.items ≡ out.old.items ++ texts.joined (codes "|") (texts.texts_of (map named_view named.now) (parts_of (map union_term_of terms.now)))) }
@@ -213,7 +208,7 @@ fn put_union(
 fn put_union_term(
     alloc: Global,
     out: &mut Vec<u8>,
-    named: &[NamedObject],
+    named: &Names,
     term: &UnionTerm,
 ) -> Result<(), AllocError>
     ensures { OnOk result (out.new.items ≡ out.old.items ++ texts.type_text (map named_view named.now) (union_term_of term.now)) }
