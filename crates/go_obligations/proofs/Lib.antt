@@ -7,5 +7,6 @@ pub mod MethodLemmas
 pub mod ConflictLemmas
 pub mod ComponentLemmas
 pub mod OwedLemmas
+pub mod AnswerLemmas
 pub mod ReadLemmas
 pub mod ToldLemmas

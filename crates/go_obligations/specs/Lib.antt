@@ -7,4 +7,5 @@ pub mod Methods
 pub mod Firsts
 pub mod Conflicts
 pub mod Owed
+pub mod Answers
 pub mod Read

@@ -19,6 +19,10 @@ mod opened;
 // Which types may be embedded in structs.
 mod embedding;
 
+// Answers about named types that are kept.
+mod answers;
+mod named;
+
 // Methods that interfaces get, and those that they get with two types.
 mod conflicts;
 mod firsts;

@@ -1,17 +1,20 @@
 // What is demanded of types, and what is broken where a type does not meet it (Go specification, "Struct types",
 // "General interfaces", "Interface types", "Embedded interfaces").
-ghost use Rattle.std.specs.Prelude.{◌≡◌, ◌↔◌, IfOk, Contains, false, true};
+ghost use Rattle.std.specs.Prelude.{◌≡◌, ◌↔◌, IfOk, IfSome, OnOk, Contains, false, true};
 ghost use Rattle.go_base.specs.declared.rule.Broken.{Broken};
 ghost use Rattle.go_module.specs.Broken.{broken_at};
 ghost use Rattle.go_model.specs.Obligations.Embedding as embedding;
 ghost use Rattle.go_model.specs.Types.Forms.{answer_as};
 ghost use Rattle.go_model.specs.Types.Own.{Keeps};
 ghost use Rattle.go_model.specs.Values.Quests.{Decided, run};
+ghost use Rattle.go_obligations.specs.Answers.{AreAnswers, IsKeyOf};
 ghost use Rattle.go_obligations.specs.Owed as spec;
 
+use crate::answers::{Answers, NamedKey};
 use crate::conflicts::gets_two;
 use crate::constraint::is_constraint;
 use crate::embedding::may_be_embedded;
+use crate::named::key_of;
 use crate::rules::{DIFFERING_METHODS, INVALID_EMBEDDING, MISUSED_CONSTRAINT};
 use go_base::{Broken, NoMemory, Rule};
 use go_model::{Answer, Forms, Same};
@@ -54,8 +57,9 @@ pub(crate) fn broken_of<J: Same>(
         (J.tree judge.old) (J.tree judge.new) }
 {
     let mut found = Vec::new(alloc);
+    let mut answers = Answers::new(alloc);
     for obligation in owed {
-        let fails = fails(alloc, judge, obligation)?;
+        let fails = fails_once(alloc, judge, obligation, &mut answers)?;
         add_if(&mut found, fails, told(obligation))?;
     }
     Ok(found)
@@ -80,6 +84,100 @@ fn rule_of(demand: Demand) -> Rule
         Demand::Embeddable(_) => INVALID_EMBEDDING,
         Demand::OneTypeEach => DIFFERING_METHODS,
     }
+}
+
+// Whether the type does not meet the demand, where it is a name alone asked once.
+fn fails_once<J: Same>(
+    alloc: Global,
+    judge: &mut J,
+    obligation: &Obligation,
+    answers: &mut Answers,
+) -> Result<bool, NoMemory>
+    requires own { J.is_type judge.old obligation.now.ty }
+    requires answers { AreAnswers (J.headers judge.old) answers.old }
+    ensures fails { IfOk result (λ yes. (yes ≡ true) ↔ spec.Fails (J.headers judge.old) obligation.now.demand
+        (J.tree judge.old obligation.now.ty)) }
+    ensures answers { OnOk result (AreAnswers (J.headers judge.old) answers.new) }
+    ensures keeps { Keeps (J.headers judge.old) (J.headers judge.new) (J.names judge.old) (J.names judge.new)
+        (J.outcomes judge.old) (J.outcomes judge.new) (J.is_spent judge.old) (J.is_spent judge.new)
+        (J.world judge.old) (J.world judge.new) (J.is_type judge.old) (J.is_type judge.new)
+        (J.tree judge.old) (J.tree judge.new) }
+{
+    let key = key_of(alloc, judge, obligation.demand, &obligation.ty)?;
+    fails_by(alloc, judge, obligation, key, answers)
+}
+
+fn fails_by<J: Same>(
+    alloc: Global,
+    judge: &mut J,
+    obligation: &Obligation,
+    key: Option<NamedKey>,
+    answers: &mut Answers,
+) -> Result<bool, NoMemory>
+    requires own { J.is_type judge.old obligation.now.ty }
+    requires key { IfSome key (IsKeyOf obligation.now.demand (J.tree judge.old obligation.now.ty)) }
+    requires answers { AreAnswers (J.headers judge.old) answers.old }
+    ensures fails { IfOk result (λ yes. (yes ≡ true) ↔ spec.Fails (J.headers judge.old) obligation.now.demand
+        (J.tree judge.old obligation.now.ty)) }
+    ensures answers { OnOk result (AreAnswers (J.headers judge.old) answers.new) }
+    ensures keeps { Keeps (J.headers judge.old) (J.headers judge.new) (J.names judge.old) (J.names judge.new)
+        (J.outcomes judge.old) (J.outcomes judge.new) (J.is_spent judge.old) (J.is_spent judge.new)
+        (J.world judge.old) (J.world judge.new) (J.is_type judge.old) (J.is_type judge.new)
+        (J.tree judge.old) (J.tree judge.new) }
+{
+    match key {
+        Some(key) => fails_at(alloc, judge, obligation, key, answers),
+        None => fails(alloc, judge, obligation),
+    }
+}
+
+// By the answer that is kept at the key, if any.
+fn fails_at<J: Same>(
+    alloc: Global,
+    judge: &mut J,
+    obligation: &Obligation,
+    key: NamedKey,
+    answers: &mut Answers,
+) -> Result<bool, NoMemory>
+    requires own { J.is_type judge.old obligation.now.ty }
+    requires key { IsKeyOf obligation.now.demand (J.tree judge.old obligation.now.ty) key }
+    requires answers { AreAnswers (J.headers judge.old) answers.old }
+    ensures fails { IfOk result (λ yes. (yes ≡ true) ↔ spec.Fails (J.headers judge.old) obligation.now.demand
+        (J.tree judge.old obligation.now.ty)) }
+    ensures answers { OnOk result (AreAnswers (J.headers judge.old) answers.new) }
+    ensures keeps { Keeps (J.headers judge.old) (J.headers judge.new) (J.names judge.old) (J.names judge.new)
+        (J.outcomes judge.old) (J.outcomes judge.new) (J.is_spent judge.old) (J.is_spent judge.new)
+        (J.world judge.old) (J.world judge.new) (J.is_type judge.old) (J.is_type judge.new)
+        (J.tree judge.old) (J.tree judge.new) }
+{
+    match answers.get(key) {
+        Some(kept) => Ok(kept),
+        None => keep_answer(alloc, judge, obligation, key, answers),
+    }
+}
+
+// Asks, and keeps the answer.
+fn keep_answer<J: Same>(
+    alloc: Global,
+    judge: &mut J,
+    obligation: &Obligation,
+    key: NamedKey,
+    answers: &mut Answers,
+) -> Result<bool, NoMemory>
+    requires own { J.is_type judge.old obligation.now.ty }
+    requires key { IsKeyOf obligation.now.demand (J.tree judge.old obligation.now.ty) key }
+    requires answers { AreAnswers (J.headers judge.old) answers.old }
+    ensures fails { IfOk result (λ yes. (yes ≡ true) ↔ spec.Fails (J.headers judge.old) obligation.now.demand
+        (J.tree judge.old obligation.now.ty)) }
+    ensures answers { OnOk result (AreAnswers (J.headers judge.old) answers.new) }
+    ensures keeps { Keeps (J.headers judge.old) (J.headers judge.new) (J.names judge.old) (J.names judge.new)
+        (J.outcomes judge.old) (J.outcomes judge.new) (J.is_spent judge.old) (J.is_spent judge.new)
+        (J.world judge.old) (J.world judge.new) (J.is_type judge.old) (J.is_type judge.new)
+        (J.tree judge.old) (J.tree judge.new) }
+{
+    let fails = fails(alloc, judge, obligation)?;
+    answers.add(key, fails)?;
+    Ok(fails)
 }
 
 // Whether the type does not meet the demand.

@@ -1,6 +1,8 @@
-use Rattle.std.proofs.Common.{◌≡◌, [], inl, drop, ap, arith}
+use Rattle.std.proofs.Common.{◌≡◌, [], inl, drop, ap, arith, subst, sym}
 use Rattle.std.proofs.lemmas.List.{drop_all}
+use Rattle.go_model.specs.Outcomes.Walk.{Headers}
 use Rattle.go_model.proofs.OwnLemmas.{keeps_then}
+use Rattle.go_obligations.specs.Answers.{AreAnswers}
 use Rattle.go_obligations.specs.Owed.{IsTold, owed_view}
 use Rattle.go_obligations.proofs.OwedLemmas.{later_own, told_end, told_next}
 use Rattle.go_obligations.proofs.obligation.broken_of.Goals as goal
@@ -12,8 +14,9 @@ loop-obligation-preserved g c =
     let headers = g.J.Ask.headers c.args.judge.now in
     let tree = g.J.Ask.tree c.args.judge.now in
     record {
-      keeps = keeps_then inv.keeps c.fails.ensures.keeps;
+      keeps = keeps_then inv.keeps c.fails_once.ensures.keeps;
       own = later_own inv.keeps.kept owed c.loop-obligation.obligation-index c.obligation-item.result (omega arith) c.obligation-item.is inv.own;
+      answers = subst (λ (h : Headers). AreAnswers h c.fails_once.new.answers) inv.keeps.same c.in_ok-fails.ensures.answers;
       told = told_next inv.keeps.kept owed c.loop-obligation.obligation-index c.obligation-item.result (omega arith) c.obligation-item.is inv.own headers (g.J.Ask.headers c.loop-obligation.judge) inv.keeps.same
           c.loop-obligation.found.items c.add_if.new.found.items c.in_ok-fails.fails c.told.result c.in_ok-fails.ensures.fails c.told.ensures c.in_ok-add_if.ensures (IsTold headers (owed_view tree owed)) inv.told;
     }
