@@ -30,25 +30,21 @@ same_key_is a b e =
     ap (λ n. key n a.object) demand ∙ ap (key b.demand) object
 
 module _ (headers : Headers) where
-  -- where none is kept
-  pub none_kept : (answers : Answers) → ((key : NamedKey) → answer_kept answers key ≡ None) → AreAnswers headers answers
-  none_kept answers none key fails at = absurd (let never : None ≡ Some fails = sym (none key) ∙ at in cc)
-
   -- with one more, that is right
   pub one_more : (before after : Answers) (key : NamedKey) (fails : Bool) → ((other : NamedKey) → answer_kept after other ≡ (if same_key key other then Some fails else answer_kept before other))
       → ((fails ≡ true) ↔ FailsAt headers key) → AreAnswers headers before → AreAnswers headers after
-  one_more before after key fails added right all other yes at = by_key (same_key key other) refl
+  one_more before after key fails added right all other kept at = by_key (same_key key other) refl
     where
-      among : (b : Bool) → same_key key other ≡ b → (if b then Some fails else answer_kept before other) ≡ Some yes
+      among : (b : Bool) → same_key key other ≡ b → (if b then Some fails else answer_kept before other) ≡ Some kept
       among b e = ap (λ c. if c then Some fails else answer_kept before other) (sym e) ∙ sym (added other) ∙ at
 
-      by_key : (b : Bool) → same_key key other ≡ b → (yes ≡ true) ↔ FailsAt headers other
+      by_key : (b : Bool) → same_key key other ≡ b → (kept ≡ true) ↔ FailsAt headers other
       by_key true e =
-          let here : Some fails ≡ Some yes = among true e in
-          let same : fails ≡ yes = cc in
+          let here : Some fails ≡ Some kept = among true e in
+          let same : fails ≡ kept = cc in
           let right_here : (fails ≡ true) ↔ FailsAt headers other = subst (λ (k : NamedKey). (fails ≡ true) ↔ FailsAt headers k) (same_key_is key other e) right in
           subst (λ (b : Bool). (b ≡ true) ↔ FailsAt headers other) same right_here
-      by_key false e = all other yes (among false e)
+      by_key false e = all other kept (among false e)
 
   -- what a demand on a type comes to is what is kept at its key
   pub by_its_key : (demand : Demand) (t : TypeData) (key : NamedKey) (fails : Bool) → IsKeyOf demand t key → ((fails ≡ true) ↔ FailsAt headers key) → (fails ≡ true) ↔ Fails headers demand t
