@@ -1,6 +1,6 @@
 -- What stays of a question as the map of headers grows.
 use Rattle.std.proofs.Common.{◌≡◌, ℕ, Option, Some, None, refl, sym, ap, subst}
-use Rattle.go_model.specs.Values.Quests.{Asked, Decided, Lacks, Quest, Done, Need, run, IsPart, Stays}
+use Rattle.go_model.specs.Values.Quests.{Asked, Decided, Lacks, Quest, Done, Need, run, IsPart, Stays, then_ask}
 
 -- a question whose header is there, or is missing
 pub run-Some : {H A : Type 0} (known : ℕ → Option H) (d : ℕ) (next : H → Quest H A) (h : H) → known d ≡ Some h → run known (Need d next) ≡ run known (next h)
@@ -31,3 +31,27 @@ run-Lacks {H} {A} known (Need d next) e p = go (known d) refl (λ h. run-Lacks k
         → elim o as (λ _. Asked A) [ None ↦ Lacks d | Some h ↦ run known (next h) ] ≡ Lacks e → known e ≡ None
     go None f rest r = let same : lacks d ≡ lacks e = r in let is : d ≡ e = cc in subst (λ x. known x ≡ None) is f
     go (Some h) f rest r = rest h r
+
+-- what a question comes to behind another one, by what that comes to
+pub run-then : {H A B : Type 0} (known : ℕ → Option H) (q : Quest H A) (next : A → Quest H B) (a : A) → run known q ≡ Decided a → run known (then_ask q next) ≡ run known (next a)
+run-then {H} {A} {B} known (Done x) next a e = let is : x ≡ a = cc in ap (λ y. run known (next y)) is
+run-then {H} {A} {B} known (Need d go_on) next a e = go (known d) (λ h. run-then known (go_on h) next a) e
+  where
+    go : (o : Option H) → ((h : H) → run known (go_on h) ≡ Decided a → run known (then_ask (go_on h) next) ≡ run known (next a))
+        → elim o as (λ _. Asked A) [ None ↦ Lacks d | Some h ↦ run known (go_on h) ] ≡ Decided a
+        → elim o as (λ _. Asked B) [ None ↦ Lacks d | Some h ↦ run known (then_ask (go_on h) next) ] ≡ run known (next a)
+    go None each f = absurd (let never : Lacks d ≡ Decided a = f in cc)
+    go (Some h) each f = each h f
+
+pub run-then-Lacks : {H A B : Type 0} (known : ℕ → Option H) (q : Quest H A) (next : A → Quest H B) (e : ℕ) → run known q ≡ Lacks e → run known (then_ask q next) ≡ Lacks e
+run-then-Lacks {H} {A} {B} known (Done x) next e p = absurd (let never : Decided x ≡ Lacks e = p in cc)
+run-then-Lacks {H} {A} {B} known (Need d go_on) next e p = go (known d) (λ h. run-then-Lacks known (go_on h) next e) p
+  where
+    lacks_a : ℕ → Asked A
+    lacks_a x = Lacks x
+
+    go : (o : Option H) → ((h : H) → run known (go_on h) ≡ Lacks e → run known (then_ask (go_on h) next) ≡ Lacks e)
+        → elim o as (λ _. Asked A) [ None ↦ Lacks d | Some h ↦ run known (go_on h) ] ≡ Lacks e
+        → elim o as (λ _. Asked B) [ None ↦ Lacks d | Some h ↦ run known (then_ask (go_on h) next) ] ≡ Lacks e
+    go None each f = let same : lacks_a d ≡ lacks_a e = f in let is : d ≡ e = cc in ap (λ x. Lacks x) is
+    go (Some h) each f = each h f
