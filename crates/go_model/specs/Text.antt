@@ -1,7 +1,5 @@
 -- The text of a report: its lines, the places, types and values in them, and its summary.
 pub mod Lines
 pub mod Places
-pub mod Strings
 pub mod Summary
 pub mod Types
-pub mod Values

@@ -12,7 +12,6 @@ mod places;
 mod status;
 mod text;
 mod types;
-mod values;
 
 pub use status::{refusal, verdict};
 pub use text::{first_text, report_text};

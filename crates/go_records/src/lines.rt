@@ -1,6 +1,7 @@
 // The text of the lines of a report.
-ghost use Rattle.std.specs.Prelude.{◌≡◌, [], ◌++◌, ◌∷◌, OnOk, codes, map, option_map};
+ghost use Rattle.std.specs.Prelude.{◌≡◌, [], ◌++◌, ◌∷◌, IfOk, OnOk, codes, map, option_map};
 ghost use Rattle.std.specs.List.{flat_map, join_with_byte};
+ghost use Rattle.go_num.specs.TextOfValues as texts;
 ghost use Rattle.go_term.specs.View.{type_of};
 ghost use Rattle.go_model.specs.Report.{constant, defined, defined_view, definition, imported, line_view, named_view, package_view, used};
 ghost use Rattle.go_model.specs.Text.Lines.{broken_fields, line_fields, line_text, mode_text, module_fields, package_fields, type_fields, value_fields, what_fields};
@@ -10,11 +11,10 @@ ghost use Rattle.go_model.specs.Text.Types.{type_text};
 use crate::fields::{put_field, put_fields, put_line};
 use crate::places::{declared_text, end_text, place_text};
 use crate::types::type_text;
-use crate::values::value_text;
 use go_base::{LineCol, Name};
 use go_model::{DefKind, Line, Mode, NamedObject, PackageReport, Report, What};
 use go_module::{At, Placed};
-use go_num::Value;
+use go_num::{Value, value_text};
 use go_term::Term;
 use std::alloc::{AllocError, Global};
 
@@ -113,7 +113,7 @@ fn put_const(
 {
     let at = place_text(alloc, at)?;
     let term = type_text(alloc, named, term)?;
-    let value = value_text(alloc, value)?;
+    let value = value_bytes(alloc, value)?;
     let fields = [
         b"def",
         at.as_bytes(),
@@ -275,8 +275,16 @@ fn put_value_field(
     match value {
         None => Ok(()),
         Some(value) => {
-            let text = value_text(alloc, value)?;
+            let text = value_bytes(alloc, value)?;
             put_field(out, text.as_slice())
         }
     }
+}
+
+// The text of a value. The error is want of memory, which this crate tells as `AllocError`.
+fn value_bytes(alloc: Global, value: &Value) -> Result<Vec<u8>, AllocError>
+    ensures { IfOk result (λ text. text.items ≡ texts.value_text value.now) }
+{
+    let text = value_text(alloc, value).map_err(|_| AllocError)?;
+    Ok(text.into_vec())
 }

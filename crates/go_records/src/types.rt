@@ -7,8 +7,8 @@ ghost use Rattle.go_model.specs.Report.{NamedData, named_view};
 ghost use Rattle.go_model.specs.Text.Types as texts;
 
 use crate::objects::{put_object, put_param};
-use crate::values::put_quoted;
 use go_model::NamedObject;
+use go_num::put_quoted;
 use go_term::{Basic, Dir, ElemTerm, FieldTerm, FuncTerm, Term, UnionTerm};
 use std::alloc::{AllocError, Global};
 

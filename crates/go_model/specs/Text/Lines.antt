@@ -1,6 +1,6 @@
 -- The text of a report.
 -- Decides how each line reads: a line is a list of fields, which a tab joins and a newline ends. How a place
--- reads: `Places`; a type: `Types`; a value: `Values`.
+-- reads: `Places`; a type: `Types`; a value: `TextOfValues` of go_num.
 use Rattle.std.specs.Prelude.{ℕ, List, [], ◌∷◌, ◌++◌, map, codes, decimal, Option, Some, None}
 use Rattle.std.specs.List.{flat_map, join_with_byte}
 use Rattle.go_base.specs.Rule.{rule_text}
@@ -13,7 +13,7 @@ use Rattle.go_module.specs.declared.places.Placed.{Placed}
 use Rattle.go_model.specs.Report.{DefinedData, alias, constant, definition, field, function, imported, variable, WhatData, defined, used, expression, LineData, NamedData, VerdictData, accepted, refused, skipped, PackageReportData, ReportData}
 use Rattle.go_model.specs.Text.Places.{place_text, end_text}
 use Rattle.go_model.specs.Text.Types.{type_text}
-use Rattle.go_model.specs.Text.Values.{value_text}
+use Rattle.go_num.specs.TextOfValues.{value_text}
 
 -- what a name is declared as
 abbrev pub kind_fields : List NamedData → DefinedData → List (List ℕ)

@@ -13,7 +13,7 @@ use Rattle.go_term.specs.Basics.{basic_text}
 use Rattle.go_term.specs.Types.{FieldHead, Head, basic, pointer, slice, array, map_type, channel, function, struct_type, interface_type, tuple, named, param, field, method, union, union_term, TypeData, Parts, made, no_parts, more_parts}
 use Rattle.go_model.specs.Report.{NamedData}
 use Rattle.go_model.specs.Text.Places.{place_text}
-use Rattle.go_model.specs.Text.Strings.{quoted}
+use Rattle.go_num.specs.Strings.{quoted}
 
 -- the path of a package and a `.`; a universe name has no path
 abbrev pub path_text : List ℕ → List ℕ

@@ -1,25 +1,28 @@
-// The text of values.
+// How the value of a constant reads.
 ghost use Rattle.std.specs.Prelude.{◌≡◌, ◌++◌, ◌<◌, IfOk, OnOk, take};
 ghost use Rattle.std.specs.Fmt.{signed_decimal};
 ghost use Rattle.std.specs.List.{flat_map};
-ghost use Rattle.go_model.specs.Text.Strings as strings;
-ghost use Rattle.go_model.specs.Text.Values as texts;
+ghost use Rattle.go_num.specs.Strings as strings;
+ghost use Rattle.go_num.specs.TextOfValues as texts;
 
-use go_num::Value;
+use crate::value::Value;
+use go_base::{Bytes, NoMemory};
 use std::alloc::{AllocError, Global};
 
 /// Of a longer string only so many bytes are printed.
 const MOST_PRINTED: usize = 64;
 
-/// The text of a value.
-pub fn value_text(alloc: Global, value: &Value) -> Result<Vec<u8>, AllocError>
-    ensures { IfOk result (λ text. text.items ≡ texts.value_text value.now) }
+/// The text of a value: a truth value by its word, a whole number in decimal, a string in quotes, of which the bytes
+/// past the first 64 are only counted. An error is want of memory.
+pub fn value_text(alloc: Global, v: &Value) -> Result<Bytes, NoMemory>
+    ensures { IfOk result (λ text. text ≡ texts.value_text v.now) }
 {
-    match value {
-        Value::Bool(truth) => truth_text(alloc, *truth),
-        Value::Int(number) => number_text(alloc, *number),
-        Value::Text(bytes) => string_text(alloc, bytes.as_slice()),
-    }
+    let text = match v {
+        Value::Bool(truth) => truth_text(alloc, *truth)?,
+        Value::Int(number) => number_text(alloc, *number)?,
+        Value::Text(bytes) => string_text(alloc, bytes.as_slice())?,
+    };
+    Ok(Bytes::new(text))
 }
 
 fn truth_text(alloc: Global, truth: bool) -> Result<Vec<u8>, AllocError>
@@ -56,7 +59,7 @@ fn front(text: &[u8]) -> &[u8]
     &text[..MOST_PRINTED.min(text.len())]
 }
 
-/// Appends bytes in quotes.
+/// Appends bytes in double quotes, in printable ASCII. An error is want of memory.
 pub fn put_quoted(out: &mut Vec<u8>, text: &[u8]) -> Result<(), AllocError>
     ensures { OnOk result (out.new.items ≡ out.old.items ++ strings.quoted text.now) }
 {

@@ -4,7 +4,7 @@ use Rattle.std.specs.Prelude.{ℕ, Bool, true, false, List, codes}
 use Rattle.std.specs.Fmt.{signed_decimal}
 use Rattle.go_num.specs.declared.value.Value.{Value}
 use Rattle.go_num.specs.declared.value.Value.TheVariants.{Bool as Truth, Int, Text}
-use Rattle.go_model.specs.Text.Strings.{string_text}
+use Rattle.go_num.specs.Strings.{string_text}
 
 abbrev pub truth_text : Bool → List ℕ
 truth_text true = codes "true"

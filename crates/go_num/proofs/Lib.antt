@@ -1,0 +1,5 @@
+pub mod BitLemmas
+pub mod Laws
+pub mod LimitLemmas
+pub mod ShiftLemmas
+pub mod WordLemmas
