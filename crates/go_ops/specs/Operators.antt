@@ -1,9 +1,9 @@
 -- Arithmetic operators; Logical operators; String concatenation; Constant expressions (Go specification).
 -- Decides what is asked of `x op y` where op is no comparison and no shift. Own: until assignability is built, U0 stands at an
 -- operation with an operand whose underlying type is an interface, or with an untyped operand that is no constant.
-use Rattle.std.specs.Prelude.{ℤ, ◌&&◌, ◌||◌, ◌++◌, not, Bool, true, false, Option, Some, None, List, [], ◌∷◌, if◌then◌else◌, int_div, int_rem, unsigned_abs, ◌==◌}
+use Rattle.std.specs.Prelude.{ℤ, ◌&&◌, ◌||◌, ◌++◌, not, Bool, true, false, Option, Some, None, List, [], ◌∷◌, if◌then◌else◌, int_div, int_rem}
 use Rattle.go_module.specs.Rules.{unbuilt_form}
-use Rattle.go_num.specs.Arithmetic.{binary_value, divides_by_zero}
+use Rattle.go_num.specs.Arithmetic.{binary_value, divides_by_zero, is_zero}
 use Rattle.go_num.specs.declared.arithmetic.IntOp.{IntOp}
 use Rattle.go_num.specs.declared.arithmetic.IntOp.TheVariants.{Add, Mul, Quo, Sub}
 use Rattle.go_num.specs.declared.value.NumKind.TheVariants as K
@@ -70,20 +70,20 @@ is_defined_on Or s = is_boolean s
 
 -- DIVISION BY ZERO
 
-abbrev pub is_zero : Operation → Option Value → Bool
-is_zero (Arithmetic op) (Some (V.Int b)) = divides_by_zero op b
-is_zero op v = false
+abbrev pub has_no_quotient : Operation → Option Value → Bool
+has_no_quotient (Arithmetic op) (Some (V.Int b)) = divides_by_zero op b
+has_no_quotient op v = false
 
 -- "If the divisor is a constant, it must not be zero", of integers, and "The divisor of a constant division or remainder
 -- operation must not be zero"
 abbrev pub is_by_zero : Operation → RecData → RecData → Sort → Bool
-is_by_zero op x y s = is_zero op (constant_in y) && (is_integer s || is_constant x)
+is_by_zero op x y s = has_no_quotient op (constant_in y) && (is_integer s || is_constant x)
 
 -- CONSTANT OPERATIONS
 
 -- on numbers: an integer's quotient is truncated, a float's is exact, and a constant where it is a whole number (own)
 abbrev pub of_numbers : IntOp → Sort → ℤ → ℤ → Option Value
-of_numbers Quo (S.Float f) a b = if unsigned_abs (int_rem a b) == 0 then Some (V.Int (int_div a b)) else None
+of_numbers Quo (S.Float f) a b = if is_zero (int_rem a b) then Some (V.Int (int_div a b)) else None
 of_numbers op s a b = Some (V.Int (binary_value op a b))
 
 -- "Strings can be concatenated using the + operator"; "&& conditional AND: p && q is "if p then q else false"", "|| conditional
