@@ -11,3 +11,4 @@ pub mod Unary
 pub mod Pointers
 pub mod Channels
 pub mod Honest
+pub mod Limited

@@ -12,6 +12,11 @@ mod rules;
 mod fit;
 mod operator;
 mod sort;
+mod sort_tests;
+
+// What operations give.
+mod constants;
+mod limits;
 
 pub use fit::Fit;
 pub use operator::{BinaryOp, Operation, Sign, UnaryOp};
