@@ -11,4 +11,6 @@ pub mod Unary
 pub mod Pointers
 pub mod Channels
 pub mod Honest
+-- what inner functions promise each other
+pub mod Refusals
 pub mod Limited

@@ -14,6 +14,11 @@ mod operator;
 mod sort;
 mod sort_tests;
 
+// Operands that are single values.
+mod broken;
+mod modes;
+mod operands;
+
 // What operations give.
 mod constants;
 mod limits;
