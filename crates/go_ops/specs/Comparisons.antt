@@ -1,6 +1,6 @@
 -- Comparison operators; Constant expressions (Go specification).
 -- Decides what is asked of `x op y` where op is a comparison: "Comparison operators compare two operands and yield an untyped
--- boolean value." Own: until assignability is built, U0 stands at a comparison with an operand that is no constant.
+-- boolean value." Own: until assignability is built, U0 stands at a comparison with a value that is no constant.
 use Rattle.std.specs.Prelude.{◌&&◌, ◌||◌, not, Bool, true, false, Option, Some, None, List, [], ◌∷◌}
 use Rattle.std.specs.Bool.{xor}
 use Rattle.go_module.specs.Rules.{unbuilt_form}
@@ -22,11 +22,11 @@ use Rattle.go_ops.specs.Rules.{incomparable_operands}
 use Rattle.go_ops.specs.Sorts.{by_sorts}
 use Rattle.go_ops.specs.declared.sort.Sort.{Sort}
 
-abbrev pub is_no_other_value : RecData → Bool
-is_no_other_value r = not (is_value r) || is_constant r
+abbrev pub is_constant_or_no_value : RecData → Bool
+is_constant_or_no_value r = not (is_value r) || is_constant r
 
--- "Boolean values are comparable", "Integer values are comparable and ordered", "Floating-point values are comparable and
--- ordered", "String values are comparable and ordered"
+-- "Boolean types are comparable", "Integer types are comparable and ordered", "Floating-point types are comparable and ordered",
+-- "String types are comparable and ordered"
 abbrev pub compares_equal is_ordered : Sort → Bool
 compares_equal s = is_numeric s || (is_text s || is_boolean s)
 is_ordered s = is_numeric s || is_text s
@@ -51,7 +51,7 @@ compared_values op a b = None
 abbrev pub comparison : CmpOp → RecData → RecData → Asks HeaderData RecData
 comparison op x y = record {
   tests =
-      at_whole unbuilt_form (Done (is_no_other_value x && is_no_other_value y))
+      at_whole unbuilt_form (Done (is_constant_or_no_value x && is_constant_or_no_value y))
       ∷ (are_values 0 (x ∷ (y ∷ []))
       ∷ (are_single (x ∷ (y ∷ []))
       ∷ (are_matched x y

@@ -30,7 +30,7 @@ unkept_test fit = at_whole unkept_float (then_ask fit (λ f. Done (not_unkept f)
 wide_test fit = at_whole wide_integer (then_ask fit (λ f. Done (not_wide f)))
 long_test fit = at_whole long_text (then_ask fit (λ f. Done (not_long f)))
 
--- all of them
+-- all of them; a constant of another kind than its type has been excluded by the rules before
 abbrev pub limit_tests : Quest HeaderData Fit → List (RuleTest HeaderData)
 limit_tests fit = overflow_test fit ∷ (unkept_test fit ∷ (wide_test fit ∷ (long_test fit ∷ [])))
 

@@ -13,12 +13,13 @@ use Rattle.go_model.specs.declared.outcome.Spot.TheVariants.{Part}
 use Rattle.go_model.specs.Outcomes.Judged.{Asks}
 use Rattle.go_model.specs.Outcomes.Operands.{are_values, at_whole, is_constant, is_value}
 use Rattle.go_model.specs.Outcomes.Records.{HeaderData, RecData}
+use Rattle.go_model.specs.Types.TypeIdentity.{and_ask}
 use Rattle.go_model.specs.Values.Quests.{Quest}
 use Rattle.go_ops.specs.Constants.{constant_in, long_test, overflow_test, record_of, unkept_test, wide_test}
 use Rattle.go_ops.specs.Matching.{are_kept, are_matched, are_single, common_sort, common_type, is_number, not_overflowing}
 use Rattle.go_ops.specs.Representable.{fit_of}
 use Rattle.go_ops.specs.Rules.{division_by_zero, undefined_binary}
-use Rattle.go_ops.specs.Sorts.{by_sorts}
+use Rattle.go_ops.specs.Sorts.{by_sort, by_sorts}
 use Rattle.go_ops.specs.declared.fit.Fit.{Fit}
 use Rattle.go_ops.specs.declared.fit.Fit.TheVariants.{Fits, Unkept}
 use Rattle.go_ops.specs.declared.operator.Operation.{Operation}
@@ -90,7 +91,7 @@ of_numbers op s a b = Some (V.Int (binary_value op a b))
 -- OR: p || q is "if p then true else q""
 abbrev pub of_values : Operation → Sort → Value → Value → Option Value
 of_values (Arithmetic op) s (V.Int a) (V.Int b) = of_numbers op s a b
-of_values (Arithmetic op) s (V.Text a) (V.Text b) = Some (V.Text (a ++ b))
+of_values (Arithmetic Add) s (V.Text a) (V.Text b) = Some (V.Text (a ++ b))
 of_values And s (V.Bool p) (V.Bool q) = Some (V.Bool (p && q))
 of_values Or s (V.Bool p) (V.Bool q) = Some (V.Bool (p || q))
 of_values op s a b = None
@@ -104,6 +105,7 @@ given_values other both a b = other
 abbrev pub value_of : Operation → RecData → RecData → Sort → Option Value
 value_of op x y s = given_values None (of_values op s) (constant_in x) (constant_in y)
 
+-- none: a float's quotient that is no whole number; else the rules before exclude it
 abbrev pub fit_found : Option Value → Sort → Fit
 fit_found (Some v) s = fit_of v s
 fit_found None s = Unkept
@@ -116,10 +118,13 @@ fit op x y = by_sorts x y (λ s t. fit_of_both op x y (common_sort s t))
 
 -- THE OPERATION
 
+-- own: what it gives is held against its type where each constant fits that it is made of; else R8 and U9 stand at the
+-- constants alone
+
 abbrev pub operation : Operation → RecData → RecData → Asks HeaderData RecData
 operation op x y = record {
   tests =
-      at_whole unbuilt_form (by_sorts x y (λ s t. is_built x s && is_built y t))
+      at_whole unbuilt_form (and_ask (by_sort x (is_built x)) (by_sort y (is_built y)))
       ∷ (are_values 0 (x ∷ (y ∷ []))
       ∷ (are_single (x ∷ (y ∷ []))
       ∷ (are_matched x y

@@ -54,6 +54,6 @@ indirected x = record {
   gives = under_operand x (λ u. value_record M.Var (unwrap_or (base_of u) (type_or_none x)) None);
 }
 
--- `*T` where T is a type is a pointer type
+-- `*T` where T is a type is a pointer type; where only a type may stand, `*x` goes to no operator
 abbrev pub indirection : RecData → Asks HeaderData RecData
 indirection x = if is_type x then makes [] (pointer_to x) else indirected x

@@ -12,12 +12,13 @@ use Rattle.go_num.specs.declared.value.Value.TheVariants as V
 use Rattle.go_model.specs.Outcomes.Judged.{Asks}
 use Rattle.go_model.specs.Outcomes.Operands.{are_values, at_whole, type_or_none}
 use Rattle.go_model.specs.Outcomes.Records.{HeaderData, RecData}
+use Rattle.go_model.specs.Types.TypeIdentity.{and_ask}
 use Rattle.go_model.specs.Values.Quests.{Quest}
 use Rattle.go_ops.specs.Constants.{constant_in, limit_tests, record_of}
 use Rattle.go_ops.specs.Matching.{are_single, is_number}
 use Rattle.go_ops.specs.Operators.{fit_found, given_values, is_integer}
 use Rattle.go_ops.specs.Rules.{invalid_shift}
-use Rattle.go_ops.specs.Sorts.{by_sorts}
+use Rattle.go_ops.specs.Sorts.{by_sort, by_sorts}
 use Rattle.go_ops.specs.declared.fit.Fit.{Fit}
 use Rattle.go_ops.specs.declared.fit.Fit.TheVariants.{Fits}
 use Rattle.go_ops.specs.declared.sort.Sort.{Sort}
@@ -25,10 +26,12 @@ use Rattle.go_ops.specs.declared.sort.Sort.TheVariants as S
 
 -- THE COUNT
 
+-- "the shift count specified by the right operand, which must be non-negative"
 abbrev pub is_not_negative : Option Value → Bool
 is_not_negative (Some (V.Int (negsuc n))) = false
 is_not_negative v = true
 
+-- own, of an untyped integer that is no constant: each constant in it whose final type is `uint`
 abbrev pub span_fits : Option (ℤ × ℤ) → Bool
 span_fits (Some (least, greatest)) = fits least Uint && fits greatest Uint
 span_fits None = false
@@ -74,7 +77,7 @@ shift left x y = record {
   tests =
       are_values 0 (x ∷ (y ∷ []))
       ∷ (are_single (x ∷ (y ∷ []))
-      ∷ (at_whole invalid_shift (by_sorts x y (λ s t. is_integer s && is_count y t))
+      ∷ (at_whole invalid_shift (and_ask (by_sort x is_integer) (by_sort y (is_count y)))
       ∷ limit_tests (shift_fit left x y)));
   gives = by_sorts x y (λ s t. record_of (type_or_none x) (given_values None (shifted_value left) (constant_in x) (constant_in y)) (span_of x s));
 }

@@ -1,6 +1,5 @@
 -- Types; Numeric types; Constants (Go specification).
--- Decides what operators see of a type: its underlying type, as far as operators tell types apart. "Predeclared types, defined
--- types, and type parameters are called named types"; what an operator is defined on goes by the underlying type.
+-- Decides what operators see of a type: its underlying type, as far as operators tell types apart.
 use Rattle.std.specs.Prelude.{Option, Some, None, if◌then◌else◌}
 use Rattle.go_num.specs.declared.ranges.IntType.TheVariants as I
 use Rattle.go_num.specs.declared.value.NumKind.TheVariants as K
