@@ -1,0 +1,82 @@
+-- What follows of the sorts of operands, once they are decided.
+use Rattle.std.proofs.Common.{◌≡◌, Bool, true, false, Option, Some, None, ℤ, refl, ap, sym, ◌∙◌, subst}
+use Rattle.go_base.specs.declared.ids.ObjId.{ObjId}
+use Rattle.go_num.specs.declared.value.Value.{Value}
+use Rattle.go_term.specs.Types.{TypeData}
+use Rattle.go_model.specs.declared.rec.Mode.{Mode}
+use Rattle.go_model.specs.declared.rec.Mode.TheVariants as M
+use Rattle.go_model.specs.Outcomes.Records.{HeaderData, RecData}
+use Rattle.go_model.specs.Outcomes.Walk.{Headers}
+use Rattle.go_model.specs.Values.Quests.{Asked, Decided, Done, Lacks, Quest, run, then_ask}
+use Rattle.go_model.proofs.QuestLemmas.{run-then, run-then-Lacks}
+use Rattle.go_ops.specs.Constants.{constant_in}
+use Rattle.go_ops.specs.Honest.{IsHonest}
+use Rattle.go_ops.specs.Representable.{fit_of, representable}
+use Rattle.go_ops.specs.Sorts.{by_sort, by_sorts, sort_by, sort_in, sort_of, sorts_of}
+use Rattle.go_ops.specs.declared.fit.Fit.{Fit}
+use Rattle.go_ops.specs.declared.fit.Fit.TheVariants.{Fits}
+use Rattle.go_ops.specs.declared.sort.Sort.{Sort}
+use Rattle.go_ops.specs.declared.sort.Sort.TheVariants as S
+
+module _ (headers : Headers) where
+  -- both are decided where each is
+  pub each-sort : (x y : RecData) (s t : Sort) → run headers (sorts_of x y) ≡ Decided (s, t) → (run headers (sort_in x) ≡ Decided s) × (run headers (sort_in y) ≡ Decided t)
+  each-sort x y s t e = first (run headers (sort_in x)) refl
+    where
+      next : Sort → Quest HeaderData (Sort × Sort)
+      next u = then_ask (sort_in y) (λ v. Done (u, v))
+
+      second : (u : Sort) (b : Asked Sort) → run headers (sort_in x) ≡ Decided u → run headers (sort_in y) ≡ b → run headers (next u) ≡ Decided (s, t)
+          → (run headers (sort_in x) ≡ Decided s) × (run headers (sort_in y) ≡ Decided t)
+      second u (Lacks d) p q r = absurd (let never : Lacks d ≡ Decided (s, t) = sym (run-then-Lacks headers (sort_in y) (λ v. Done (u, v)) d q) ∙ r in cc)
+      second u (Decided v) p q r =
+          let whole : Decided (u, v) ≡ Decided (s, t) = sym (run-then headers (sort_in y) (λ v. Done (u, v)) v q) ∙ r in
+          let same : (u, v) ≡ (s, t) = cc in
+          (p ∙ ap (λ (pair : Sort × Sort). Decided pair.0) same, q ∙ ap (λ (pair : Sort × Sort). Decided pair.1) same)
+
+      first : (a : Asked Sort) → run headers (sort_in x) ≡ a → (run headers (sort_in x) ≡ Decided s) × (run headers (sort_in y) ≡ Decided t)
+      first (Lacks d) p = absurd (let never : Lacks d ≡ Decided (s, t) = sym (run-then-Lacks headers (sort_in x) next d p) ∙ e in cc)
+      first (Decided u) p = second u (run headers (sort_in y)) p refl (sym (run-then headers (sort_in x) next u p) ∙ e)
+
+  -- a constant fits the sort of its type
+  at_type : (type : TypeData) (v : Value) (s : Sort) → run headers (sort_of type) ≡ Decided s → run headers (representable v type) ≡ Decided Fits → fit_of v s ≡ Fits
+  at_type type v s e fits =
+      let whole : Decided (fit_of v s) ≡ Decided Fits = sym (run-then headers (sort_of type) (λ s. Done (fit_of v s)) s e) ∙ fits in cc
+
+  by_mode : (mode : Mode) (type : Option TypeData) (value : Option Value) (object : Option ObjId) (span : Option (ℤ × ℤ)) (v : Value) (s : Sort)
+      → let r : RecData = record { mode = mode; type = type; value = value; object = object; span = span } in
+      IsHonest headers r → run headers (sort_in r) ≡ Decided s → constant_in r ≡ Some v → fit_of v s ≡ Fits
+  by_mode M.Const type value object span v s honest e is =
+      let has = honest.fitting v is in
+      at_type has.type v s (ap (λ (t : Option TypeData). run headers (sort_by t)) (sym has.has) ∙ e) has.fits
+  by_mode M.NoValue type value object span v s honest e is = absurd (let never : None ≡ Some v = is in cc)
+  by_mode M.Builtin type value object span v s honest e is = absurd (let never : None ≡ Some v = is in cc)
+  by_mode M.IsType type value object span v s honest e is = absurd (let never : None ≡ Some v = is in cc)
+  by_mode M.Var type value object span v s honest e is = absurd (let never : None ≡ Some v = is in cc)
+  by_mode M.MapIndex type value object span v s honest e is = absurd (let never : None ≡ Some v = is in cc)
+  by_mode M.Value type value object span v s honest e is = absurd (let never : None ≡ Some v = is in cc)
+  by_mode M.Nil type value object span v s honest e is = absurd (let never : None ≡ Some v = is in cc)
+  by_mode M.CommaOk type value object span v s honest e is = absurd (let never : None ≡ Some v = is in cc)
+
+  pub constant-fits : (r : RecData) (v : Value) (s : Sort) → IsHonest headers r → run headers (sort_in r) ≡ Decided s → constant_in r ≡ Some v → fit_of v s ≡ Fits
+  constant-fits r v s honest e is = by_mode r.mode r.type r.value r.object r.span v s honest e is
+
+  -- without a type it is that of other types
+  untyped : (mode : Mode) (value : Option Value) (object : Option ObjId) (span : Option (ℤ × ℤ))
+      → run headers (sort_in (record { mode = mode; type = None; value = value; object = object; span = span })) ≡ Decided S.Other
+  untyped M.Const value object span = refl
+  untyped M.NoValue value object span = refl
+  untyped M.Builtin value object span = refl
+  untyped M.IsType value object span = refl
+  untyped M.Var value object span = refl
+  untyped M.MapIndex value object span = refl
+  untyped M.Value value object span = refl
+  untyped M.Nil value object span = refl
+  untyped M.CommaOk value object span = refl
+
+  pub sort-typed : (r : RecData) (s : Sort) → run headers (sort_in r) ≡ Decided s → (s ≡ S.Other → ⊥) → r.type ≡ None → ⊥
+  sort-typed r s e other none =
+      let same : Decided S.Other ≡ Decided s =
+          sym (ap (λ (t : Option TypeData). run headers (sort_in (record { mode = r.mode; type = t; value = r.value; object = r.object; span = r.span }))) none ∙ untyped r.mode r.value r.object r.span) ∙ e
+      in
+      let is : S.Other ≡ s = cc in other (sym is)
