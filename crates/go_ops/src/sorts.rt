@@ -22,14 +22,14 @@ use std::alloc::Global;
 
 /// A sort; Unknown with the first header that the underlying type lacks.
 #[derive(Clone, Copy, Debug, PartialEq, Eq)]
-pub enum AskedSort {
+pub(crate) enum AskedSort {
     Is(Sort),
     Unknown(ObjId),
 }
 
 /// The sorts of two operands; Unknown with the first header that an underlying type lacks.
 #[derive(Clone, Copy, Debug, PartialEq, Eq)]
-pub enum AskedSorts {
+pub(crate) enum AskedSorts {
     Are(Sort, Sort),
     Unknown(ObjId),
 }
