@@ -1,1 +1,3 @@
 pub mod EndLemmas
+pub mod AskedLemmas
+pub mod MatchingLemmas

@@ -14,3 +14,5 @@ pub mod Honest
 -- what inner functions promise each other
 pub mod Refusals
 pub mod Limited
+pub mod AskedSorts
+pub mod MatchingParts

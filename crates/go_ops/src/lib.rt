@@ -13,11 +13,17 @@ mod fit;
 mod operator;
 mod sort;
 mod sort_tests;
+mod sorts;
 
 // Operands that are single values.
 mod broken;
 mod modes;
 mod operands;
+
+// Two operands.
+mod matching;
+mod representable;
+mod types;
 
 // What operations give.
 mod constants;
@@ -25,6 +31,7 @@ mod limits;
 
 pub use fit::Fit;
 pub use operator::{BinaryOp, Operation, Sign, UnaryOp};
+pub use representable::{Represents, representable};
 pub use rules::{
     CONSTANT_OVERFLOW, DIVISION_BY_ZERO, INCOMPARABLE_OPERANDS, INVALID_SHIFT, LONG_TEXT,
     MISMATCHED_OPERANDS, NO_ADDRESS, NO_POINTER, NO_RECEIVE, SEVERAL_VALUES, UNDEFINED_BINARY,

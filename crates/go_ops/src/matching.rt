@@ -9,11 +9,12 @@ ghost use Rattle.go_model.specs.Types.Own.{IsOwnRec, Keeps};
 ghost use Rattle.go_model.specs.Types.TypeIdentity.{identical};
 ghost use Rattle.go_model.specs.Values.Quests.{run};
 ghost use Rattle.go_ops.specs.Matching as spec;
-ghost use Rattle.go_ops.specs.MatchingParts.{answer_of};
+ghost use Rattle.go_ops.specs.MatchingParts.{answer_of, kind_of};
 
 use crate::fit::Fit;
 use crate::representable::fit_of;
 use crate::sort::Sort;
+use crate::sort_tests::is_number;
 use go_base::NoMemory;
 use go_model::{Answer, Rec, Same};
 use go_num::{NumKind, Value};
@@ -74,7 +75,7 @@ fn identical<J: Same>(alloc: Global, judge: &mut J, x: &Rec, y: &Rec) -> Result<
 
 /// The kind of an untyped sort.
 pub(crate) fn kind_of(s: Sort) -> Option<NumKind>
-    ensures { result ≡ parts.kind_of s }
+    ensures { result ≡ kind_of s }
 {
     match s {
         Sort::Untyped(kind) => Some(kind),
@@ -85,13 +86,6 @@ pub(crate) fn kind_of(s: Sort) -> Option<NumKind>
         Sort::Interface => None,
         Sort::Other => None,
     }
-}
-
-/// Whether that is the kind of an untyped integer or rune.
-pub(crate) fn is_number(kind: NumKind) -> bool
-    ensures { result ≡ spec.is_number kind }
-{
-    matches!(kind, NumKind::Int | NumKind::Rune)
 }
 
 // Whether two untyped operands of these kinds match.
