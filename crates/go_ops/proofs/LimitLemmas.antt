@@ -1,9 +1,8 @@
 -- What the tests of R8, U9, L2 and L3 come to, by how the constant fits; and how integers outside 128 bits fit.
-use Rattle.std.proofs.Common.{◌≡◌, Bool, true, false, Option, Some, None, List, [], ◌∷◌, ◌++◌, if◌then◌else◌, refl, ap, ◌∙◌}
+use Rattle.std.proofs.Common.{◌≡◌, Bool, true, false, List, [], ◌∷◌, refl, ap, ◌∙◌}
 use Rattle.go_base.specs.declared.rule.Rule.{Rule}
-use Rattle.go_model.specs.declared.outcome.Spot.TheVariants.{Whole}
 use Rattle.go_model.specs.Outcomes.Constructs.Limits.{wide_integer}
-use Rattle.go_model.specs.Outcomes.Judged.{Broken, Found, OutcomeData, RuleTest, lack_or, made, rule_end, ruled, spot_if_no, tested}
+use Rattle.go_model.specs.Outcomes.Judged.{Found, RuleTest, made, tested}
 use Rattle.go_model.specs.Outcomes.Operands.{at_whole}
 use Rattle.go_model.specs.Outcomes.Records.{HeaderData, RecData}
 use Rattle.go_model.specs.Outcomes.Walk.{Headers}
@@ -11,29 +10,17 @@ use Rattle.go_model.specs.Values.Quests.{Asked, Decided, Done, Quest, run, then_
 use Rattle.go_model.proofs.QuestLemmas.{run-then}
 use Rattle.go_ops.specs.Constants.{limit_tests, long_test, unkept_test, wide_test}
 use Rattle.go_ops.specs.Limited.{kept_tests, limited_by}
+use Rattle.go_ops.specs.Refusals.{by_whole}
 use Rattle.go_ops.specs.Representable.{not_long, not_overflows, not_unkept, not_wide}
 use Rattle.go_ops.specs.Rules.{constant_overflow, long_text, unkept_float}
 use Rattle.go_ops.specs.declared.fit.Fit.{Fit}
 use Rattle.go_ops.specs.declared.fit.Fit.TheVariants.{Differs, Fits, Long, Overflows, Unkept, Wide}
-
--- a rule that is asked of the node as a whole, by its answer
-abbrev pub answered : Rule → Bool → OutcomeData RecData → OutcomeData RecData
-answered rule yes later = if yes then later else Broken rule (Whole ∷ [])
-
-by_answer : (rule : Rule) (yes : Bool) (later : OutcomeData RecData) → ruled rule (rule_end (spot_if_no Whole (Decided yes) ++ []) (lack_or (Decided yes) None)) later ≡ answered rule yes later
-by_answer rule true later = refl
-by_answer rule false later = refl
-
-pub whole-answered : (headers : Headers) (rule : Rule) (q : Quest HeaderData Bool) (ts : List (RuleTest HeaderData)) (gives : Quest HeaderData RecData) (yes : Bool) → run headers q ≡ Decided yes
-    → tested headers (at_whole rule q ∷ ts) gives ≡ answered rule yes (tested headers ts gives)
-whole-answered headers rule q ts gives yes e =
-    ap (λ (a : Asked Bool). ruled rule (rule_end (spot_if_no Whole a ++ []) (lack_or a None)) (tested headers ts gives)) e
-    ∙ by_answer rule yes (tested headers ts gives)
+use Rattle.go_ops.proofs.EndLemmas.{whole-by}
 
 module _ (headers : Headers) (q : Quest HeaderData Fit) (gives : Quest HeaderData RecData) where
   step : (rule : Rule) (holds : Fit → Bool) (ts : List (RuleTest HeaderData)) (f : Fit) → run headers q ≡ Decided f
-      → tested headers (at_whole rule (then_ask q (λ f. Done (holds f))) ∷ ts) gives ≡ answered rule (holds f) (tested headers ts gives)
-  step rule holds ts f e = whole-answered headers rule (then_ask q (λ f. Done (holds f))) ts gives (holds f) (run-then headers q (λ f. Done (holds f)) f e)
+      → tested headers (at_whole rule (then_ask q (λ f. Done (holds f))) ∷ ts) gives ≡ by_whole rule (holds f) (tested headers ts gives)
+  step rule holds ts f e = whole-by headers rule (then_ask q (λ f. Done (holds f))) ts gives (holds f) (run-then headers q (λ f. Done (holds f)) f e)
 
   -- behind R8
   by_kept : (f : Fit) → run headers q ≡ Decided f → not_overflows f ≡ true → tested headers (kept_tests q) gives ≡ limited_by f (made (run headers gives))

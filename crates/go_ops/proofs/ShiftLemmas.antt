@@ -1,34 +1,74 @@
--- What the tests of a shift come to, by the sorts of its operands; and which counts it has.
-use Rattle.std.proofs.Common.{◌≡◌, ◌&&◌, ◌<◌, ◌^◌, ℤ, pos, negsuc, Bool, true, false, Option, Some, None, List, [], ◌∷◌, refl, ap, sym, ◌∙◌}
-use Rattle.go_num.specs.declared.value.Value.{Value}
-use Rattle.go_num.specs.declared.value.Value.TheVariants as V
-use Rattle.go_model.specs.Outcomes.Judged.{OutcomeData, tested}
+-- What the tests of a shift come to, by the sorts of its operands.
+use Rattle.std.proofs.Common.{◌≡◌, Bool, true, false, List, ◌∷◌, if◌then◌else◌, refl, ap, sym, ◌∙◌}
+use Rattle.go_model.specs.Outcomes.Judged.{tested}
 use Rattle.go_model.specs.Outcomes.Operands.{type_or_none}
 use Rattle.go_model.specs.Outcomes.Records.{HeaderData, RecData}
 use Rattle.go_model.specs.Outcomes.Walk.{Headers}
-use Rattle.go_model.specs.Values.Quests.{Asked, Decided, Done, Quest, run, then_ask}
-use Rattle.go_model.proofs.QuestLemmas.{run-then}
+use Rattle.go_model.specs.Types.TypeIdentity.{Test, and_ask}
+use Rattle.go_model.specs.Values.Quests.{Asked, Decided, Done, Lacks, run, then_ask}
+use Rattle.go_model.proofs.QuestLemmas.{run-then, run-then-Lacks}
 use Rattle.go_ops.specs.Constants.{constant_in, limit_tests, record_of}
 use Rattle.go_ops.specs.Operators.{is_integer}
+use Rattle.go_ops.specs.Refusals.{by_whole}
 use Rattle.go_ops.specs.Rules.{invalid_shift}
-use Rattle.go_ops.specs.Shifted.{allowed_outcome, fit_of_both, shift_gives, shift_outcome, shift_tests, value_of_both}
+use Rattle.go_ops.specs.Shifted.{counted_outcome, fit_of_both, outcome_by_first, outcome_by_second, shift_gives, shift_tests, value_of_both}
 use Rattle.go_ops.specs.Shifts.{is_count, shift_fit, span_of}
-use Rattle.go_ops.specs.Sorts.{by_sorts, sorts_of}
+use Rattle.go_ops.specs.Sorts.{by_sort, by_sorts, sort_in, sorts_of}
 use Rattle.go_ops.specs.declared.sort.Sort.{Sort}
-use Rattle.go_ops.proofs.LimitLemmas.{answered, tests-limited, whole-answered}
+use Rattle.go_ops.proofs.EndLemmas.{whole-by, whole-lacks, whole-no, whole-yes}
+use Rattle.go_ops.proofs.LimitLemmas.{tests-limited}
+use Rattle.go_ops.proofs.SortLemmas.{both-sorts}
 
-module _ (headers : Headers) (left : Bool) (x y : RecData) (s t : Sort) (decided : run headers (sorts_of x y) ≡ Decided (s, t)) where
-  told : {A : Type 0} (answer : Sort → Sort → A) → run headers (by_sorts x y answer) ≡ Decided (answer s t)
-  told answer = run-then headers (sorts_of x y) (λ pair. Done (answer pair.0 pair.1)) (s, t) decided
+module _ (headers : Headers) (left : Bool) (x y : RecData) where
+  -- R9
+  abbrev counts : Test
+  counts = and_ask (by_sort x is_integer) (by_sort y (is_count y))
 
-  allowed : tested headers (limit_tests (shift_fit left x y)) (shift_gives left x y) ≡ allowed_outcome left x y s
-  allowed =
-      tests-limited headers (shift_fit left x y) (shift_gives left x y) (fit_of_both left s (constant_in x) (constant_in y))
-      (record_of (type_or_none x) (value_of_both left (constant_in x) (constant_in y)) (span_of x s))
-      (told (λ s t. fit_of_both left s (constant_in x) (constant_in y)))
-      (told (λ s t. record_of (type_or_none x) (value_of_both left (constant_in x) (constant_in y)) (span_of x s)))
+  module _ (s : Sort) (first : run headers (sort_in x) ≡ Decided s) where
+    -- of an integer, by the right operand
+    second_asked : is_integer s ≡ true → run headers counts ≡ run headers (by_sort y (is_count y))
+    second_asked yes =
+        run-then headers (by_sort x is_integer) (λ yes. if yes then by_sort y (is_count y) else Done false) true
+        (run-then headers (sort_in x) (λ s. Done (is_integer s)) s first ∙ ap (λ (b : Bool). Decided b) yes)
 
-  pub shift-found : shift_outcome left x y s t ≡ tested headers (shift_tests left x y) (shift_gives left x y)
-  shift-found = sym
-      (whole-answered headers invalid_shift (by_sorts x y (λ s t. is_integer s && is_count y t)) (limit_tests (shift_fit left x y)) (shift_gives left x y) (is_integer s && is_count y t) (told (λ s t. is_integer s && is_count y t))
-      ∙ ap (answered invalid_shift (is_integer s && is_count y t)) allowed)
+    not_asked : is_integer s ≡ false → run headers counts ≡ Decided false
+    not_asked no =
+        run-then headers (by_sort x is_integer) (λ yes. if yes then by_sort y (is_count y) else Done false) false
+        (run-then headers (sort_in x) (λ s. Done (is_integer s)) s first ∙ ap (λ (b : Bool). Decided b) no)
+
+    module _ (t : Sort) (second : run headers (sort_in y) ≡ Decided t) where
+      told : {A : Type 0} (answer : Sort → Sort → A) → run headers (by_sorts x y answer) ≡ Decided (answer s t)
+      told answer = run-then headers (sorts_of x y) (λ pair. Done (answer pair.0 pair.1)) (s, t) (both-sorts headers x y s t first second)
+
+      counted : tested headers (limit_tests (shift_fit left x y)) (shift_gives left x y) ≡ counted_outcome left x y s
+      counted =
+          tests-limited headers (shift_fit left x y) (shift_gives left x y) (fit_of_both left s (constant_in x) (constant_in y))
+          (record_of (type_or_none x) (value_of_both left (constant_in x) (constant_in y)) (span_of x s))
+          (told (λ s t. fit_of_both left s (constant_in x) (constant_in y)))
+          (told (λ s t. record_of (type_or_none x) (value_of_both left (constant_in x) (constant_in y)) (span_of x s)))
+
+      by_count : is_integer s ≡ true → tested headers (shift_tests left x y) (shift_gives left x y) ≡ by_whole invalid_shift (is_count y t) (counted_outcome left x y s)
+      by_count yes =
+          whole-by headers invalid_shift counts (limit_tests (shift_fit left x y)) (shift_gives left x y) (is_count y t)
+          (second_asked yes ∙ run-then headers (sort_in y) (λ t. Done (is_count y t)) t second)
+          ∙ ap (by_whole invalid_shift (is_count y t)) counted
+
+    by_second : is_integer s ≡ true → (a : Asked Sort) → run headers (sort_in y) ≡ a → tested headers (shift_tests left x y) (shift_gives left x y) ≡ outcome_by_second left x y s a
+    by_second yes (Decided t) e = by_count t e yes
+    by_second yes (Lacks d) e =
+        whole-lacks headers invalid_shift counts (limit_tests (shift_fit left x y)) (shift_gives left x y) d
+        (second_asked yes ∙ run-then-Lacks headers (sort_in y) (λ t. Done (is_count y t)) d e)
+
+    by_integer : (b : Bool) → is_integer s ≡ b → tested headers (shift_tests left x y) (shift_gives left x y) ≡ by_whole invalid_shift b (outcome_by_second left x y s (run headers (sort_in y)))
+    by_integer true yes = by_second yes (run headers (sort_in y)) refl
+    by_integer false no = whole-no headers invalid_shift counts (limit_tests (shift_fit left x y)) (shift_gives left x y) (not_asked no)
+
+  by_first : (a : Asked Sort) → run headers (sort_in x) ≡ a → tested headers (shift_tests left x y) (shift_gives left x y) ≡ outcome_by_first left x y a (run headers (sort_in y))
+  by_first (Decided s) e = by_integer s e (is_integer s) refl
+  by_first (Lacks d) e =
+      whole-lacks headers invalid_shift counts (limit_tests (shift_fit left x y)) (shift_gives left x y) d
+      (run-then-Lacks headers (by_sort x is_integer) (λ yes. if yes then by_sort y (is_count y) else Done false) d
+      (run-then-Lacks headers (sort_in x) (λ s. Done (is_integer s)) d e))
+
+  pub shift-found : outcome_by_first left x y (run headers (sort_in x)) (run headers (sort_in y)) ≡ tested headers (shift_tests left x y) (shift_gives left x y)
+  shift-found = sym (by_first (run headers (sort_in x)) refl)

@@ -1,42 +1,28 @@
 -- What follows of the sorts of operands, once they are decided.
-use Rattle.std.proofs.Common.{◌≡◌, Bool, true, false, Option, Some, None, ℤ, refl, ap, sym, ◌∙◌, subst}
+use Rattle.std.proofs.Common.{◌≡◌, Option, Some, None, ℤ, refl, ap, sym, ◌∙◌}
 use Rattle.go_base.specs.declared.ids.ObjId.{ObjId}
 use Rattle.go_num.specs.declared.value.Value.{Value}
 use Rattle.go_term.specs.Types.{TypeData}
 use Rattle.go_model.specs.declared.rec.Mode.{Mode}
 use Rattle.go_model.specs.declared.rec.Mode.TheVariants as M
-use Rattle.go_model.specs.Outcomes.Records.{HeaderData, RecData}
+use Rattle.go_model.specs.Outcomes.Records.{RecData}
 use Rattle.go_model.specs.Outcomes.Walk.{Headers}
-use Rattle.go_model.specs.Values.Quests.{Asked, Decided, Done, Lacks, Quest, run, then_ask}
-use Rattle.go_model.proofs.QuestLemmas.{run-then, run-then-Lacks}
+use Rattle.go_model.specs.Values.Quests.{Decided, Done, run, then_ask}
+use Rattle.go_model.proofs.QuestLemmas.{run-then}
 use Rattle.go_ops.specs.Constants.{constant_in}
 use Rattle.go_ops.specs.Honest.{IsHonest}
 use Rattle.go_ops.specs.Representable.{fit_of, representable}
-use Rattle.go_ops.specs.Sorts.{by_sort, by_sorts, sort_by, sort_in, sort_of, sorts_of}
-use Rattle.go_ops.specs.declared.fit.Fit.{Fit}
+use Rattle.go_ops.specs.Sorts.{sort_by, sort_in, sort_of, sorts_of}
 use Rattle.go_ops.specs.declared.fit.Fit.TheVariants.{Fits}
 use Rattle.go_ops.specs.declared.sort.Sort.{Sort}
 use Rattle.go_ops.specs.declared.sort.Sort.TheVariants as S
 
 module _ (headers : Headers) where
   -- both are decided where each is
-  pub each-sort : (x y : RecData) (s t : Sort) → run headers (sorts_of x y) ≡ Decided (s, t) → (run headers (sort_in x) ≡ Decided s) × (run headers (sort_in y) ≡ Decided t)
-  each-sort x y s t e = first (run headers (sort_in x)) refl
-    where
-      next : Sort → Quest HeaderData (Sort × Sort)
-      next u = then_ask (sort_in y) (λ v. Done (u, v))
-
-      second : (u : Sort) (b : Asked Sort) → run headers (sort_in x) ≡ Decided u → run headers (sort_in y) ≡ b → run headers (next u) ≡ Decided (s, t)
-          → (run headers (sort_in x) ≡ Decided s) × (run headers (sort_in y) ≡ Decided t)
-      second u (Lacks d) p q r = absurd (let never : Lacks d ≡ Decided (s, t) = sym (run-then-Lacks headers (sort_in y) (λ v. Done (u, v)) d q) ∙ r in cc)
-      second u (Decided v) p q r =
-          let whole : Decided (u, v) ≡ Decided (s, t) = sym (run-then headers (sort_in y) (λ v. Done (u, v)) v q) ∙ r in
-          let same : (u, v) ≡ (s, t) = cc in
-          (p ∙ ap (λ (pair : Sort × Sort). Decided pair.0) same, q ∙ ap (λ (pair : Sort × Sort). Decided pair.1) same)
-
-      first : (a : Asked Sort) → run headers (sort_in x) ≡ a → (run headers (sort_in x) ≡ Decided s) × (run headers (sort_in y) ≡ Decided t)
-      first (Lacks d) p = absurd (let never : Lacks d ≡ Decided (s, t) = sym (run-then-Lacks headers (sort_in x) next d p) ∙ e in cc)
-      first (Decided u) p = second u (run headers (sort_in y)) p refl (sym (run-then headers (sort_in x) next u p) ∙ e)
+  pub both-sorts : (x y : RecData) (s t : Sort) → run headers (sort_in x) ≡ Decided s → run headers (sort_in y) ≡ Decided t → run headers (sorts_of x y) ≡ Decided (s, t)
+  both-sorts x y s t first second =
+      run-then headers (sort_in x) (λ s. then_ask (sort_in y) (λ t. Done (s, t))) s first
+      ∙ run-then headers (sort_in y) (λ t. Done (s, t)) t second
 
   -- a constant fits the sort of its type
   at_type : (type : TypeData) (v : Value) (s : Sort) → run headers (sort_of type) ≡ Decided s → run headers (representable v type) ≡ Decided Fits → fit_of v s ≡ Fits

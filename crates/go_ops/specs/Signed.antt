@@ -1,16 +1,16 @@
 -- Arithmetic operators; Logical operators (Go specification).
 -- What `+x`, `-x`, `^x` and `!x` come to behind the tests on the operand, by the sort of its type: as the code finds it. That the
 -- tests of the operators come to the same: `SignLemmas`.
-use Rattle.std.specs.Prelude.{if◌then◌else◌, Option, None, List, [], ◌∷◌}
+use Rattle.std.specs.Prelude.{Option, None, List, ◌∷◌}
 use Rattle.go_num.specs.declared.value.Value.{Value}
-use Rattle.go_model.specs.declared.outcome.Spot.TheVariants.{Whole}
-use Rattle.go_model.specs.Outcomes.Judged.{Broken, OutcomeData, RuleTest}
+use Rattle.go_model.specs.Outcomes.Judged.{OutcomeData, RuleTest, Waits}
 use Rattle.go_model.specs.Outcomes.Operands.{at_whole, type_or_none}
 use Rattle.go_model.specs.Outcomes.Records.{HeaderData, RecData}
-use Rattle.go_model.specs.Values.Quests.{Quest}
+use Rattle.go_model.specs.Values.Quests.{Asked, Decided, Lacks, Quest}
 use Rattle.go_ops.specs.Constants.{constant_in, limit_tests}
 use Rattle.go_ops.specs.Limited.{limited_outcome}
 use Rattle.go_ops.specs.Operators.{fit_found}
+use Rattle.go_ops.specs.Refusals.{by_whole}
 use Rattle.go_ops.specs.Rules.{undefined_unary}
 use Rattle.go_ops.specs.Sorts.{by_sort}
 use Rattle.go_ops.specs.Unary.{is_signed_by, of_value, sign, sign_fit, signed_value}
@@ -33,9 +33,11 @@ value_of_one op s v = of_value None (signed_value op s) v
 abbrev pub fit_of_one : Sign → Sort → Option Value → Fit
 fit_of_one op s v = of_value Fits (λ v. fit_found (signed_value op s v) s) v
 
--- by the sort of the operand
+-- an operand of this sort, on which the operator is defined: what it comes to
 abbrev pub defined_outcome : Sign → RecData → Sort → OutcomeData RecData
 defined_outcome op x s = limited_outcome (type_or_none x) x.span (fit_of_one op s (constant_in x)) (value_of_one op s (constant_in x))
 
-abbrev pub sign_outcome : Sign → RecData → Sort → OutcomeData RecData
-sign_outcome op x s = if is_signed_by op s then defined_outcome op x s else Broken undefined_unary (Whole ∷ [])
+-- by the sort of its type
+abbrev pub outcome_by_operand : Sign → RecData → Asked Sort → OutcomeData RecData
+outcome_by_operand op x (Decided s) = by_whole undefined_unary (is_signed_by op s) (defined_outcome op x s)
+outcome_by_operand op x (Lacks d) = Waits d
