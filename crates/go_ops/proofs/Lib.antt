@@ -1,3 +1,7 @@
 pub mod EndLemmas
 pub mod AskedLemmas
 pub mod MatchingLemmas
+pub mod LimitLemmas
+pub mod SortLemmas
+pub mod ShiftLemmas
+pub mod SignLemmas

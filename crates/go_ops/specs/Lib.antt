@@ -14,5 +14,7 @@ pub mod Honest
 -- what inner functions promise each other
 pub mod Refusals
 pub mod Limited
+pub mod Shifted
+pub mod Signed
 pub mod AskedSorts
 pub mod MatchingParts

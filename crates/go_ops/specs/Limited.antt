@@ -12,7 +12,7 @@ use Rattle.go_model.specs.Outcomes.Judged.{Broken, Found, OutcomeData, RuleTest}
 use Rattle.go_model.specs.Outcomes.Records.{HeaderData, RecData}
 use Rattle.go_model.specs.Values.Quests.{Quest}
 use Rattle.go_ops.specs.Constants.{long_test, record_of, unkept_test, wide_test}
-use Rattle.go_ops.specs.Representable.{fit_of_integer}
+use Rattle.go_ops.specs.Representable.{fit_of, fit_of_integer}
 use Rattle.go_ops.specs.Rules.{constant_overflow, long_text, unkept_float}
 use Rattle.go_ops.specs.declared.fit.Fit.{Fit}
 use Rattle.go_ops.specs.declared.fit.Fit.TheVariants.{Differs, Fits, Long, Overflows, Unkept, Wide}
@@ -53,3 +53,8 @@ IsGivenNothing given = (value : Option Value) → IsGiven given Unkept value
 -- and an integer that is there where it is within 128 bits
 abbrev pub IsGivenInteger : Given → Option ℤ → Sort → Type 0
 IsGivenInteger given value s = (v : ℤ) → limited v ≡ value → IsGiven given (fit_of_integer v s) (Some (V.Int v))
+
+-- each value, where there is one, fits a type of this sort
+abbrev pub FitsSort : Option Value → Sort → Type 0
+FitsSort (Some v) s = fit_of v s ≡ Fits
+FitsSort None s = Unit {0}

@@ -1,8 +1,11 @@
 -- Operators; Integer operators (Go specification).
 -- What a shift comes to behind the tests on its operands, by the sorts of their types: as the code finds it. That the tests of
 -- the shift come to the same: `ShiftLemmas`.
-use Rattle.std.specs.Prelude.{if◌then◌else◌, Bool, Option, None, List, [], ◌∷◌}
+use Rattle.std.specs.Prelude.{◌≡◌, Bool, true, Option, Some, None, List, ◌∷◌}
+use Rattle.go_num.specs.Ranges.{fits}
+use Rattle.go_num.specs.declared.ranges.IntType.TheVariants.{Uint}
 use Rattle.go_num.specs.declared.value.Value.{Value}
+use Rattle.go_num.specs.declared.value.Value.TheVariants as V
 use Rattle.go_model.specs.Outcomes.Judged.{OutcomeData, RuleTest, Waits}
 use Rattle.go_model.specs.Outcomes.Operands.{at_whole, type_or_none}
 use Rattle.go_model.specs.Outcomes.Records.{HeaderData, RecData}
@@ -46,3 +49,8 @@ outcome_by_second left x y s (Lacks d) = Waits d
 abbrev pub outcome_by_first : Bool → RecData → RecData → Asked Sort → Asked Sort → OutcomeData RecData
 outcome_by_first left x y (Decided s) second = by_whole invalid_shift (is_integer s) (outcome_by_second left x y s second)
 outcome_by_first left x y (Lacks d) second = Waits d
+
+-- a count, where it is a constant, is one of the type `uint`
+abbrev pub IsUint : Option Value → Type 0
+IsUint (Some (V.Int v)) = fits v Uint ≡ true
+IsUint value = Unit {0}

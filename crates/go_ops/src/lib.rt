@@ -29,6 +29,10 @@ mod types;
 mod constants;
 mod limits;
 
+// The operators.
+mod shift;
+mod sign;
+
 pub use fit::Fit;
 pub use operator::{BinaryOp, Operation, Sign, UnaryOp};
 pub use representable::{Represents, representable};

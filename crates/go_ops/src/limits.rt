@@ -1,13 +1,14 @@
 // Constants that operations give (Go specification, "Constant expressions", "Representability").
-ghost use Rattle.std.specs.Prelude.{◌≡◌, ℤ, None, IfOk, true};
+ghost use Rattle.std.specs.Prelude.{◌≡◌, ℤ, None, Some, IfOk, true};
 ghost use Rattle.go_num.specs.Arithmetic as arithmetic;
+ghost use Rattle.go_num.specs.declared.value.Value.TheVariants as values;
 ghost use Rattle.go_model.specs.Outcomes.Judged as outcomes;
 ghost use Rattle.go_model.specs.Outcomes.View.{outcome_as};
 ghost use Rattle.go_model.specs.Types.Own.{IsOwnOutcome};
 ghost use Rattle.go_ops.specs.Constants as constants;
 ghost use Rattle.go_ops.specs.Limited.{IsGiven, IsGivenInteger, IsGivenNothing, IsLimited, limited_outcome};
-ghost use Rattle.go_ops.specs.Operators.{is_numeric};
-ghost use Rattle.go_ops.specs.Representable.{fit_of_integer};
+ghost use Rattle.go_ops.specs.Operators.{is_boolean, is_numeric};
+ghost use Rattle.go_ops.specs.Representable as spec;
 ghost use Rattle.go_ops.specs.declared.fit.Fit.TheVariants as fits;
 ghost use Rattle.go_ops.specs.declared.sort.Sort.TheVariants as sorts;
 
@@ -130,9 +131,20 @@ pub(crate) fn integer_given(value: Option<i128>, sort: Sort) -> Given
     }
 }
 
+/// What gives this truth value, of a type of this sort.
+pub(crate) fn truth_given(truth: bool, sort: Sort) -> Given
+    requires { is_boolean sort ≡ true }
+    ensures { IsGiven result (spec.fit_of_truth sort) (Some (values.Bool truth)) }
+{
+    Given {
+        fit: fit_of(&Value::Bool(truth), sort),
+        value: Some(Value::Bool(truth)),
+    }
+}
+
 /// How an integer outside -2^127 to 2^127-1 fits a type of this sort.
 pub(crate) fn wide_fit(sort: Sort) -> Fit
-    ensures { (v : ℤ) → arithmetic.limited v ≡ None → result ≡ fit_of_integer v sort }
+    ensures { (v : ℤ) → arithmetic.limited v ≡ None → result ≡ spec.fit_of_integer v sort }
 {
     match sort {
         Sort::Untyped(kind) => wide_untyped(kind),
@@ -147,7 +159,7 @@ pub(crate) fn wide_fit(sort: Sort) -> Fit
 
 // And of this kind.
 fn wide_untyped(kind: NumKind) -> Fit
-    ensures { (v : ℤ) → arithmetic.limited v ≡ None → result ≡ fit_of_integer v (sorts.Untyped kind) }
+    ensures { (v : ℤ) → arithmetic.limited v ≡ None → result ≡ spec.fit_of_integer v (sorts.Untyped kind) }
 {
     match kind {
         NumKind::Int => Fit::Wide,
