@@ -3,7 +3,7 @@
 -- x. The operand must be addressable .. As an exception to the addressability requirement, x may also be a (possibly
 -- parenthesized) composite literal." "For an operand x of pointer type *T, the pointer indirection *x denotes the variable of
 -- type T pointed to by x."
-use Rattle.std.specs.Prelude.{◌||◌, is_some, Bool, true, false, Option, Some, None, List, [], ◌∷◌, ◌++◌, if◌then◌else◌, unwrap_or}
+use Rattle.std.specs.Prelude.{◌&&◌, ◌||◌, is_some, Bool, true, false, Option, Some, None, List, [], ◌∷◌, ◌++◌, if◌then◌else◌, unwrap_or}
 use Rattle.go_term.specs.Types as types
 use Rattle.go_term.specs.Types.{TypeData, made, more_parts, no_parts, pointer}
 use Rattle.go_model.specs.declared.rec.Mode.{Mode}
@@ -26,12 +26,13 @@ abbrev pub is_addressable : Mode → Bool
 is_addressable M.Var = true
 is_addressable mode = false
 
+-- what has no type has no address (own)
 abbrev pub address : Bool → RecData → Asks HeaderData RecData
 address literal x = record {
   tests =
       are_values 0 (x ∷ [])
       ∷ (are_single (x ∷ [])
-      ∷ (at_whole no_address (Done (literal || is_addressable x.mode))
+      ∷ (at_whole no_address (Done (is_some x.type && (literal || is_addressable x.mode)))
       ∷ within_limits (pointer_to x)));
   gives = Done (value_record M.Value (pointer_to x) None);
 }
