@@ -1,4 +1,11 @@
 pub mod EndLemmas
+pub mod OperandLemmas
+pub mod SourceLemmas
+pub mod PointerLemmas
+pub mod FoundLemmas
+pub mod KindLemmas
+pub mod GivenLemmas
+pub mod HonestLemmas
 pub mod AskedLemmas
 pub mod MatchingLemmas
 pub mod LimitLemmas

@@ -13,6 +13,8 @@ pub mod Channels
 pub mod Honest
 -- what inner functions promise each other
 pub mod Refusals
+pub mod PointerTypes
+pub mod Sources
 pub mod Limited
 pub mod Shifted
 pub mod Signed

@@ -30,8 +30,11 @@ mod constants;
 mod limits;
 
 // The operators.
+mod channels;
+mod pointers;
 mod shift;
 mod sign;
+mod source;
 
 pub use fit::Fit;
 pub use operator::{BinaryOp, Operation, Sign, UnaryOp};
