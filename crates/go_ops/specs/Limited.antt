@@ -3,6 +3,7 @@
 -- That the tests of R8, U9, L2 and L3 come to the same: `LimitLemmas`.
 use Rattle.std.specs.Prelude.{◌≡◌, ℤ, Option, Some, None, List, [], ◌∷◌}
 use Rattle.go_num.specs.Arithmetic.{limited}
+use Rattle.go_num.specs.declared.value.NumKind.TheVariants as K
 use Rattle.go_num.specs.declared.value.Value.{Value}
 use Rattle.go_num.specs.declared.value.Value.TheVariants as V
 use Rattle.go_term.specs.Types.{TypeData}
@@ -18,6 +19,7 @@ use Rattle.go_ops.specs.declared.fit.Fit.{Fit}
 use Rattle.go_ops.specs.declared.fit.Fit.TheVariants.{Differs, Fits, Long, Overflows, Unkept, Wide}
 use Rattle.go_ops.specs.declared.limits.Given.{Given}
 use Rattle.go_ops.specs.declared.sort.Sort.{Sort}
+use Rattle.go_ops.specs.declared.sort.Sort.TheVariants as S
 
 -- the rule that it breaks, or what comes later
 abbrev pub limited_by : {R : Type 0} → Fit → OutcomeData R → OutcomeData R
@@ -53,6 +55,14 @@ IsGivenNothing given = (value : Option Value) → IsGiven given Unkept value
 -- and an integer that is there where it is within 128 bits
 abbrev pub IsGivenInteger : Given → Option ℤ → Sort → Type 0
 IsGivenInteger given value s = (v : ℤ) → limited v ≡ value → IsGiven given (fit_of_integer v s) (Some (V.Int v))
+
+-- how an integer outside 128 bits fits a type of this sort
+abbrev pub wide_fit : Sort → Fit
+wide_fit (S.Untyped K.Int) = Wide
+wide_fit (S.Untyped K.Rune) = Wide
+wide_fit (S.Int t) = Overflows
+wide_fit (S.Float f) = Unkept
+wide_fit s = Differs
 
 -- each value, where there is one, fits a type of this sort
 abbrev pub FitsSort : Option Value → Sort → Type 0

@@ -1,12 +1,11 @@
 // Constants that operations give (Go specification, "Constant expressions", "Representability").
-ghost use Rattle.std.specs.Prelude.{◌≡◌, ℤ, None, Some, IfOk, true};
-ghost use Rattle.go_num.specs.Arithmetic as arithmetic;
+ghost use Rattle.std.specs.Prelude.{◌≡◌, None, Some, IfOk, true};
 ghost use Rattle.go_num.specs.declared.value.Value.TheVariants as values;
 ghost use Rattle.go_model.specs.Outcomes.Judged as outcomes;
 ghost use Rattle.go_model.specs.Outcomes.View.{outcome_as};
 ghost use Rattle.go_model.specs.Types.Own.{IsOwnOutcome};
 ghost use Rattle.go_ops.specs.Constants as constants;
-ghost use Rattle.go_ops.specs.Limited.{IsGiven, IsGivenInteger, IsGivenNothing, IsLimited, limited_outcome};
+ghost use Rattle.go_ops.specs.Limited.{IsGiven, IsGivenInteger, IsGivenNothing, IsLimited, limited_outcome, wide_fit};
 ghost use Rattle.go_ops.specs.Operators.{is_boolean, is_numeric};
 ghost use Rattle.go_ops.specs.Representable as spec;
 ghost use Rattle.go_ops.specs.declared.fit.Fit.TheVariants as fits;
@@ -144,7 +143,7 @@ pub(crate) fn truth_given(truth: bool, sort: Sort) -> Given
 
 /// How an integer outside -2^127 to 2^127-1 fits a type of this sort.
 pub(crate) fn wide_fit(sort: Sort) -> Fit
-    ensures { (v : ℤ) → arithmetic.limited v ≡ None → result ≡ spec.fit_of_integer v sort }
+    ensures { result ≡ wide_fit sort }
 {
     match sort {
         Sort::Untyped(kind) => wide_untyped(kind),
@@ -159,7 +158,7 @@ pub(crate) fn wide_fit(sort: Sort) -> Fit
 
 // And of this kind.
 fn wide_untyped(kind: NumKind) -> Fit
-    ensures { (v : ℤ) → arithmetic.limited v ≡ None → result ≡ spec.fit_of_integer v (sorts.Untyped kind) }
+    ensures { result ≡ wide_fit (sorts.Untyped kind) }
 {
     match kind {
         NumKind::Int => Fit::Wide,
