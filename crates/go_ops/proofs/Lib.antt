@@ -13,3 +13,8 @@ pub mod LimitLemmas
 pub mod SortLemmas
 pub mod ShiftLemmas
 pub mod SignLemmas
+pub mod CalculationLemmas
+pub mod ComparisonLemmas
+pub mod NoTypeLemmas
+pub mod OperationLemmas
+pub mod StageLemmas

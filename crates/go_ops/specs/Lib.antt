@@ -20,3 +20,5 @@ pub mod Shifted
 pub mod Signed
 pub mod AskedSorts
 pub mod MatchingParts
+pub mod ComparisonStages
+pub mod Stages

@@ -1,10 +1,11 @@
 -- Operations from a test on, where the sorts of their operands are known: as the code finds them.
 -- That the tests of an operation come to the same: `OperationLemmas`.
-use Rattle.std.specs.Prelude.{◌≡◌, not, Bool, true, Option, Some, None}
+use Rattle.std.specs.Prelude.{◌≡◌, not, Bool, true, Option, Some, None, [], unwrap_or}
 use Rattle.go_base.specs.declared.rule.Rule.{Rule}
 use Rattle.go_module.specs.Rules.{unbuilt_form}
 use Rattle.go_num.specs.declared.value.Value.{Value}
 use Rattle.go_num.specs.declared.value.Value.TheVariants as V
+use Rattle.go_term.specs.Types.{TypeData, list, of_list}
 use Rattle.go_model.specs.declared.outcome.Spot.TheVariants.{Part}
 use Rattle.go_model.specs.declared.rec.Rec.{Rec}
 use Rattle.go_model.specs.Outcomes.Judged.{Found, OutcomeData, Waits}
@@ -14,11 +15,13 @@ use Rattle.go_model.specs.Values.Quests.{Asked, Decided, Lacks, run}
 use Rattle.go_ops.specs.Constants.{constant_in, record_of}
 use Rattle.go_ops.specs.Limited.{limited_by}
 use Rattle.go_ops.specs.Matching.{common_sort, common_type, given_fit, match_by}
-use Rattle.go_ops.specs.Operators.{fit_of_both, given_values, is_boolean, is_built, is_by_zero, is_defined_on, is_numeric, is_text, value_of}
+use Rattle.go_ops.specs.Operators.{fit_found, fit_of_both, given_values, has_no_quotient, is_boolean, is_built, is_by_zero, is_defined_on, is_numeric, is_text, of_values, value_of}
 use Rattle.go_ops.specs.Refusals.{by_part, by_two, by_whole, or_later, two_refused}
 use Rattle.go_ops.specs.Representable.{not_overflows, not_unkept}
 use Rattle.go_ops.specs.Rules.{constant_overflow, division_by_zero, mismatched_operands, undefined_binary, unkept_float}
 use Rattle.go_ops.specs.Sorts.{sort_in}
+use Rattle.go_ops.specs.declared.fit.Fit.{Fit}
+use Rattle.go_ops.specs.declared.fit.Fit.TheVariants.{Fits}
 use Rattle.go_ops.specs.declared.operator.Operation.{Operation}
 use Rattle.go_ops.specs.declared.sort.Sort.{Sort}
 use Rattle.go_ops.specs.declared.sort.Sort.TheVariants as S
@@ -40,6 +43,17 @@ are_of a b c = true
 abbrev pub both_of : Option Value → Option Value → Sort → Bool
 both_of v w c = given_values true (λ a b. are_of a b c) v w
 
+-- neither, or not both of them a quotient that there is
+abbrev pub both_divide : Operation → Option Value → Option Value → Bool
+both_divide op v w = given_values true (λ a b. not (has_no_quotient op (Some b))) v w
+
+-- how what two constants give fits, and itself
+abbrev pub fit_of_values : Operation → Sort → Option Value → Option Value → Fit
+fit_of_values op s v w = given_values Fits (λ a b. fit_found (of_values op s a b) s) v w
+
+abbrev pub value_of_values : Operation → Sort → Option Value → Option Value → Option Value
+value_of_values op s v w = given_values None (of_values op s) v w
+
 abbrev pub constant_of : Rec → Option Value
 constant_of r = constant_in (rec_view r)
 
@@ -50,14 +64,20 @@ pub record AreOf (x y : Rec) (s t : Sort) : Type 0 where
   pub second : y.ty ≡ None → t ≡ S.Other
   pub kind : both_of (constant_of x) (constant_of y) (common_sort s t) ≡ true
 
+-- an operand's type
+abbrev pub type_there : Option TypeData → TypeData
+type_there type = unwrap_or type (of_list list [])
+
 -- OPERATIONS
 
 module _ (op : Operation) (x y : RecData) (s t : Sort) where
+  -- by what the operation gives
+  abbrev pub given_outcome : OutcomeData RecData
+  given_outcome = limited_by (fit_of_both op x y (common_sort s t)) (Found (record_of (common_type x y s t) (value_of op x y (common_sort s t)) None))
+
   -- from U9 at the constants that are given a type on
   abbrev pub kept_outcome : OutcomeData RecData
-  kept_outcome =
-      by_two unkept_float (not_unkept (given_fit x s t)) (not_unkept (given_fit y t s))
-      (limited_by (fit_of_both op x y (common_sort s t)) (Found (record_of (common_type x y s t) (value_of op x y (common_sort s t)) None)))
+  kept_outcome = by_two unkept_float (not_unkept (given_fit x s t)) (not_unkept (given_fit y t s)) given_outcome
 
   -- from R8 of what the operation gives on, and of these constants
   abbrev pub fitting_outcome : OutcomeData RecData

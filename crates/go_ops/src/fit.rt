@@ -1,4 +1,6 @@
 // How constants fit types (Go specification, "Representability").
+ghost use Rattle.std.specs.Prelude.{◌≡◌};
+ghost use Rattle.go_ops.specs.Representable as spec;
 
 /// How a constant fits a type.
 #[derive(Clone, Copy, Debug, PartialEq, Eq)]
@@ -15,4 +17,18 @@ pub enum Fit {
     Long,
     /// it is of another kind than the type
     Differs,
+}
+
+/// Whether R8 holds of a constant that fits so.
+pub(crate) fn not_overflows(fit: Fit) -> bool
+    ensures { result ≡ spec.not_overflows fit }
+{
+    !matches!(fit, Fit::Overflows)
+}
+
+/// Whether U9 holds of a constant that fits so.
+pub(crate) fn not_unkept(fit: Fit) -> bool
+    ensures { result ≡ spec.not_unkept fit }
+{
+    !matches!(fit, Fit::Unkept)
 }

@@ -21,7 +21,12 @@ mod modes;
 mod operands;
 
 // Two operands.
+mod calculation;
+mod comparison;
+mod definedness;
+mod matched;
 mod matching;
+mod operation;
 mod representable;
 mod types;
 
