@@ -30,93 +30,46 @@ use Rattle.go_ops.proofs.MatchingLemmas.{common-of}
 -- a truth value fits a boolean type
 pub truth-fits : (s : Sort) → is_boolean s ≡ true → Fits ≡ fit_of_truth s
 truth-fits (S.Untyped K.Bool) is = refl
-truth-fits (S.Untyped K.Int) is = absurd (let never : false ≡ true = is in cc)
-truth-fits (S.Untyped K.Rune) is = absurd (let never : false ≡ true = is in cc)
-truth-fits (S.Untyped K.Text) is = absurd (let never : false ≡ true = is in cc)
-truth-fits (S.Untyped K.Nil) is = absurd (let never : false ≡ true = is in cc)
 truth-fits S.Bool is = refl
-truth-fits (S.Int t) is = absurd (let never : false ≡ true = is in cc)
-truth-fits (S.Float f) is = absurd (let never : false ≡ true = is in cc)
-truth-fits S.Text is = absurd (let never : false ≡ true = is in cc)
-truth-fits S.Interface is = absurd (let never : false ≡ true = is in cc)
-truth-fits S.Other is = absurd (let never : false ≡ true = is in cc)
+truth-fits s is = absurd (let never : false ≡ true = is in cc)
 
 -- a string of so many bytes fits a string type, or is too long
 pub text-fits : (n : ℕ) (s : Sort) → is_text s ≡ true → fit_of_text n s ≡ (if nat_le n most_text then Fits else Long)
-text-fits n (S.Untyped K.Bool) is = absurd (let never : false ≡ true = is in cc)
-text-fits n (S.Untyped K.Int) is = absurd (let never : false ≡ true = is in cc)
-text-fits n (S.Untyped K.Rune) is = absurd (let never : false ≡ true = is in cc)
 text-fits n (S.Untyped K.Text) is = refl
-text-fits n (S.Untyped K.Nil) is = absurd (let never : false ≡ true = is in cc)
-text-fits n S.Bool is = absurd (let never : false ≡ true = is in cc)
-text-fits n (S.Int t) is = absurd (let never : false ≡ true = is in cc)
-text-fits n (S.Float f) is = absurd (let never : false ≡ true = is in cc)
 text-fits n S.Text is = refl
-text-fits n S.Interface is = absurd (let never : false ≡ true = is in cc)
-text-fits n S.Other is = absurd (let never : false ≡ true = is in cc)
+text-fits n s is = absurd (let never : false ≡ true = is in cc)
 
 -- and what fits is of the kind of the type
 truth_of : (s : Sort) → fit_of_truth s ≡ Fits → is_boolean s ≡ true
 truth_of (S.Untyped K.Bool) is = refl
-truth_of (S.Untyped K.Int) is = absurd (let never : Differs ≡ Fits = is in cc)
-truth_of (S.Untyped K.Rune) is = absurd (let never : Differs ≡ Fits = is in cc)
-truth_of (S.Untyped K.Text) is = absurd (let never : Differs ≡ Fits = is in cc)
-truth_of (S.Untyped K.Nil) is = absurd (let never : Differs ≡ Fits = is in cc)
 truth_of S.Bool is = refl
-truth_of (S.Int t) is = absurd (let never : Differs ≡ Fits = is in cc)
-truth_of (S.Float f) is = absurd (let never : Differs ≡ Fits = is in cc)
-truth_of S.Text is = absurd (let never : Differs ≡ Fits = is in cc)
-truth_of S.Interface is = absurd (let never : Differs ≡ Fits = is in cc)
-truth_of S.Other is = absurd (let never : Differs ≡ Fits = is in cc)
+truth_of s is = absurd (let never : Differs ≡ Fits = is in cc)
 
 text_of : (n : ℕ) (s : Sort) → fit_of_text n s ≡ Fits → is_text s ≡ true
-text_of n (S.Untyped K.Bool) is = absurd (let never : Differs ≡ Fits = is in cc)
-text_of n (S.Untyped K.Int) is = absurd (let never : Differs ≡ Fits = is in cc)
-text_of n (S.Untyped K.Rune) is = absurd (let never : Differs ≡ Fits = is in cc)
 text_of n (S.Untyped K.Text) is = refl
-text_of n (S.Untyped K.Nil) is = absurd (let never : Differs ≡ Fits = is in cc)
-text_of n S.Bool is = absurd (let never : Differs ≡ Fits = is in cc)
-text_of n (S.Int t) is = absurd (let never : Differs ≡ Fits = is in cc)
-text_of n (S.Float f) is = absurd (let never : Differs ≡ Fits = is in cc)
 text_of n S.Text is = refl
-text_of n S.Interface is = absurd (let never : Differs ≡ Fits = is in cc)
-text_of n S.Other is = absurd (let never : Differs ≡ Fits = is in cc)
+text_of n s is = absurd (let never : Differs ≡ Fits = is in cc)
 
 integer_of : (v : ℤ) (s : Sort) → fit_of_integer v s ≡ Fits → is_numeric s ≡ true
-integer_of v (S.Untyped K.Bool) is = absurd (let never : Differs ≡ Fits = is in cc)
 integer_of v (S.Untyped K.Int) is = refl
 integer_of v (S.Untyped K.Rune) is = refl
-integer_of v (S.Untyped K.Text) is = absurd (let never : Differs ≡ Fits = is in cc)
-integer_of v (S.Untyped K.Nil) is = absurd (let never : Differs ≡ Fits = is in cc)
-integer_of v S.Bool is = absurd (let never : Differs ≡ Fits = is in cc)
 integer_of v (S.Int t) is = refl
 integer_of v (S.Float f) is = refl
-integer_of v S.Text is = absurd (let never : Differs ≡ Fits = is in cc)
-integer_of v S.Interface is = absurd (let never : Differs ≡ Fits = is in cc)
-integer_of v S.Other is = absurd (let never : Differs ≡ Fits = is in cc)
+integer_of v s is = absurd (let never : Differs ≡ Fits = is in cc)
 
 -- KINDS OF TWO
 
 later_numeric : (k l : NumKind) → is_numeric (S.Untyped k) ≡ true → is_numeric (S.Untyped l) ≡ true → is_numeric (S.Untyped (later k l)) ≡ true
 later_numeric K.Rune l p q = refl
-later_numeric K.Bool l p q = q
-later_numeric K.Int l p q = q
-later_numeric K.Text l p q = q
-later_numeric K.Nil l p q = q
+later_numeric k l p q = q
 
 later_text : (k l : NumKind) → is_text (S.Untyped k) ≡ true → is_text (S.Untyped l) ≡ true → is_text (S.Untyped (later k l)) ≡ true
 later_text K.Rune l p q = absurd (let never : false ≡ true = p in cc)
-later_text K.Bool l p q = q
-later_text K.Int l p q = q
-later_text K.Text l p q = q
-later_text K.Nil l p q = q
+later_text k l p q = q
 
 later_boolean : (k l : NumKind) → is_boolean (S.Untyped k) ≡ true → is_boolean (S.Untyped l) ≡ true → is_boolean (S.Untyped (later k l)) ≡ true
 later_boolean K.Rune l p q = absurd (let never : false ≡ true = p in cc)
-later_boolean K.Bool l p q = q
-later_boolean K.Int l p q = q
-later_boolean K.Text l p q = q
-later_boolean K.Nil l p q = q
+later_boolean k l p q = q
 
 values_of : (a b : Value) (s t : Sort) → fit_of a s ≡ Fits → fit_of b t ≡ Fits → are_of a b (common_sort s t) ≡ true
 values_of (V.Bool p) (V.Bool q) s t e f = common-of is_boolean later_boolean s t (truth_of s e) (truth_of t f)
@@ -158,14 +111,7 @@ by_mode : (op : Operation) (mode : Mode) (type : Option TypeData) (value : Optio
     → (has_no_quotient op w && (is_integer s || is_constant_mode mode)) ≡ false
     → both_divide op (constant_in (record { mode = mode; type = type; value = value; object = object; span = span })) w ≡ true
 by_mode op M.Const type value object span w s is = by_constant op value w s is
-by_mode op M.NoValue type value object span w s is = refl
-by_mode op M.Builtin type value object span w s is = refl
-by_mode op M.IsType type value object span w s is = refl
-by_mode op M.Var type value object span w s is = refl
-by_mode op M.MapIndex type value object span w s is = refl
-by_mode op M.Value type value object span w s is = refl
-by_mode op M.Nil type value object span w s is = refl
-by_mode op M.CommaOk type value object span w s is = refl
+by_mode op mode type value object span w s is = refl
 
 -- two constants of which R7 does not stand have a quotient where one is asked
 pub quotient-there : (op : Operation) (x y : RecData) (s : Sort) → is_by_zero op x y s ≡ false → both_divide op (constant_in x) (constant_in y) ≡ true

@@ -26,11 +26,19 @@ module _ (headers : Headers) (op : CmpOp) (x y : RecData) where
   gives = (comparison op x y).gives
 
   -- the tests from one on
-  abbrev from_kept from_fitting from_compared from_matched from_values : List (RuleTest HeaderData)
+  abbrev from_kept : List (RuleTest HeaderData)
   from_kept = are_kept x y ∷ []
+
+  abbrev from_fitting : List (RuleTest HeaderData)
   from_fitting = not_overflowing x y ∷ from_kept
+
+  abbrev from_compared : List (RuleTest HeaderData)
   from_compared = at_whole incomparable_operands (by_sorts x y (λ s t. compares op (common_sort s t))) ∷ from_fitting
+
+  abbrev from_matched : List (RuleTest HeaderData)
   from_matched = are_matched x y ∷ from_compared
+
+  abbrev from_values : List (RuleTest HeaderData)
   from_values = are_values 0 (x ∷ (y ∷ [])) ∷ (are_single (x ∷ (y ∷ [])) ∷ from_matched)
 
   module _ (s t : Sort) (decided : run headers (sorts_of x y) ≡ Decided (s, t)) where

@@ -34,15 +34,27 @@ module _ (headers : Headers) (op : Operation) (x y : RecData) where
   gives = by_sorts x y (λ s t. record_of (common_type x y s t) (value_of op x y (common_sort s t)) None)
 
   -- the tests from one on
-  abbrev from_kept from_fitting from_divided from_zero from_defined from_matched from_values : List (RuleTest HeaderData)
+  abbrev from_kept : List (RuleTest HeaderData)
   from_kept = are_kept x y ∷ kept_tests fitting
+
+  abbrev from_fitting : List (RuleTest HeaderData)
   from_fitting = overflow_test fitting ∷ from_kept
+
+  abbrev from_divided : List (RuleTest HeaderData)
   from_divided = not_overflowing x y ∷ from_fitting
+
+  abbrev from_zero : List (RuleTest HeaderData)
   from_zero =
       record { rule = division_by_zero; spots = record { spot = Part 1; holds = by_sorts x y (λ s t. not (is_by_zero op x y (common_sort s t))) } ∷ [] }
       ∷ from_divided
+
+  abbrev from_defined : List (RuleTest HeaderData)
   from_defined = at_whole undefined_binary (by_sorts x y (λ s t. is_defined_on op (common_sort s t))) ∷ from_zero
+
+  abbrev from_matched : List (RuleTest HeaderData)
   from_matched = are_matched x y ∷ from_defined
+
+  abbrev from_values : List (RuleTest HeaderData)
   from_values = are_values 0 (x ∷ (y ∷ [])) ∷ (are_single (x ∷ (y ∷ [])) ∷ from_matched)
 
   abbrev built : Test

@@ -27,8 +27,10 @@ is_constant_or_no_value r = not (is_value r) || is_constant r
 
 -- "Boolean types are comparable", "Integer types are comparable and ordered", "Floating-point types are comparable and ordered",
 -- "String types are comparable and ordered"
-abbrev pub compares_equal is_ordered : Sort → Bool
+abbrev pub compares_equal : Sort → Bool
 compares_equal s = is_numeric s || (is_text s || is_boolean s)
+
+abbrev pub is_ordered : Sort → Bool
 is_ordered s = is_numeric s || is_text s
 
 abbrev pub compares : CmpOp → Sort → Bool

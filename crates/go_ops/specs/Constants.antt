@@ -24,10 +24,16 @@ constant_in r = by r.mode r.value
     by mode value = None
 
 -- the tests of R8, U9, L2 and L3 on what an operation gives, by how it fits
-abbrev pub overflow_test unkept_test wide_test long_test : Quest HeaderData Fit → RuleTest HeaderData
+abbrev pub overflow_test : Quest HeaderData Fit → RuleTest HeaderData
 overflow_test fit = at_whole constant_overflow (then_ask fit (λ f. Done (not_overflows f)))
+
+abbrev pub unkept_test : Quest HeaderData Fit → RuleTest HeaderData
 unkept_test fit = at_whole unkept_float (then_ask fit (λ f. Done (not_unkept f)))
+
+abbrev pub wide_test : Quest HeaderData Fit → RuleTest HeaderData
 wide_test fit = at_whole wide_integer (then_ask fit (λ f. Done (not_wide f)))
+
+abbrev pub long_test : Quest HeaderData Fit → RuleTest HeaderData
 long_test fit = at_whole long_text (then_ask fit (λ f. Done (not_long f)))
 
 -- all of them; a constant of another kind than its type has been excluded by the rules before

@@ -111,9 +111,12 @@ given_fit x s t = Fits
 
 -- a rule on both, by how each fits
 abbrev pub given : Rule → (Fit → Bool) → RecData → RecData → RuleTest HeaderData
-given rule holds x y = record { rule = rule; spots =
-    record { spot = Part 0; holds = by_sorts x y (λ s t. holds (given_fit x s t)) }
-    ∷ (record { spot = Part 1; holds = by_sorts x y (λ s t. holds (given_fit y t s)) } ∷ []) }
+given rule holds x y = record {
+  rule = rule;
+  spots =
+      record { spot = Part 0; holds = by_sorts x y (λ s t. holds (given_fit x s t)) }
+      ∷ (record { spot = Part 1; holds = by_sorts x y (λ s t. holds (given_fit y t s)) } ∷ []);
+}
 
 -- R8 and U9, "at the constant"
 abbrev pub not_overflowing : RecData → RecData → RuleTest HeaderData

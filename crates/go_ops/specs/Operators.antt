@@ -43,17 +43,23 @@ is_built r s = not (is_value r && (is_interface s || (is_untyped s && not (is_co
 
 -- WHAT AN OPERATOR IS DEFINED ON
 
-abbrev pub is_numeric is_integer is_text is_boolean : Sort → Bool
+abbrev pub is_numeric : Sort → Bool
 is_numeric (S.Untyped k) = is_number k
 is_numeric (S.Int t) = true
 is_numeric (S.Float f) = true
 is_numeric s = false
+
+abbrev pub is_integer : Sort → Bool
 is_integer (S.Untyped k) = is_number k
 is_integer (S.Int t) = true
 is_integer s = false
+
+abbrev pub is_text : Sort → Bool
 is_text (S.Untyped K.Text) = true
 is_text S.Text = true
 is_text s = false
+
+abbrev pub is_boolean : Sort → Bool
 is_boolean (S.Untyped K.Bool) = true
 is_boolean S.Bool = true
 is_boolean s = false

@@ -84,13 +84,7 @@ fn of_values(
 }
 
 // By an operator on numbers and strings.
-fn arithmetic(
-    alloc: Global,
-    op: IntOp,
-    a: &Value,
-    b: &Value,
-    sort: Sort,
-) -> Result<Given, NoMemory>
+fn arithmetic(alloc: Global, op: IntOp, a: &Value, b: &Value, sort: Sort) -> Result<Given, NoMemory>
     requires kind { are_of a.now b.now sort ≡ true }
     requires divisor { not (has_no_quotient (operations.Arithmetic op) (Some b.now)) ≡ true }
     ensures { IfOk result (λ given. IsGiven given (fit_found (spec.of_values (operations.Arithmetic op) sort a.now b.now) sort)
@@ -176,13 +170,7 @@ fn of_integers(op: IntOp, a: i128, b: i128, sort: Sort) -> Given
 }
 
 // Of strings.
-fn of_texts(
-    alloc: Global,
-    op: IntOp,
-    a: &Bytes,
-    b: &Bytes,
-    sort: Sort,
-) -> Result<Given, NoMemory>
+fn of_texts(alloc: Global, op: IntOp, a: &Bytes, b: &Bytes, sort: Sort) -> Result<Given, NoMemory>
     requires { is_text sort ≡ true }
     ensures { IfOk result (λ given. IsGiven given
         (fit_found (spec.of_values (operations.Arithmetic op) sort (values.Text a.now) (values.Text b.now)) sort)

@@ -19,9 +19,7 @@ use crate::fit::{not_overflows, not_unkept};
 use crate::matching::{common_sort, given_fit, matches};
 use crate::modes::{is_constant, is_value};
 use crate::operands::refused_two;
-use crate::rules::{
-    CONSTANT_OVERFLOW, INCOMPARABLE_OPERANDS, MISMATCHED_OPERANDS, UNKEPT_FLOAT,
-};
+use crate::rules::{CONSTANT_OVERFLOW, INCOMPARABLE_OPERANDS, MISMATCHED_OPERANDS, UNKEPT_FLOAT};
 use crate::sort::Sort;
 use crate::sort_tests::{is_boolean, is_numeric, is_text};
 use crate::sorts::{AskedSorts, sorts_of};
@@ -259,7 +257,11 @@ fn compared_values(op: CmpOp, a: &Value, b: &Value) -> Option<Value>
     match (a, b) {
         (Value::Bool(p), Value::Bool(q)) => Some(Value::Bool(truths_compared(op, *p, *q))),
         (Value::Int(a), Value::Int(b)) => Some(Value::Bool(int_compare(op, *a, *b))),
-        (Value::Text(a), Value::Text(b)) => Some(Value::Bool(text_compare(op, a.as_slice(), b.as_slice()))),
+        (Value::Text(a), Value::Text(b)) => Some(Value::Bool(text_compare(
+            op,
+            a.as_slice(),
+            b.as_slice(),
+        ))),
         (Value::Bool(_), Value::Int(_)) => None,
         (Value::Bool(_), Value::Text(_)) => None,
         (Value::Int(_), Value::Bool(_)) => None,

@@ -114,13 +114,21 @@ fn fit_of_integer_untyped(v: i128, kind: NumKind) -> Fit
 fn fit_in(v: i128, t: IntType) -> Fit
     ensures { result ≡ spec.fit_of_integer v (sorts.Int t) }
 {
-    if fits(v, t) { Fit::Fits } else { Fit::Overflows }
+    if fits(v, t) {
+        Fit::Fits
+    } else {
+        Fit::Overflows
+    }
 }
 
 fn fit_kept(v: i128, f: FloatType) -> Fit
     ensures { result ≡ spec.fit_of_integer v (sorts.Float f) }
 {
-    if is_kept(v, f) { Fit::Fits } else { Fit::Unkept }
+    if is_kept(v, f) {
+        Fit::Fits
+    } else {
+        Fit::Unkept
+    }
 }
 
 // Whether a float type has the number without rounding, together with all smaller ones.
@@ -169,5 +177,9 @@ fn fit_of_text_untyped(length: usize, kind: NumKind) -> Fit
 fn fit_long(length: usize) -> Fit
     ensures { result ≡ spec.fit_of_text length sorts.Text }
 {
-    if length <= MOST_TEXT { Fit::Fits } else { Fit::Long }
+    if length <= MOST_TEXT {
+        Fit::Fits
+    } else {
+        Fit::Long
+    }
 }

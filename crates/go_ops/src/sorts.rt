@@ -99,11 +99,7 @@ pub(crate) fn sort_in<F: Forms>(
 }
 
 // The sort of a type, and Other where there is none.
-fn sort_by<F: Forms>(
-    alloc: Global,
-    judge: &mut F,
-    ty: &Option<Ty>,
-) -> Result<AskedSort, NoMemory>
+fn sort_by<F: Forms>(alloc: Global, judge: &mut F, ty: &Option<Ty>) -> Result<AskedSort, NoMemory>
     requires { IfSome ty.now (F.is_type judge.old) }
     ensures sort { IfOk result (λ sort. sort_as sort
         ≡ run (F.headers judge.old) (spec.sort_by (option_map (F.tree judge.old) ty.now))) }
@@ -119,11 +115,7 @@ fn sort_by<F: Forms>(
 }
 
 /// The sort of a type, by its underlying type. An error is want of memory.
-pub(crate) fn sort_of<F: Forms>(
-    alloc: Global,
-    judge: &mut F,
-    t: &Ty,
-) -> Result<AskedSort, NoMemory>
+pub(crate) fn sort_of<F: Forms>(alloc: Global, judge: &mut F, t: &Ty) -> Result<AskedSort, NoMemory>
     requires { F.is_type judge.old t.now }
     ensures sort { IfOk result (λ sort. sort_as sort
         ≡ run (F.headers judge.old) (spec.sort_of (F.tree judge.old t.now))) }
@@ -137,11 +129,7 @@ pub(crate) fn sort_of<F: Forms>(
 }
 
 // By the underlying type; where there is none no operator is defined.
-fn sort_of_form<F: Forms>(
-    alloc: Global,
-    judge: &mut F,
-    form: &Form,
-) -> Result<AskedSort, NoMemory>
+fn sort_of_form<F: Forms>(alloc: Global, judge: &mut F, form: &Form) -> Result<AskedSort, NoMemory>
     requires { IsOwnForm (F.is_type judge.old) form.now }
     ensures sort { IfOk result (λ sort. sort_as sort ≡ sort_asked (form_as (F.tree judge.old) form.now)) }
     ensures keeps { Keeps (F.headers judge.old) (F.headers judge.new) (F.names judge.old) (F.names judge.new)
