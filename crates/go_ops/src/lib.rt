@@ -35,12 +35,19 @@ mod constants;
 mod limits;
 
 // The operators.
+mod binary_expr;
 mod channels;
 mod pointers;
 mod shift;
 mod sign;
 mod source;
+mod unary_expr;
 
+// Tests.
+#[cfg(test)]
+mod operator_tests;
+
+pub use binary_expr::{binary, binary_op};
 pub use fit::Fit;
 pub use operator::{BinaryOp, Operation, Sign, UnaryOp};
 pub use representable::{Represents, representable};
@@ -50,3 +57,4 @@ pub use rules::{
     UNDEFINED_UNARY, UNKEPT_FLOAT,
 };
 pub use sort::{FloatType, Sort};
+pub use unary_expr::{unary, unary_op};
