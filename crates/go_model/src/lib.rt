@@ -14,7 +14,7 @@ mod laws;
 
 // What is known of declarations and expressions.
 mod ask;
-mod broken;
+mod broken_node;
 mod expr_walk;
 mod form;
 mod header;
@@ -39,7 +39,7 @@ mod headers_tests;
 mod law_tests;
 
 pub use ask::Ask;
-pub use broken::{broken, broken_at};
+pub use broken_node::{broken, broken_at};
 pub use declared_object::DeclaredObject;
 pub use expr_walk::ExprWalk;
 pub use form::{Form, Reached};

@@ -25,4 +25,6 @@ pub use value::{NumKind, Value};
 pub use value_texts::{put_quoted, value_text};
 
 #[cfg(test)]
+mod int_tests;
+#[cfg(test)]
 mod tests;

@@ -1,53 +1,7 @@
-// Sums near both ends of the range, strings near the limit of their length, and runes at each width
-// of UTF-8, worked by hand.
-use crate::{IntOp, NumFault, TextFault, int_binary, join, rune_text};
+// Strings near the limit of their length, runes at each width of UTF-8, and the texts of values, worked by hand.
+use crate::{TextFault, Value, join, rune_text, value_text};
+use go_base::Bytes;
 use std::test::Fail;
-
-#[test]
-fn sums(rt: HostRuntime) {
-    let rows: [(i128, i128, Result<i128, NumFault>); 9] = [
-        (2, 2, Ok(4)),
-        (-7, 3, Ok(-4)),
-        (
-            170141183460469231731687303715884105726,
-            1,
-            Ok(170141183460469231731687303715884105727),
-        ),
-        (
-            170141183460469231731687303715884105727,
-            0,
-            Ok(170141183460469231731687303715884105727),
-        ),
-        (
-            170141183460469231731687303715884105727,
-            1,
-            Err(NumFault::Wide),
-        ),
-        (
-            -170141183460469231731687303715884105727,
-            -1,
-            Ok(-170141183460469231731687303715884105728),
-        ),
-        (
-            -170141183460469231731687303715884105728,
-            -1,
-            Err(NumFault::Wide),
-        ),
-        (
-            -170141183460469231731687303715884105728,
-            170141183460469231731687303715884105727,
-            Ok(-1),
-        ),
-        (
-            -170141183460469231731687303715884105728,
-            -170141183460469231731687303715884105728,
-            Err(NumFault::Wide),
-        ),
-    ];
-    for (a, b, sum) in rows {
-        assert_eq!(rt; int_binary(IntOp::Add, a, b), sum, "{a} + {b}");
-    }
-}
 
 #[test]
 fn joined_strings(rt: HostRuntime) -> Result<(), Fail> {
@@ -118,6 +72,58 @@ fn runes(rt: HostRuntime) -> Result<(), Fail> {
     for (code, bytes) in rows {
         let text = rune_text(rt.alloc(), code)?;
         assert_eq!(rt; text.as_slice(), bytes, "{code}");
+    }
+    Ok(())
+}
+
+#[test]
+fn texts_of_truth_and_numbers(rt: HostRuntime) -> Result<(), Fail> {
+    let rows: [(Value, &str); 7] = [
+        (Value::Bool(true), "true"),
+        (Value::Bool(false), "false"),
+        (Value::Int(0), "0"),
+        (Value::Int(-7), "-7"),
+        (Value::Int(65), "65"),
+        (
+            Value::Int(i128::MAX),
+            "170141183460469231731687303715884105727",
+        ),
+        (
+            Value::Int(i128::MIN),
+            "-170141183460469231731687303715884105728",
+        ),
+    ];
+    for (value, text) in &rows {
+        let read = value_text(rt.alloc(), value)?;
+        assert_eq!(rt; read.as_slice(), text.as_bytes(), "{value:?}");
+    }
+    Ok(())
+}
+
+#[test]
+fn texts_of_strings(rt: HostRuntime) -> Result<(), Fail> {
+    let rows: [(&[u8], &str); 7] = [
+        (b"", r#""""#),
+        (b"a b~", r#""a b~""#),
+        (b"\"\\", r#""\"\\""#),
+        (b"\x00\n\x1F\x7F\xC3\xBF", r#""\x00\x0a\x1f\x7f\xc3\xbf""#),
+        (
+            b"0123456789012345678901234567890123456789012345678901234567890123",
+            r#""0123456789012345678901234567890123456789012345678901234567890123""#,
+        ),
+        (
+            b"0123456789012345678901234567890123456789012345678901234567890123x",
+            r#""0123456789012345678901234567890123456789012345678901234567890123"+1"#,
+        ),
+        (
+            b"0123456789012345678901234567890123456789012345678901234567890123abcdefghijkl",
+            r#""0123456789012345678901234567890123456789012345678901234567890123"+12"#,
+        ),
+    ];
+    for (bytes, text) in rows {
+        let value = Value::Text(Bytes::new(bytes.to_vec(rt.alloc())?));
+        let read = value_text(rt.alloc(), &value)?;
+        assert_eq!(rt; read.as_slice(), text.as_bytes(), "{text}");
     }
     Ok(())
 }
