@@ -4,8 +4,8 @@ use Rattle.std.specs.Prelude.{Option}
 use Rattle.go_term.specs.Types.{TypeData}
 use Rattle.go_model.specs.Values.Quests.{Asked, Decided, Lacks}
 use Rattle.go_ops.specs.Sorts.{sort_found}
-use Rattle.go_ops.specs.declared.representable.Represents.{Represents}
-use Rattle.go_ops.specs.declared.representable.Represents.TheVariants as R
+use Rattle.go_ops.specs.declared.representability.Represents.{Represents}
+use Rattle.go_ops.specs.declared.representability.Represents.TheVariants as R
 use Rattle.go_ops.specs.declared.fit.Fit.{Fit}
 use Rattle.go_ops.specs.declared.sort.Sort.{Sort}
 use Rattle.go_ops.specs.declared.sorts.AskedSort.{AskedSort}

@@ -27,7 +27,7 @@ mod definedness;
 mod matched;
 mod matching;
 mod operation;
-mod representable;
+mod representability;
 mod types;
 
 // What operations give.
@@ -50,7 +50,7 @@ mod operator_tests;
 pub use binary_expr::{binary, binary_op};
 pub use fit::Fit;
 pub use operator::{BinaryOp, Operation, Sign, UnaryOp};
-pub use representable::{Represents, representable};
+pub use representability::{Represents, representable};
 pub use rules::{
     CONSTANT_OVERFLOW, DIVISION_BY_ZERO, INCOMPARABLE_OPERANDS, INVALID_SHIFT, LONG_TEXT,
     MISMATCHED_OPERANDS, NO_ADDRESS, NO_POINTER, NO_RECEIVE, SEVERAL_VALUES, UNDEFINED_BINARY,

@@ -13,7 +13,7 @@ ghost use Rattle.go_ops.specs.declared.sort.Sort.TheVariants as sorts;
 
 use crate::constants::record_of;
 use crate::fit::Fit;
-use crate::representable::fit_of;
+use crate::representability::fit_of;
 use crate::rules::{CONSTANT_OVERFLOW, LONG_TEXT, UNKEPT_FLOAT};
 use crate::sort::Sort;
 use go_base::NoMemory;

@@ -12,7 +12,7 @@ ghost use Rattle.go_ops.specs.Matching as spec;
 ghost use Rattle.go_ops.specs.MatchingParts.{answer_of, kind_of};
 
 use crate::fit::Fit;
-use crate::representable::fit_of;
+use crate::representability::fit_of;
 use crate::sort::Sort;
 use crate::sort_tests::is_number;
 use go_base::NoMemory;
