@@ -8,17 +8,17 @@ use Rattle.go_model.specs.Outcomes.Operands.{at_whole}
 use Rattle.go_model.specs.Values.Quests.{Asked, Decided, Lacks, Quest, run, then_ask}
 use Rattle.go_model.proofs.QuestLemmas.{run-then, run-then-Lacks}
 
-module _ {H R : Type 0} (headers : ℕ → Option H) where
-  -- a test that holds
-  abbrev pub Holds : RuleTest H → Type 0
-  Holds t = end_on headers t ≡ Yes
+-- a test that holds
+abbrev pub Holds : {H : Type 0} → (ℕ → Option H) → RuleTest H → Type 0
+Holds headers t = end_on headers t ≡ Yes
 
+module _ {H R : Type 0} (headers : ℕ → Option H) where
   one-holds : (rule : Rule) (end : RuleEnd) (later : OutcomeData R) (r : R) → ruled rule end later ≡ Found r → (end ≡ Yes) × (later ≡ Found r)
   one-holds rule (No spots) later r is = absurd (let never : Broken rule spots ≡ Found r = is in cc)
   one-holds rule (Lacking d) later r is = absurd (let never : Waits d ≡ Found r = is in cc)
   one-holds rule Yes later r is = (refl, is)
 
-  pub all-hold : (ts : List (RuleTest H)) (gives : Quest H R) (r : R) → tested headers ts gives ≡ Found r → AllByRecursion Holds ts
+  pub all-hold : (ts : List (RuleTest H)) (gives : Quest H R) (r : R) → tested headers ts gives ≡ Found r → AllByRecursion (Holds headers) ts
   all-hold [] gives r is = tt
   all-hold (t ∷ ts) gives r is =
       let here = one-holds t.rule (end_on headers t) (tested headers ts gives) r is in

@@ -117,11 +117,11 @@ module _ (headers : Headers) where
   -- LIMITS
 
   holding : (rule : Rule) (holds : Fit → Bool) (q : Quest HeaderData Fit) (f : Fit) → run headers q ≡ Decided f → end_on headers (at_whole rule (then_ask q (λ f. Done (holds f)))) ≡ Yes → holds f ≡ true
-  holding rule holds q f is yes =
-      let same : Decided (holds f) ≡ Decided true = sym (run-then headers q (λ f. Done (holds f)) f is) ∙ whole-holds headers rule (then_ask q (λ f. Done (holds f))) yes in cc
+  holding rule holds q f is end =
+      let same : Decided (holds f) ≡ Decided true = sym (run-then headers q (λ f. Done (holds f)) f is) ∙ whole-holds headers rule (then_ask q (λ f. Done (holds f))) end in cc
 
   excluded : (holds : Fit → Bool) (f g : Fit) → holds f ≡ true → holds g ≡ false → f ≡ g → ⊥
-  excluded holds f g yes no same = true≢false (sym yes ∙ ap holds same ∙ no)
+  excluded holds f g one other same = true≢false (sym one ∙ ap holds same ∙ other)
 
   pub limits_fit : (q : Quest HeaderData Fit) (f : Fit) → run headers q ≡ Decided f → end_on headers (overflow_test q) ≡ Yes → end_on headers (unkept_test q) ≡ Yes → end_on headers (wide_test q) ≡ Yes → end_on headers (long_test q) ≡ Yes
       → (f ≡ Differs → ⊥) → f ≡ Fits

@@ -1,5 +1,5 @@
 // Receive operations (Go specification, "Receive operator").
-ghost use Rattle.std.specs.Prelude.{◌≡◌, Some, IfOk, IfSome};
+ghost use Rattle.std.specs.Prelude.{◌≡◌, Some, IfOk, IfSome, if◌then◌else◌};
 ghost use Rattle.std.specs.Option.{option_map};
 ghost use Rattle.go_term.specs.Shapes.{shape_tree};
 ghost use Rattle.go_model.specs.Outcomes.Judged.{asked};
@@ -38,7 +38,7 @@ pub(crate) fn receive<J: Judge>(alloc: Global, judge: &mut J, a: &Rec) -> Result
 pub(crate) fn received_from<J: Judge>(judge: &J, shape: Shape) -> Option<Ty>
     requires { AreOwn (J.is_type judge.now) shape }
     ensures received { option_map (J.tree judge.now) result
-        ≡ spec.received_from (Some (shape_tree (J.tree judge.now) shape.entry)) }
+        ≡ spec.received_from (Some (shape_tree (J.tree judge.now) shape)) }
     ensures own { IfSome result (J.is_type judge.now) }
 {
     match shape {

@@ -157,7 +157,7 @@ fn indirected<J: Judge>(alloc: Global, judge: &mut J, a: &Rec) -> Result<Outcome
 pub(crate) fn base_of<J: Judge>(judge: &J, shape: Shape) -> Option<Ty>
     requires { AreOwn (J.is_type judge.now) shape }
     ensures base { option_map (J.tree judge.now) result
-        ≡ spec.base_of (Some (shape_tree (J.tree judge.now) shape.entry)) }
+        ≡ spec.base_of (Some (shape_tree (J.tree judge.now) shape)) }
     ensures own { IfSome result (J.is_type judge.now) }
 {
     match shape {

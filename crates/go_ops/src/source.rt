@@ -125,7 +125,7 @@ fn read_literal<J: Judge>(
 fn read_of<J: Judge>(judge: &J, source: Source, shape: Shape) -> Option<Ty>
     requires { AreOwn (J.is_type judge.now) shape }
     ensures read { option_map (J.tree judge.now) result
-        ≡ spec.read_of source (Some (shape_tree (J.tree judge.now) shape.entry)) }
+        ≡ spec.read_of source (Some (shape_tree (J.tree judge.now) shape)) }
     ensures own { IfSome result (J.is_type judge.now) }
 {
     match source {
