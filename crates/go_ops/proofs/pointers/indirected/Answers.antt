@@ -14,7 +14,7 @@ pub returns-in-Some-clause-outcome : goal.returns-in-Some-clause-outcome
 returns-in-Some-clause-outcome g c =
     let headers = g.J.Ask.headers c.args.judge.now in
     let x = rec_as (g.J.Ask.tree c.args.judge.now) c.args.a.now in
-    let refused = ap (refusal_as (g.J.Ask.tree c.refused_one.new.judge)) (sym c.in-Some.is) ∙ c.in_ok-refused_one.ensures.refused in
+    let refused = ap (refusal_as (g.J.Ask.tree c.refused_one.new.judge)) (sym c.in-Some.is) ∙ c.in_ok-refused.ensures.refused in
     one-stops headers (read_asks Pointer x) (outcome_as (g.J.Ask.tree c.refused_one.new.judge) c.in-Some.refused) x refused
 
 pub returns-in-None-clause-outcome : goal.returns-in-None-clause-outcome
@@ -22,7 +22,7 @@ returns-in-None-clause-outcome g c =
     let headers = g.J.Ask.headers c.args.judge.now in
     let tree = g.J.Ask.tree c.args.judge.now in
     let x = rec_as tree c.args.a.now in
-    let before = c.in_ok-refused_one.ensures in
+    let before = c.in_ok-refused.ensures in
     let none = ap (refusal_as (g.J.Ask.tree c.refused_one.new.judge)) (sym c.in-None.is) ∙ before.refused in
     let rec = rec_agrees (g.J.Ask.is_type c.args.judge.now) tree (g.J.Ask.tree c.refused_one.new.judge) before.keeps.kept.trees c.args.a.now c.requires in
     IfOk-weaker c.read.result _ _
