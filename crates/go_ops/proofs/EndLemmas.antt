@@ -1,11 +1,11 @@
 -- How a node ends by the first of its tests: what is asked at the node as a whole, at one operand, and at two.
-use Rattle.std.proofs.Common.{◌≡◌, ℕ, Bool, true, false, Option, Some, None, List, [], ◌∷◌, ◌++◌, refl, sym, ap, ◌∙◌}
+use Rattle.std.proofs.Common.{◌≡◌, ℕ, Bool, true, false, Option, None, List, [], ◌∷◌, ◌++◌, refl, sym, ap, ◌∙◌}
 use Rattle.go_base.specs.declared.rule.Rule.{Rule}
 use Rattle.go_model.specs.declared.outcome.Spot.{Spot}
 use Rattle.go_model.specs.declared.outcome.Spot.TheVariants.{Part, Whole}
 use Rattle.go_model.specs.Outcomes.Constructs.Kinds.{no_value}
 use Rattle.go_model.specs.Outcomes.Judged.{OutcomeData, Broken, RuleTest, Waits, lack_or, rule_end, ruled, spot_if_no, tested}
-use Rattle.go_model.specs.Outcomes.Operands.{are_values, at_each, at_whole, is_value}
+use Rattle.go_model.specs.Outcomes.Operands.{are_values, at_whole, is_value}
 use Rattle.go_model.specs.Outcomes.Records.{HeaderData, RecData}
 use Rattle.go_model.specs.Outcomes.Walk.{Headers}
 use Rattle.go_model.specs.Values.Quests.{Asked, Decided, Done, Lacks, Quest, run}

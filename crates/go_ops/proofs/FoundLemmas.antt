@@ -1,5 +1,5 @@
 -- What follows where a node has a record: each of its tests holds, and the record is given.
-use Rattle.std.proofs.Common.{◌≡◌, ℕ, Bool, true, false, Option, Some, None, List, [], ◌∷◌, ◌++◌, refl, sym, ◌∙◌}
+use Rattle.std.proofs.Common.{◌≡◌, ℕ, Bool, true, false, Option, None, List, [], ◌∷◌, ◌++◌, refl, sym, ◌∙◌}
 use Rattle.std.specs.List.{AllByRecursion}
 use Rattle.go_base.specs.declared.rule.Rule.{Rule}
 use Rattle.go_model.specs.declared.outcome.Spot.TheVariants.{Whole}

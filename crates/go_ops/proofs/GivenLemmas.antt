@@ -1,52 +1,37 @@
 -- Records that operators give, and when they are honest: what follows of the sorts of operands and of the tests on limits.
-use Rattle.std.proofs.Common.{◌≡◌, ℤ, ℕ, suc, ◌+◌, ◌^◌, Bool, true, false, true≢false, Option, Some, None, List, [], ◌∷◌, refl, sym, ap, ◌∙◌, subst}
-use Rattle.std.specs.Prelude.{if◌then◌else◌, is_some, unwrap_or}
+use Rattle.std.proofs.Common.{◌≡◌, ℤ, ℕ, suc, ◌^◌, Bool, true, false, true≢false, Option, Some, None, [], refl, sym, ap, ◌∙◌}
+use Rattle.std.specs.Prelude.{unwrap_or}
 use Rattle.go_base.specs.declared.ids.ObjId.{ObjId}
 use Rattle.go_base.specs.declared.rule.Rule.{Rule}
-use Rattle.go_num.specs.declared.comparisons.CmpOp.{CmpOp}
 use Rattle.go_num.specs.declared.value.NumKind.{NumKind}
 use Rattle.go_num.specs.declared.value.NumKind.TheVariants as K
 use Rattle.go_num.specs.declared.value.Value.{Value}
-use Rattle.go_num.specs.declared.value.Value.TheVariants as V
 use Rattle.go_term.specs.Types.{TypeData, basic_type, list, of_list}
-use Rattle.go_term.specs.declared.basic.Basic.TheVariants.{UntypedBool}
 use Rattle.go_model.specs.declared.rec.Mode.{Mode}
 use Rattle.go_model.specs.declared.rec.Mode.TheVariants as M
-use Rattle.go_model.specs.Outcomes.Constructs.Limits.{makes, wide_integer}
-use Rattle.go_model.specs.Outcomes.Judged.{Asks, Found, OutcomeData, Yes, asked, end_on}
-use Rattle.go_model.specs.Outcomes.Operands.{at_whole, is_constant_mode, is_type, type_or_none}
+use Rattle.go_model.specs.Outcomes.Constructs.Limits.{wide_integer}
+use Rattle.go_model.specs.Outcomes.Judged.{Yes, end_on}
+use Rattle.go_model.specs.Outcomes.Operands.{at_whole, is_constant_mode, type_or_none}
 use Rattle.go_model.specs.Outcomes.Records.{HeaderData, RecData}
 use Rattle.go_model.specs.Outcomes.Walk.{Headers}
 use Rattle.go_model.specs.Types.Forms.{found_in}
 use Rattle.go_model.specs.Types.UnderlyingType.{most_steps, under_from}
-use Rattle.go_model.specs.Values.Quests.{Asked, Decided, Done, Quest, run, then_ask}
+use Rattle.go_model.specs.Values.Quests.{Decided, Done, Quest, run, then_ask}
 use Rattle.go_model.proofs.QuestLemmas.{run-then}
-use Rattle.go_ops.specs.Binary.{binary}
-use Rattle.go_ops.specs.Channels.{receive, received_from}
-use Rattle.go_ops.specs.Comparisons.{compared_values, comparison}
 use Rattle.go_ops.specs.Constants.{constant_in, constant_record, long_test, overflow_test, record_of, unkept_test, value_record, wide_test}
-use Rattle.go_ops.specs.Honest.{GivesHonest, IsHonest}
-use Rattle.go_ops.specs.Matching.{common_sort, common_type, later, untyped_basic}
-use Rattle.go_ops.specs.Operators.{fit, fit_found, fit_of_both, given_values, of_values, operation, value_of}
-use Rattle.go_ops.specs.Pointers.{address, base_of, indirected, indirection, pointer_to, under_operand}
+use Rattle.go_ops.specs.Honest.{IsHonest}
+use Rattle.go_ops.specs.Matching.{untyped_basic}
+use Rattle.go_ops.specs.Operators.{fit_found, given_values}
 use Rattle.go_ops.specs.Representable.{fit_of, not_long, not_overflows, not_unkept, not_wide, representable}
 use Rattle.go_ops.specs.Rules.{constant_overflow, long_text, unkept_float}
-use Rattle.go_ops.specs.Shifts.{shift, shift_fit, shifted_value, span_of}
 use Rattle.go_ops.specs.Sorts.{sort_by, sort_found, sort_in, sort_of, sorts_of}
-use Rattle.go_ops.specs.Unary.{of_value, sign, sign_fit, signed_value, unary}
+use Rattle.go_ops.specs.Unary.{of_value}
 use Rattle.go_ops.specs.declared.fit.Fit.{Fit}
 use Rattle.go_ops.specs.declared.fit.Fit.TheVariants.{Differs, Fits, Long, Overflows, Unkept, Wide}
-use Rattle.go_ops.specs.declared.operator.BinaryOp.{BinaryOp}
-use Rattle.go_ops.specs.declared.operator.BinaryOp.TheVariants.{Compares, Operates, Shifts}
-use Rattle.go_ops.specs.declared.operator.Operation.{Operation}
-use Rattle.go_ops.specs.declared.operator.Sign.{Sign}
-use Rattle.go_ops.specs.declared.operator.UnaryOp.{UnaryOp}
-use Rattle.go_ops.specs.declared.operator.UnaryOp.TheVariants.{Address, Indirects, Receives, Signs}
 use Rattle.go_ops.specs.declared.sort.Sort.{Sort}
 use Rattle.go_ops.specs.declared.sort.Sort.TheVariants as S
-use Rattle.go_ops.proofs.FoundLemmas.{all-hold, behind, gives-record, whole-holds}
-use Rattle.go_ops.proofs.KindLemmas.{Alike, all-fits, compared-truth, fits-alike, fits-later, shifted-alike, signed-alike, values-alike}
-use Rattle.go_ops.proofs.SortLemmas.{constant-fits}
+use Rattle.go_ops.proofs.FoundLemmas.{behind, whole-holds}
+use Rattle.go_ops.proofs.KindLemmas.{all-fits}
 
 -- a step at least
 record Above : Type 0 where

@@ -1,6 +1,6 @@
 -- What operators give is honest where their operands are.
-use Rattle.std.proofs.Common.{◌≡◌, Bool, true, false, Option, Some, None, List, [], ◌∷◌, refl, sym, ap, ◌∙◌, subst}
-use Rattle.std.specs.Prelude.{if◌then◌else◌, is_some, unwrap_or}
+use Rattle.std.proofs.Common.{◌≡◌, Bool, true, false, Option, Some, None, [], refl, sym, ap, subst}
+use Rattle.std.specs.Prelude.{if◌then◌else◌, unwrap_or}
 use Rattle.go_num.specs.declared.comparisons.CmpOp.{CmpOp}
 use Rattle.go_num.specs.declared.value.NumKind.TheVariants as K
 use Rattle.go_num.specs.declared.value.Value.{Value}
@@ -10,9 +10,9 @@ use Rattle.go_term.specs.declared.basic.Basic.TheVariants.{UntypedBool}
 use Rattle.go_model.specs.declared.rec.Mode.{Mode}
 use Rattle.go_model.specs.declared.rec.Mode.TheVariants as M
 use Rattle.go_model.specs.Outcomes.Constructs.Limits.{makes}
-use Rattle.go_model.specs.Outcomes.Judged.{Asks, Found, asked}
+use Rattle.go_model.specs.Outcomes.Judged.{asked}
 use Rattle.go_model.specs.Outcomes.Operands.{is_constant_mode, is_type, type_or_none}
-use Rattle.go_model.specs.Outcomes.Records.{HeaderData, RecData}
+use Rattle.go_model.specs.Outcomes.Records.{RecData}
 use Rattle.go_model.specs.Outcomes.Walk.{Headers}
 use Rattle.go_model.specs.Types.Forms.{found_in}
 use Rattle.go_model.specs.Types.UnderlyingType.{under}

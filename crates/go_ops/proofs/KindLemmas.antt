@@ -1,5 +1,5 @@
 -- Values of one kind, and the kinds of the values that operations give.
-use Rattle.std.proofs.Common.{◌≡◌, ℤ, Bool, true, false, Option, Some, None, ◌++◌, refl, sym, ◌∙◌, subst}
+use Rattle.std.proofs.Common.{◌≡◌, ℤ, Bool, true, false, Some, None, ◌++◌, refl, sym, ◌∙◌, subst}
 use Rattle.std.specs.Prelude.{◌&&◌, ◌||◌, if◌then◌else◌, int_div, int_rem, is_some, length, nat_le, not}
 use Rattle.go_num.specs.Arithmetic.{is_zero, limited, unary_value}
 use Rattle.go_num.specs.Comparisons.{ints_compared, texts_compared}

@@ -1,5 +1,5 @@
 -- What is asked of a node behind R1 and R2 of its operands, and what they are refused by.
-use Rattle.std.proofs.Common.{◌≡◌, Option, Some, None, List, [], ◌∷◌, sym, ap, ◌∙◌}
+use Rattle.std.proofs.Common.{◌≡◌, Some, None, [], ◌∷◌, ap, ◌∙◌}
 use Rattle.go_model.specs.Outcomes.Judged.{Asks, OutcomeData, asked}
 use Rattle.go_model.specs.Outcomes.Operands.{are_values}
 use Rattle.go_model.specs.Outcomes.Records.{HeaderData, RecData}

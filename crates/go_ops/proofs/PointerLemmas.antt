@@ -1,5 +1,5 @@
 -- Addresses and pointer types as the code finds them are what is asked.
-use Rattle.std.proofs.Common.{◌≡◌, Bool, Option, Some, None, List, [], ◌∷◌, refl, sym, ap, ◌∙◌}
+use Rattle.std.proofs.Common.{◌≡◌, Bool, Option, Some, None, [], ◌∷◌, refl, sym, ap, ◌∙◌}
 use Rattle.std.specs.Prelude.{◌&&◌, ◌||◌, if◌then◌else◌, is_some, unwrap_or}
 use Rattle.std.specs.Option.{option_map}
 use Rattle.go_term.specs.Types as types
@@ -10,15 +10,14 @@ use Rattle.go_model.specs.declared.rec.Mode.{Mode}
 use Rattle.go_model.specs.declared.rec.Mode.TheVariants as M
 use Rattle.go_model.specs.declared.rec.Rec.{Rec}
 use Rattle.go_model.specs.Outcomes.Constructs.Limits.{makes, within_limits}
-use Rattle.go_model.specs.Outcomes.Judged.{Asks, Broken, OutcomeData, asked, tested}
-use Rattle.go_model.specs.Outcomes.Operands.{at_whole, type_or_none}
-use Rattle.go_model.specs.Outcomes.Records.{HeaderData, RecData, rec_as, type_by, type_in, type_record}
+use Rattle.go_model.specs.Outcomes.Judged.{Broken, OutcomeData, asked, tested}
+use Rattle.go_model.specs.Outcomes.Operands.{at_whole}
+use Rattle.go_model.specs.Outcomes.Records.{RecData, rec_as, type_by, type_in}
 use Rattle.go_model.specs.Outcomes.Walk.{Headers}
 use Rattle.go_model.specs.Values.Quests.{Done}
 use Rattle.go_ops.specs.Constants.{value_record}
 use Rattle.go_ops.specs.PointerTypes.{address_asks, term_by, term_in, typed_address, typed_outcome}
 use Rattle.go_ops.specs.Pointers.{indirected, indirection, is_addressable, pointer_to}
-use Rattle.go_ops.specs.Refusals.{by_whole}
 use Rattle.go_ops.specs.Rules.{no_address}
 use Rattle.go_ops.proofs.EndLemmas.{whole-by}
 

@@ -1,10 +1,10 @@
 -- What is read through a pointer and from a channel is what is asked of it.
-use Rattle.std.proofs.Common.{◌≡◌, ℕ, zero, suc, Option, Some, None, List, [], ◌∷◌, refl, sym, ap, ◌∙◌}
+use Rattle.std.proofs.Common.{◌≡◌, ℕ, zero, suc, Option, Some, None, [], ◌∷◌, refl, sym, ap, ◌∙◌}
 use Rattle.std.specs.Prelude.{is_some, unwrap_or}
 use Rattle.go_term.specs.Types.{TypeData, list, made, no_parts, of_list}
 use Rattle.go_model.specs.declared.outcome.Spot.TheVariants.{Whole}
 use Rattle.go_model.specs.Outcomes.Judged as outcomes
-use Rattle.go_model.specs.Outcomes.Judged.{Broken, Found, OutcomeData, Waits, asked}
+use Rattle.go_model.specs.Outcomes.Judged.{Broken, Found, asked}
 use Rattle.go_model.specs.Outcomes.Operands.{type_or_none}
 use Rattle.go_model.specs.Outcomes.Records.{HeaderData, RecData}
 use Rattle.go_model.specs.Outcomes.Walk.{Headers}

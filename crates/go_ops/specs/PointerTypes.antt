@@ -1,5 +1,5 @@
 -- Addresses and pointer types, as the code finds them.
-use Rattle.std.specs.Prelude.{◌&&◌, ◌||◌, Bool, Option, None, List, [], ◌∷◌, is_some}
+use Rattle.std.specs.Prelude.{◌&&◌, ◌||◌, Bool, Option, None, ◌∷◌, is_some}
 use Rattle.go_term.specs.Types as types
 use Rattle.go_term.specs.Types.{TypeData}
 use Rattle.go_term.specs.declared.term.Term.{Term}

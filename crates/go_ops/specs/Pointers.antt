@@ -3,7 +3,7 @@
 -- x. The operand must be addressable .. As an exception to the addressability requirement, x may also be a (possibly
 -- parenthesized) composite literal." "For an operand x of pointer type *T, the pointer indirection *x denotes the variable of
 -- type T pointed to by x."
-use Rattle.std.specs.Prelude.{◌&&◌, ◌||◌, is_some, Bool, true, false, Option, Some, None, List, [], ◌∷◌, ◌++◌, if◌then◌else◌, unwrap_or}
+use Rattle.std.specs.Prelude.{◌&&◌, ◌||◌, is_some, Bool, true, false, Option, Some, None, [], ◌∷◌, if◌then◌else◌, unwrap_or}
 use Rattle.go_term.specs.Types as types
 use Rattle.go_term.specs.Types.{TypeData, made, more_parts, no_parts, pointer}
 use Rattle.go_model.specs.declared.rec.Mode.{Mode}

@@ -1,5 +1,5 @@
 -- What is read through a pointer and from a channel, as the code finds it. That it is what is asked: `SourceLemmas`.
-use Rattle.std.specs.Prelude.{is_some, Option, Some, None, List, [], ◌∷◌, unwrap_or}
+use Rattle.std.specs.Prelude.{is_some, Option, Some, None, [], ◌∷◌, unwrap_or}
 use Rattle.go_base.specs.declared.rule.Rule.{Rule}
 use Rattle.go_term.specs.Types.{TypeData}
 use Rattle.go_model.specs.declared.outcome.Spot.TheVariants.{Whole}
