@@ -216,7 +216,7 @@ fn is_count(rec: &Rec, sort: Sort) -> bool
 
 // Whether it is no negative constant.
 fn is_not_negative(value: Option<&Value>) -> bool
-    ensures { result ≡ spec.is_not_negative (option_map (λ v. v.now) value) }
+    ensures { result ≡ spec.is_not_negative (option_map (λ v. v.now) value.entry) }
 {
     match value {
         Some(Value::Int(number)) => *number >= 0,
@@ -228,7 +228,7 @@ fn is_not_negative(value: Option<&Value>) -> bool
 
 // Whether `uint` represents an untyped constant, or both ends of the span of an untyped value.
 fn represents_count(value: Option<&Value>, span: Option<(i128, i128)>) -> bool
-    ensures { result ≡ spec.represents_count (option_map (λ v. v.now) value) span }
+    ensures { result ≡ spec.represents_count (option_map (λ v. v.now) value.entry) span }
 {
     match value {
         Some(Value::Int(number)) => fits(*number, IntType::Uint),
@@ -253,8 +253,8 @@ fn span_fits(span: Option<(i128, i128)>) -> bool
 fn shifted(left: bool, sort: Sort, a: Option<&Value>, b: Option<&Value>) -> Given
     requires integer { operators.is_integer sort ≡ true }
     requires count { IsUint (option_map (λ v. v.now) b) }
-    ensures { IsGiven result (fit_of_both left sort (option_map (λ v. v.now) a) (option_map (λ v. v.now) b))
-        (value_of_both left (option_map (λ v. v.now) a) (option_map (λ v. v.now) b)) }
+    ensures { IsGiven result (fit_of_both left sort (option_map (λ v. v.now) a.entry) (option_map (λ v. v.now) b.entry))
+        (value_of_both left (option_map (λ v. v.now) a.entry) (option_map (λ v. v.now) b.entry)) }
 {
     match a {
         Some(a) => value_shifted(left, sort, a, b),
@@ -265,8 +265,8 @@ fn shifted(left: bool, sort: Sort, a: Option<&Value>, b: Option<&Value>) -> Give
 fn value_shifted(left: bool, sort: Sort, a: &Value, b: Option<&Value>) -> Given
     requires integer { operators.is_integer sort ≡ true }
     requires count { IsUint (option_map (λ v. v.now) b) }
-    ensures { IsGiven result (fit_of_both left sort (Some a.now) (option_map (λ v. v.now) b))
-        (value_of_both left (Some a.now) (option_map (λ v. v.now) b)) }
+    ensures { IsGiven result (fit_of_both left sort (Some a.now) (option_map (λ v. v.now) b.entry))
+        (value_of_both left (Some a.now) (option_map (λ v. v.now) b.entry)) }
 {
     match b {
         Some(b) => value_shifted_by(left, sort, a, b),
@@ -324,7 +324,7 @@ fn span_of(rec: &Rec, sort: Sort) -> Option<(i128, i128)>
 }
 
 fn span_by(value: Option<&Value>, span: Option<(i128, i128)>) -> Option<(i128, i128)>
-    ensures { result ≡ spec.span_by (option_map (λ v. v.now) value) span }
+    ensures { result ≡ spec.span_by (option_map (λ v. v.now) value.entry) span }
 {
     match value {
         Some(Value::Int(number)) => Some((*number, *number)),

@@ -152,8 +152,8 @@ fn is_number_signed_by(op: UnOp, sort: Sort) -> bool
 fn signed(op: Sign, sort: Sort, value: Option<&Value>) -> Given
     requires defined { spec.is_signed_by op sort ≡ true }
     requires fits { FitsSort (option_map (λ v. v.now) value) sort }
-    ensures { IsGiven result (fit_of_one op sort (option_map (λ v. v.now) value))
-        (value_of_one op sort (option_map (λ v. v.now) value)) }
+    ensures { IsGiven result (fit_of_one op sort (option_map (λ v. v.now) value.entry))
+        (value_of_one op sort (option_map (λ v. v.now) value.entry)) }
 {
     match value {
         Some(value) => value_signed(op, sort, value),
