@@ -11,6 +11,7 @@ use Rattle.go_model.specs.Values.Quests.{Decided, Done, run, then_ask}
 use Rattle.go_model.proofs.QuestLemmas.{run-then}
 use Rattle.go_ops.specs.Constants.{constant_in}
 use Rattle.go_ops.specs.Honest.{IsHonest}
+use Rattle.go_ops.specs.Limited.{FitsSort}
 use Rattle.go_ops.specs.Representable.{fit_of, representable}
 use Rattle.go_ops.specs.Sorts.{sort_by, sort_in, sort_of, sorts_of}
 use Rattle.go_ops.specs.declared.fit.Fit.TheVariants.{Fits}
@@ -46,6 +47,13 @@ module _ (headers : Headers) where
 
   pub constant-fits : (r : RecData) (v : Value) (s : Sort) → IsHonest headers r → run headers (sort_in r) ≡ Decided s → constant_in r ≡ Some v → fit_of v s ≡ Fits
   constant-fits r v s honest e is = by_mode r.mode r.type r.value r.object r.span v s honest e is
+
+  pub sort-fits : (r : RecData) (s : Sort) → IsHonest headers r → run headers (sort_in r) ≡ Decided s → FitsSort (constant_in r) s
+  sort-fits r s honest e = go (constant_in r) (λ v is. constant-fits r v s honest e is)
+    where
+      go : (o : Option Value) → ((v : Value) → o ≡ Some v → fit_of v s ≡ Fits) → FitsSort o s
+      go None each = tt
+      go (Some v) each = each v refl
 
   -- without a type it is that of other types
   untyped : (mode : Mode) (value : Option Value) (object : Option ObjId) (span : Option (ℤ × ℤ))

@@ -6,7 +6,7 @@ use Rattle.go_num.specs.Ranges.{fits}
 use Rattle.go_num.specs.declared.ranges.IntType.TheVariants.{Uint}
 use Rattle.go_num.specs.declared.value.Value.{Value}
 use Rattle.go_num.specs.declared.value.Value.TheVariants as V
-use Rattle.go_model.specs.Outcomes.Judged.{OutcomeData, RuleTest, Waits}
+use Rattle.go_model.specs.Outcomes.Judged.{Asks, OutcomeData, RuleTest, Waits}
 use Rattle.go_model.specs.Outcomes.Operands.{at_whole, type_or_none}
 use Rattle.go_model.specs.Outcomes.Records.{HeaderData, RecData}
 use Rattle.go_model.specs.Types.TypeIdentity.{and_ask}
@@ -28,6 +28,9 @@ shift_tests left x y = at_whole invalid_shift (and_ask (by_sort x is_integer) (b
 
 abbrev pub shift_gives : Bool → RecData → RecData → Quest HeaderData RecData
 shift_gives left x y = (shift left x y).gives
+
+abbrev pub shift_asks : Bool → RecData → RecData → Asks HeaderData RecData
+shift_asks left x y = record { tests = shift_tests left x y; gives = shift_gives left x y }
 
 -- the value that two constants give, and how it fits a left operand of this sort
 abbrev pub value_of_both : Bool → Option Value → Option Value → Option Value

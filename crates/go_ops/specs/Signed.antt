@@ -3,7 +3,7 @@
 -- tests of the operators come to the same: `SignLemmas`.
 use Rattle.std.specs.Prelude.{Option, None, List, ◌∷◌}
 use Rattle.go_num.specs.declared.value.Value.{Value}
-use Rattle.go_model.specs.Outcomes.Judged.{OutcomeData, RuleTest, Waits}
+use Rattle.go_model.specs.Outcomes.Judged.{Asks, OutcomeData, RuleTest, Waits}
 use Rattle.go_model.specs.Outcomes.Operands.{at_whole, type_or_none}
 use Rattle.go_model.specs.Outcomes.Records.{HeaderData, RecData}
 use Rattle.go_model.specs.Values.Quests.{Asked, Decided, Lacks, Quest}
@@ -25,6 +25,9 @@ sign_tests op x = at_whole undefined_unary (by_sort x (is_signed_by op)) ∷ lim
 
 abbrev pub sign_gives : Sign → RecData → Quest HeaderData RecData
 sign_gives op x = (sign op x).gives
+
+abbrev pub sign_asks : Sign → RecData → Asks HeaderData RecData
+sign_asks op x = record { tests = sign_tests op x; gives = sign_gives op x }
 
 -- the value that a constant gives, and how it fits an operand of this sort
 abbrev pub value_of_one : Sign → Sort → Option Value → Option Value

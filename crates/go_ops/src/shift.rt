@@ -7,7 +7,7 @@ ghost use Rattle.go_num.specs.declared.ranges.IntType.TheVariants as int_types;
 ghost use Rattle.go_num.specs.declared.value.Value.TheVariants as values;
 ghost use Rattle.go_term.specs.Types.{TypeData};
 ghost use Rattle.go_term.specs.declared.term.Term.{Term};
-ghost use Rattle.go_model.specs.Outcomes.Judged.{asked, tested};
+ghost use Rattle.go_model.specs.Outcomes.Judged.{asked};
 ghost use Rattle.go_model.specs.Outcomes.Records.{rec_as};
 ghost use Rattle.go_model.specs.Outcomes.View.{outcome_as};
 ghost use Rattle.go_model.specs.Types.Own.{IsOwnOutcome, IsOwnRec, Keeps};
@@ -18,7 +18,8 @@ ghost use Rattle.go_ops.specs.Limited.{FitsSort, IsGiven};
 ghost use Rattle.go_ops.specs.Operators as operators;
 ghost use Rattle.go_ops.specs.Refusals.{by_whole};
 ghost use Rattle.go_ops.specs.Rules as rules;
-ghost use Rattle.go_ops.specs.Shifted.{IsUint, counted_outcome, fit_of_both, outcome_by_second, shift_gives, shift_tests, value_of_both};
+ghost use Rattle.go_ops.specs.Shifted.{IsUint, counted_outcome, fit_of_both, outcome_by_second, shift_asks};
+ghost use Rattle.go_ops.specs.Shifted.{value_of_both};
 ghost use Rattle.go_ops.specs.Shifts as spec;
 ghost use Rattle.go_ops.specs.Sorts as sorts;
 
@@ -34,8 +35,8 @@ use go_model::{Judge, Outcome, Rec, broken};
 use go_num::{IntType, Value, fits, int_shift};
 use std::alloc::Global;
 
-/// A shift to the left or to the right, by the records of its operands: R1, R2; R9 where the left one is no integer or the
-/// right one no count; R8 and L2 by the constant that it gives. An error is want of memory.
+/// A shift to the left or to the right, by the records of its operands: R1, R2; R9 where the left one is no integer or
+/// the right one no count; R8 and L2 by the constant that it gives. An error is want of memory.
 pub(crate) fn shift<J: Judge>(
     alloc: Global,
     judge: &mut J,
@@ -71,9 +72,8 @@ fn shift_of_values<J: Judge>(
     requires first { IsOwnRec (J.is_type judge.old) a.now }
     requires second { IsOwnRec (J.is_type judge.old) b.now }
     requires honest { IsHonest (J.headers judge.old) (rec_as (J.tree judge.old) b.now) }
-    ensures outcome { IfOk result (λ outcome. outcome_as (J.tree judge.new) outcome ≡ tested (J.headers judge.old)
-        (shift_tests left (rec_as (J.tree judge.old) a.now) (rec_as (J.tree judge.old) b.now))
-        (shift_gives left (rec_as (J.tree judge.old) a.now) (rec_as (J.tree judge.old) b.now))) }
+    ensures outcome { IfOk result (λ outcome. outcome_as (J.tree judge.new) outcome ≡ asked (J.headers judge.old)
+        (Some (shift_asks left (rec_as (J.tree judge.old) a.now) (rec_as (J.tree judge.old) b.now)))) }
     ensures own { IfOk result (IsOwnOutcome (J.is_type judge.new)) }
     ensures keeps { Keeps (J.headers judge.old) (J.headers judge.new) (J.names judge.old) (J.names judge.new)
         (J.outcomes judge.old) (J.outcomes judge.new) (J.is_spent judge.old) (J.is_spent judge.new)

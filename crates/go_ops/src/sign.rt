@@ -1,10 +1,10 @@
-// `+x`, `-x`, `^x` and `!x` (Go specification, "Arithmetic operators", "Integer operators", "Logical operators", "Constant
-// expressions").
+// `+x`, `-x`, `^x` and `!x` (Go specification, "Arithmetic operators", "Integer operators", "Logical operators",
+// "Constant expressions").
 ghost use Rattle.std.specs.Prelude.{◌≡◌, IfOk, IfSome, IsSome, IsTrue, Some, true};
 ghost use Rattle.std.specs.Option.{option_map};
 ghost use Rattle.go_num.specs.Arithmetic as arithmetic;
 ghost use Rattle.go_num.specs.Ranges as ranges;
-ghost use Rattle.go_model.specs.Outcomes.Judged.{asked, tested};
+ghost use Rattle.go_model.specs.Outcomes.Judged.{asked};
 ghost use Rattle.go_model.specs.Outcomes.Records.{rec_as};
 ghost use Rattle.go_model.specs.Outcomes.View.{outcome_as};
 ghost use Rattle.go_model.specs.Types.Own.{IsOwnOutcome, IsOwnRec, Keeps};
@@ -14,7 +14,7 @@ ghost use Rattle.go_ops.specs.Limited.{FitsSort, IsGiven};
 ghost use Rattle.go_ops.specs.Operators as operators;
 ghost use Rattle.go_ops.specs.Refusals.{by_whole};
 ghost use Rattle.go_ops.specs.Rules as rules;
-ghost use Rattle.go_ops.specs.Signed.{defined_outcome, fit_of_one, sign_gives, sign_tests, value_of_one};
+ghost use Rattle.go_ops.specs.Signed.{defined_outcome, fit_of_one, sign_asks, value_of_one};
 ghost use Rattle.go_ops.specs.Unary as spec;
 ghost use Rattle.go_ops.specs.declared.operator.Sign.TheVariants as signs;
 
@@ -64,8 +64,8 @@ fn sign_of_value<J: Judge>(
 ) -> Result<Outcome, NoMemory>
     requires own { IsOwnRec (J.is_type judge.old) a.now }
     requires honest { IsHonest (J.headers judge.old) (rec_as (J.tree judge.old) a.now) }
-    ensures outcome { IfOk result (λ outcome. outcome_as (J.tree judge.new) outcome ≡ tested (J.headers judge.old)
-        (sign_tests op (rec_as (J.tree judge.old) a.now)) (sign_gives op (rec_as (J.tree judge.old) a.now))) }
+    ensures outcome { IfOk result (λ outcome. outcome_as (J.tree judge.new) outcome ≡ asked (J.headers judge.old)
+        (Some (sign_asks op (rec_as (J.tree judge.old) a.now)))) }
     ensures own { IfOk result (IsOwnOutcome (J.is_type judge.new)) }
     ensures keeps { Keeps (J.headers judge.old) (J.headers judge.new) (J.names judge.old) (J.names judge.new)
         (J.outcomes judge.old) (J.outcomes judge.new) (J.is_spent judge.old) (J.is_spent judge.new)

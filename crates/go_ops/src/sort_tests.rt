@@ -1,5 +1,5 @@
-// What operators are defined on, by what they see of types (Go specification, "Arithmetic operators", "Logical operators",
-// "Constants").
+// What operators are defined on, by what they see of types (Go specification, "Arithmetic operators", "Logical
+// operators", "Constants").
 ghost use Rattle.std.specs.Prelude.{◌≡◌};
 ghost use Rattle.go_ops.specs.Matching as matching;
 ghost use Rattle.go_ops.specs.Operators as operators;
