@@ -8,7 +8,7 @@ pub mod GivenLemmas
 pub mod HonestLemmas
 pub mod AskedLemmas
 pub mod MatchingLemmas
-pub mod FitLemmas
+pub mod CountLemmas
 pub mod LimitLemmas
 pub mod SortLemmas
 pub mod ShiftLemmas

@@ -15,7 +15,7 @@ use Rattle.go_ops.specs.Shifted.{counted_outcome, fit_of_both, outcome_by_first,
 use Rattle.go_ops.specs.Shifts.{is_count, shift_fit, span_of}
 use Rattle.go_ops.specs.Sorts.{by_sort, by_sorts, sort_in, sorts_of}
 use Rattle.go_ops.specs.declared.sort.Sort.{Sort}
-use Rattle.go_ops.proofs.EndLemmas.{whole-by, whole-lacks, whole-no, whole-yes}
+use Rattle.go_ops.proofs.EndLemmas.{whole-by, whole-lacks, whole-no, whole-holds}
 use Rattle.go_ops.proofs.LimitLemmas.{tests-limited}
 use Rattle.go_ops.proofs.SortLemmas.{both-sorts}
 
@@ -27,14 +27,14 @@ module _ (headers : Headers) (left : Bool) (x y : RecData) where
   module _ (s : Sort) (first : run headers (sort_in x) ≡ Decided s) where
     -- of an integer, by the right operand
     second_asked : is_integer s ≡ true → run headers counts ≡ run headers (by_sort y (is_count y))
-    second_asked yes =
-        run-then headers (by_sort x is_integer) (λ yes. if yes then by_sort y (is_count y) else Done false) true
-        (run-then headers (sort_in x) (λ s. Done (is_integer s)) s first ∙ ap (λ (b : Bool). Decided b) yes)
+    second_asked holds =
+        run-then headers (by_sort x is_integer) (λ b. if b then by_sort y (is_count y) else Done false) true
+        (run-then headers (sort_in x) (λ s. Done (is_integer s)) s first ∙ ap (λ (b : Bool). Decided b) holds)
 
     not_asked : is_integer s ≡ false → run headers counts ≡ Decided false
-    not_asked no =
-        run-then headers (by_sort x is_integer) (λ yes. if yes then by_sort y (is_count y) else Done false) false
-        (run-then headers (sort_in x) (λ s. Done (is_integer s)) s first ∙ ap (λ (b : Bool). Decided b) no)
+    not_asked fails =
+        run-then headers (by_sort x is_integer) (λ b. if b then by_sort y (is_count y) else Done false) false
+        (run-then headers (sort_in x) (λ s. Done (is_integer s)) s first ∙ ap (λ (b : Bool). Decided b) fails)
 
     module _ (t : Sort) (second : run headers (sort_in y) ≡ Decided t) where
       told : {A : Type 0} (answer : Sort → Sort → A) → run headers (by_sorts x y answer) ≡ Decided (answer s t)
@@ -48,26 +48,26 @@ module _ (headers : Headers) (left : Bool) (x y : RecData) where
           (told (λ s t. record_of (type_or_none x) (value_of_both left (constant_in x) (constant_in y)) (span_of x s)))
 
       by_count : is_integer s ≡ true → tested headers (shift_tests left x y) (shift_gives left x y) ≡ by_whole invalid_shift (is_count y t) (counted_outcome left x y s)
-      by_count yes =
+      by_count holds =
           whole-by headers invalid_shift counts (limit_tests (shift_fit left x y)) (shift_gives left x y) (is_count y t)
-          (second_asked yes ∙ run-then headers (sort_in y) (λ t. Done (is_count y t)) t second)
+          (second_asked holds ∙ run-then headers (sort_in y) (λ t. Done (is_count y t)) t second)
           ∙ ap (by_whole invalid_shift (is_count y t)) counted
 
     by_second : is_integer s ≡ true → (a : Asked Sort) → run headers (sort_in y) ≡ a → tested headers (shift_tests left x y) (shift_gives left x y) ≡ outcome_by_second left x y s a
-    by_second yes (Decided t) e = by_count t e yes
-    by_second yes (Lacks d) e =
+    by_second holds (Decided t) e = by_count t e holds
+    by_second holds (Lacks d) e =
         whole-lacks headers invalid_shift counts (limit_tests (shift_fit left x y)) (shift_gives left x y) d
-        (second_asked yes ∙ run-then-Lacks headers (sort_in y) (λ t. Done (is_count y t)) d e)
+        (second_asked holds ∙ run-then-Lacks headers (sort_in y) (λ t. Done (is_count y t)) d e)
 
     by_integer : (b : Bool) → is_integer s ≡ b → tested headers (shift_tests left x y) (shift_gives left x y) ≡ by_whole invalid_shift b (outcome_by_second left x y s (run headers (sort_in y)))
-    by_integer true yes = by_second yes (run headers (sort_in y)) refl
-    by_integer false no = whole-no headers invalid_shift counts (limit_tests (shift_fit left x y)) (shift_gives left x y) (not_asked no)
+    by_integer true holds = by_second holds (run headers (sort_in y)) refl
+    by_integer false fails = whole-no headers invalid_shift counts (limit_tests (shift_fit left x y)) (shift_gives left x y) (not_asked fails)
 
   by_first : (a : Asked Sort) → run headers (sort_in x) ≡ a → tested headers (shift_tests left x y) (shift_gives left x y) ≡ outcome_by_first left x y a (run headers (sort_in y))
   by_first (Decided s) e = by_integer s e (is_integer s) refl
   by_first (Lacks d) e =
       whole-lacks headers invalid_shift counts (limit_tests (shift_fit left x y)) (shift_gives left x y) d
-      (run-then-Lacks headers (by_sort x is_integer) (λ yes. if yes then by_sort y (is_count y) else Done false) d
+      (run-then-Lacks headers (by_sort x is_integer) (λ b. if b then by_sort y (is_count y) else Done false) d
       (run-then-Lacks headers (sort_in x) (λ s. Done (is_integer s)) d e))
 
   pub shift-found : outcome_by_first left x y (run headers (sort_in x)) (run headers (sort_in y)) ≡ tested headers (shift_tests left x y) (shift_gives left x y)

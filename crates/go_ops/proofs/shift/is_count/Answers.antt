@@ -12,8 +12,7 @@ returns-in-Int c = λ tree.
 
 pub returns-then-is_number : goal.returns-then-is_number
 returns-then-is_number c = λ tree.
-    let counts = λ v. represents_count v c.args.rec.now.span in
     c.represents_count.ensures
-    ∙ ap counts (c.constant_in.ensures tree)
-    ∙ ap (λ b. b && counts (constant_in (rec_as tree c.args.rec.now))) (sym c.if-is_number.true ∙ c.is_number.ensures)
+    ∙ ap (λ v. represents_count v c.args.rec.now.span) (c.constant_in.ensures tree)
+    ∙ ap (λ b. b && represents_count (constant_in (rec_as tree c.args.rec.now)) c.args.rec.now.span) (sym c.if-is_number.true ∙ c.is_number.ensures)
     ∙ ap (is_count (rec_as tree c.args.rec.now)) (sym c.in-Untyped.is)

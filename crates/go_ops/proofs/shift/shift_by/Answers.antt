@@ -1,6 +1,6 @@
 use Rattle.std.proofs.Common.{sym, ◌∙◌}
 use Rattle.go_model.specs.Outcomes.Records.{rec_as}
-use Rattle.go_ops.proofs.FitLemmas.{count-uint}
+use Rattle.go_ops.proofs.CountLemmas.{count-uint}
 use Rattle.go_ops.proofs.shift.shift_by.Goals as goal
 
 pub shift_by_count-requires-clause-count : goal.shift_by_count-requires-clause-count
