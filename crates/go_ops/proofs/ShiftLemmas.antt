@@ -15,7 +15,7 @@ use Rattle.go_ops.specs.Shifted.{counted_outcome, fit_of_both, outcome_by_first,
 use Rattle.go_ops.specs.Shifts.{is_count, shift_fit, span_of}
 use Rattle.go_ops.specs.Sorts.{by_sort, by_sorts, sort_in, sorts_of}
 use Rattle.go_ops.specs.declared.sort.Sort.{Sort}
-use Rattle.go_ops.proofs.EndLemmas.{whole-by, whole-lacks, whole-no, whole-holds}
+use Rattle.go_ops.proofs.EndLemmas.{whole-by, whole-lacks, whole-no}
 use Rattle.go_ops.proofs.LimitLemmas.{tests-limited}
 use Rattle.go_ops.proofs.SortLemmas.{both-sorts}
 

@@ -13,6 +13,6 @@ returns-in-Int c = λ tree.
 pub returns-then-is_number : goal.returns-then-is_number
 returns-then-is_number c = λ tree.
     c.represents_count.ensures
-    ∙ ap (λ v. represents_count v c.args.rec.now.span) (c.constant_in.ensures tree)
+    ∙ ap (λ v. represents_count v c.args.rec.now.span) (c.constant_in-then-is_number.ensures tree)
     ∙ ap (λ b. b && represents_count (constant_in (rec_as tree c.args.rec.now)) c.args.rec.now.span) (sym c.if-is_number.true ∙ c.is_number.ensures)
     ∙ ap (is_count (rec_as tree c.args.rec.now)) (sym c.in-Untyped.is)
