@@ -45,6 +45,8 @@ mod unary_expr;
 
 // Tests.
 #[cfg(test)]
+mod fit_tests;
+#[cfg(test)]
 mod operator_tests;
 
 pub use binary_expr::{binary, binary_op};

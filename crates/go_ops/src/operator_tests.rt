@@ -7,9 +7,18 @@ use std::test::Fail;
 #[test]
 fn binary_operators(rt: HostRuntime) -> Result<(), Fail> {
     let rows = [
-        (TokenKind::Quo, Some(BinaryOp::Operates(Operation::Arithmetic(IntOp::Quo)))),
-        (TokenKind::AndNot, Some(BinaryOp::Operates(Operation::Arithmetic(IntOp::AndNot)))),
-        (TokenKind::LogicalOr, Some(BinaryOp::Operates(Operation::Or))),
+        (
+            TokenKind::Quo,
+            Some(BinaryOp::Operates(Operation::Arithmetic(IntOp::Quo))),
+        ),
+        (
+            TokenKind::AndNot,
+            Some(BinaryOp::Operates(Operation::Arithmetic(IntOp::AndNot))),
+        ),
+        (
+            TokenKind::LogicalOr,
+            Some(BinaryOp::Operates(Operation::Or)),
+        ),
         (TokenKind::Shr, Some(BinaryOp::Shifts(false))),
         (TokenKind::GreaterEqual, Some(BinaryOp::Compares(CmpOp::Ge))),
         (TokenKind::Not, None),
@@ -24,7 +33,10 @@ fn binary_operators(rt: HostRuntime) -> Result<(), Fail> {
 #[test]
 fn unary_operators(rt: HostRuntime) -> Result<(), Fail> {
     let rows = [
-        (TokenKind::Sub, Some(UnaryOp::Signs(Sign::Number(UnOp::Minus)))),
+        (
+            TokenKind::Sub,
+            Some(UnaryOp::Signs(Sign::Number(UnOp::Minus))),
+        ),
         (TokenKind::Not, Some(UnaryOp::Signs(Sign::Not))),
         (TokenKind::And, Some(UnaryOp::Address)),
         (TokenKind::Arrow, Some(UnaryOp::Receives)),

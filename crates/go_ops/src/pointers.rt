@@ -167,12 +167,7 @@ pub(crate) fn base_of<J: Judge>(judge: &J, shape: Shape) -> Option<Ty>
 }
 
 // What stands for that and has the type of pointers to this one. An error is want of memory.
-fn pointer<J: Judge>(
-    alloc: Global,
-    judge: &mut J,
-    mode: Mode,
-    t: &Ty,
-) -> Result<Outcome, NoMemory>
+fn pointer<J: Judge>(alloc: Global, judge: &mut J, mode: Mode, t: &Ty) -> Result<Outcome, NoMemory>
     requires { J.is_type judge.old t.now }
     ensures outcome { IfOk result (λ outcome. outcome_as (J.tree judge.new) outcome
         ≡ typed_outcome (J.headers judge.old) mode (types.of_one types.pointer (J.tree judge.old t.now))) }
