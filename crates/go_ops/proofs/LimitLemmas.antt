@@ -8,7 +8,7 @@ use Rattle.go_model.specs.Outcomes.Records.{HeaderData, RecData}
 use Rattle.go_model.specs.Outcomes.Walk.{Headers}
 use Rattle.go_model.specs.Values.Quests.{Asked, Decided, Done, Quest, run, then_ask}
 use Rattle.go_model.proofs.QuestLemmas.{run-then}
-use Rattle.go_ops.specs.Constants.{limit_tests, long_test, unkept_test, wide_test}
+use Rattle.go_ops.specs.Constants.{limit_tests, long_test, wide_test}
 use Rattle.go_ops.specs.Limited.{kept_tests, limited_by}
 use Rattle.go_ops.specs.Refusals.{by_whole}
 use Rattle.go_ops.specs.Representable.{not_long, not_overflows, not_unkept, not_wide}

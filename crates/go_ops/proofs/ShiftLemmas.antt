@@ -1,11 +1,11 @@
 -- What the tests of a shift come to, by the sorts of its operands.
-use Rattle.std.proofs.Common.{◌≡◌, Bool, true, false, List, ◌∷◌, if◌then◌else◌, refl, ap, sym, ◌∙◌}
+use Rattle.std.proofs.Common.{◌≡◌, Bool, true, false, if◌then◌else◌, refl, ap, sym, ◌∙◌}
 use Rattle.go_model.specs.Outcomes.Judged.{tested}
 use Rattle.go_model.specs.Outcomes.Operands.{type_or_none}
-use Rattle.go_model.specs.Outcomes.Records.{HeaderData, RecData}
+use Rattle.go_model.specs.Outcomes.Records.{RecData}
 use Rattle.go_model.specs.Outcomes.Walk.{Headers}
 use Rattle.go_model.specs.Types.TypeIdentity.{Test, and_ask}
-use Rattle.go_model.specs.Values.Quests.{Asked, Decided, Done, Lacks, run, then_ask}
+use Rattle.go_model.specs.Values.Quests.{Asked, Decided, Done, Lacks, run}
 use Rattle.go_model.proofs.QuestLemmas.{run-then, run-then-Lacks}
 use Rattle.go_ops.specs.Constants.{constant_in, limit_tests, record_of}
 use Rattle.go_ops.specs.Operators.{is_integer}

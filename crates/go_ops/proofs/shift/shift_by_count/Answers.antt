@@ -1,11 +1,9 @@
-use Rattle.std.proofs.Common.{◌≡◌, Option, [], sym, ap, ◌∙◌, subst}
+use Rattle.std.proofs.Common.{Option, [], sym, ap, ◌∙◌, subst}
 use Rattle.std.specs.Prelude.{unwrap_or}
 use Rattle.std.specs.Option.{option_map}
 use Rattle.std.proofs.lemmas.Result.{IfOk-weaker}
 use Rattle.go_term.specs.Types.{list, of_list}
 use Rattle.go_term.specs.declared.term.Term.{Term}
-use Rattle.go_model.specs.Outcomes.Operands.{type_or_none}
-use Rattle.go_model.specs.Outcomes.Records.{rec_as}
 use Rattle.go_ops.specs.Limited.{limited_outcome}
 use Rattle.go_ops.specs.Shifted.{IsUint, fit_of_both, value_of_both}
 use Rattle.go_ops.proofs.shift.shift_by_count.Goals as goal

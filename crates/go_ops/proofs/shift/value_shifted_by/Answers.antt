@@ -1,6 +1,5 @@
 use Rattle.std.proofs.Common.{None, sym, subst}
 use Rattle.go_num.specs.declared.value.Value.{Value}
-use Rattle.go_num.specs.declared.value.Value.TheVariants as V
 use Rattle.go_ops.specs.Limited.{IsGiven}
 use Rattle.go_ops.specs.Operators.{fit_found}
 use Rattle.go_ops.specs.Shifts.{shifted_value}
