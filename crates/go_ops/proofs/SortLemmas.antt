@@ -16,7 +16,6 @@ use Rattle.go_ops.specs.Representable.{fit_of, representable}
 use Rattle.go_ops.specs.Sorts.{sort_by, sort_in, sort_of, sorts_of}
 use Rattle.go_ops.specs.declared.fit.Fit.TheVariants.{Fits}
 use Rattle.go_ops.specs.declared.sort.Sort.{Sort}
-use Rattle.go_ops.specs.declared.sort.Sort.TheVariants as S
 
 module _ (headers : Headers) where
   -- both are decided where each is
@@ -54,23 +53,3 @@ module _ (headers : Headers) where
       go : (o : Option Value) → ((v : Value) → o ≡ Some v → fit_of v s ≡ Fits) → FitsSort o s
       go None each = tt
       go (Some v) each = each v refl
-
-  -- without a type it is that of other types
-  untyped : (mode : Mode) (value : Option Value) (object : Option ObjId) (span : Option (ℤ × ℤ))
-      → run headers (sort_in (record { mode = mode; type = None; value = value; object = object; span = span })) ≡ Decided S.Other
-  untyped M.Const value object span = refl
-  untyped M.NoValue value object span = refl
-  untyped M.Builtin value object span = refl
-  untyped M.IsType value object span = refl
-  untyped M.Var value object span = refl
-  untyped M.MapIndex value object span = refl
-  untyped M.Value value object span = refl
-  untyped M.Nil value object span = refl
-  untyped M.CommaOk value object span = refl
-
-  pub sort-typed : (r : RecData) (s : Sort) → run headers (sort_in r) ≡ Decided s → (s ≡ S.Other → ⊥) → r.type ≡ None → ⊥
-  sort-typed r s e other none =
-      let same : Decided S.Other ≡ Decided s =
-          sym (ap (λ (t : Option TypeData). run headers (sort_in (record { mode = r.mode; type = t; value = r.value; object = r.object; span = r.span }))) none ∙ untyped r.mode r.value r.object r.span) ∙ e
-      in
-      let is : S.Other ≡ s = cc in other (sym is)
