@@ -1,6 +1,6 @@
 -- Operators; Integer operators (Go specification).
--- What a shift comes to behind the tests on its operands, by the sorts of their types: as the code finds it. That the tests of
--- the shift come to the same: `ShiftLemmas`.
+-- What a shift comes to behind the tests on its operands, by the sorts of their types, as the code finds it (own). That
+-- the tests of the shift come to the same: `ShiftLemmas`.
 use Rattle.std.specs.Prelude.{◌≡◌, Bool, true, Option, Some, None, List, ◌∷◌}
 use Rattle.go_num.specs.Ranges.{fits}
 use Rattle.go_num.specs.declared.ranges.IntType.TheVariants.{Uint}

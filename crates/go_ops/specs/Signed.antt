@@ -1,6 +1,6 @@
 -- Arithmetic operators; Logical operators (Go specification).
--- What `+x`, `-x`, `^x` and `!x` come to behind the tests on the operand, by the sort of its type: as the code finds it. That the
--- tests of the operators come to the same: `SignLemmas`.
+-- What `+x`, `-x`, `^x` and `!x` come to behind the tests on the operand, by the sort of its type, as the code finds it
+-- (own). That the tests of the operators come to the same: `SignLemmas`.
 use Rattle.std.specs.Prelude.{Option, None, List, ◌∷◌}
 use Rattle.go_num.specs.declared.value.Value.{Value}
 use Rattle.go_model.specs.Outcomes.Judged.{Asks, OutcomeData, RuleTest, Waits}
