@@ -1,0 +1,30 @@
+use Rattle.std.proofs.Common.{Some, sym, ap, ◌∙◌}
+use Rattle.std.proofs.lemmas.Result.{IfOk-weaker}
+use Rattle.go_model.specs.Outcomes.Judged.{asked}
+use Rattle.go_model.specs.Outcomes.Records.{rec_as}
+use Rattle.go_model.specs.Outcomes.View.{outcome_as}
+use Rattle.go_model.proofs.OwnDataLemmas.{rec_agrees}
+use Rattle.go_ops.specs.Sources.{read_asks}
+use Rattle.go_ops.specs.declared.source.Source.TheVariants.{Pointer}
+use Rattle.go_ops.specs.Refusals.{refusal_as}
+use Rattle.go_ops.proofs.OperandLemmas.{one-passes, one-stops}
+use Rattle.go_ops.proofs.pointers.indirected.Goals as goal
+
+pub returns-in-Some-clause-outcome : goal.returns-in-Some-clause-outcome
+returns-in-Some-clause-outcome g c =
+    let headers = g.J.Ask.headers c.args.judge.now in
+    let x = rec_as (g.J.Ask.tree c.args.judge.now) c.args.a.now in
+    let refused = ap (refusal_as (g.J.Ask.tree c.refused_one.new.judge)) (sym c.in-Some.is) ∙ c.in_ok-refused.ensures.refused in
+    one-stops headers (read_asks Pointer x) (outcome_as (g.J.Ask.tree c.refused_one.new.judge) c.in-Some.refused) x refused
+
+pub returns-in-None-clause-outcome : goal.returns-in-None-clause-outcome
+returns-in-None-clause-outcome g c =
+    let headers = g.J.Ask.headers c.args.judge.now in
+    let tree = g.J.Ask.tree c.args.judge.now in
+    let x = rec_as tree c.args.a.now in
+    let before = c.in_ok-refused.ensures in
+    let none = ap (refusal_as (g.J.Ask.tree c.refused_one.new.judge)) (sym c.in-None.is) ∙ before.refused in
+    let rec = rec_agrees (g.J.Ask.is_type c.args.judge.now) tree (g.J.Ask.tree c.refused_one.new.judge) before.keeps.kept.trees c.args.a.now c.requires in
+    IfOk-weaker c.read.result _ _
+    (λ outcome is. one-passes headers (read_asks Pointer x) (outcome_as (g.J.Ask.tree c.read.new.judge) outcome) x none (is ∙ (λ i. asked (before.keeps.same i) (Some (read_asks Pointer (rec i))))))
+    c.read.ensures.outcome

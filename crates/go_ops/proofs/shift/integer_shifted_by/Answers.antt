@@ -1,0 +1,13 @@
+use Rattle.std.proofs.Common.{None, sym, subst}
+use Rattle.go_num.specs.declared.value.Value.{Value}
+use Rattle.go_num.specs.declared.value.Value.TheVariants as V
+use Rattle.go_ops.specs.Limited.{IsGiven}
+use Rattle.go_ops.specs.Operators.{fit_found}
+use Rattle.go_ops.specs.Shifts.{shifted_value}
+use Rattle.go_ops.proofs.shift.integer_shifted_by.Goals as goal
+
+pub returns-in-Bool : goal.returns-in-Bool
+returns-in-Bool c = subst (λ (w : Value). IsGiven c.no_value_given.result (fit_found (shifted_value c.args.left (V.Int c.args.a) w) c.args.sort) (shifted_value c.args.left (V.Int c.args.a) w)) (sym c.in-Bool.is) (c.no_value_given.ensures None)
+
+pub returns-in-Text : goal.returns-in-Text
+returns-in-Text c = subst (λ (w : Value). IsGiven c.no_value_given-in-Text.result (fit_found (shifted_value c.args.left (V.Int c.args.a) w) c.args.sort) (shifted_value c.args.left (V.Int c.args.a) w)) (sym c.in-Text.is) (c.no_value_given-in-Text.ensures None)

@@ -1,0 +1,24 @@
+pub mod Rules
+pub mod Sorts
+pub mod Representable
+pub mod Matching
+pub mod Constants
+pub mod Operators
+pub mod Comparisons
+pub mod Shifts
+pub mod Binary
+pub mod Unary
+pub mod Pointers
+pub mod Channels
+pub mod Honest
+-- what inner functions promise each other
+pub mod Refusals
+pub mod PointerTypes
+pub mod Sources
+pub mod Limited
+pub mod Shifted
+pub mod Signed
+pub mod AskedSorts
+pub mod MatchingParts
+pub mod ComparisonStages
+pub mod Stages
