@@ -1,5 +1,7 @@
-//! Tests of the rulebook of go_check, and of go_decl's elaboration by it; no other code.
+//! Tests of the rulebook of go_check, and of go_decl's elaboration and go_ops' operators by it; no other code.
 #![tactic(auto)]
 
+#[cfg(test)]
+mod operators;
 #[cfg(test)]
 mod tests;

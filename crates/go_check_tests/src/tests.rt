@@ -13,8 +13,8 @@ use std::marker::Brand;
 use std::sync::ledger::{Blank, Ledger};
 use std::test::Fail;
 
-// A module without packages.
-fn no_packages(alloc: Global) -> Result<Module, NoMemory>
+/// A module without packages.
+pub(crate) fn no_packages(alloc: Global) -> Result<Module, NoMemory>
     ensures { IfOk result (λ made. made.packages.items ≡ []) }
 {
     Ok(Module {
