@@ -2,6 +2,10 @@
 #![tactic(auto)]
 
 #[cfg(test)]
+mod number_operators;
+#[cfg(test)]
 mod operators;
+#[cfg(test)]
+mod other_operators;
 #[cfg(test)]
 mod tests;
