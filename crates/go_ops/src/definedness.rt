@@ -67,7 +67,9 @@ fn has_arithmetic(op: IntOp, s: Sort) -> bool
 pub(crate) fn is_by_zero(op: Operation, x: &Rec, y: &Rec, s: Sort) -> bool
     ensures { result ≡ spec.is_by_zero op (rec_view x.now) (rec_view y.now) s }
 {
-    has_no_quotient(op, constant_in(y)) && (is_integer(s) || is_constant(x.mode))
+    let by_zero = has_no_quotient(op, constant_in(y));
+    let divides = is_integer(s) || is_constant(x.mode);
+    by_zero && divides
 }
 
 fn has_no_quotient(op: Operation, v: Option<&Value>) -> bool

@@ -206,7 +206,9 @@ fn of_kept<J: Judge>(
         (J.world judge.old) (J.world judge.new) (J.is_type judge.old) (J.is_type judge.new)
         (J.tree judge.old) (J.tree judge.new) }
 {
-    match (kind_of(s), kind_of(t)) {
+    let first = kind_of(s);
+    let second = kind_of(t);
+    match (first, second) {
         (Some(k), Some(l)) => of_untyped(alloc, judge, later(k, l), given),
         (Some(_), None) => of_type(alloc, judge, &y.ty, given),
         (None, Some(_)) => of_type(alloc, judge, &x.ty, given),
