@@ -26,7 +26,7 @@ module _ (headers : Headers) where
   sort_none : (r : RecData) (s : Sort) → run headers (sort_in r) ≡ Decided s → r.type ≡ None → s ≡ S.Other
   sort_none r s e none =
       let same : Decided s ≡ Decided S.Other =
-          sym e ∙ ap (λ (t : Option TypeData). run headers (if is_value r then sort_by t else Done S.Other)) none ∙ without_type (is_value r)
+      sym e ∙ ap (λ (t : Option TypeData). run headers (if is_value r then sort_by t else Done S.Other)) none ∙ without_type (is_value r)
       in cc
 
   pub are-of : (tree : Term → TypeData) (x y : Rec) (s t : Sort) → IsHonest headers (rec_as tree x) → IsHonest headers (rec_as tree y)

@@ -26,6 +26,6 @@ returns c =
     let second = c.constant_in-second.ensures type_of in
     IfOk-weaker c.of_constants.result _ _
     (λ given. subst (λ (pair : Option Value × Option Value).
-        IsGiven given (fit_of_values c.args.op c.args.sort pair.0 pair.1) (value_of_values c.args.op c.args.sort pair.0 pair.1))
-        (λ i. (first i, second i)))
+    IsGiven given (fit_of_values c.args.op c.args.sort pair.0 pair.1) (value_of_values c.args.op c.args.sort pair.0 pair.1))
+    (λ i. (first i, second i)))
     c.of_constants.ensures
