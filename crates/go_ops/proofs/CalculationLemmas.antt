@@ -1,8 +1,10 @@
 -- What operations on constants give, by the sort of the type that both have.
-use Rattle.std.proofs.Common.{◌≡◌, ℤ, ℕ, ◌&&◌, ◌||◌, Bool, true, false, Option, Some, None, if◌then◌else◌, length, refl, sym, ap, ◌∙◌, subst}
+use Rattle.std.proofs.Common.{◌≡◌, ℤ, ℕ, ◌&&◌, ◌||◌, Bool, true, false, List, Option, Some, None, if◌then◌else◌, length, refl, sym, ap, ◌∙◌, subst}
 use Rattle.std.specs.Prelude.{nat_le, not}
 use Rattle.go_base.specs.declared.ids.ObjId.{ObjId}
 use Rattle.go_num.specs.Text.{most_text}
+use Rattle.go_num.specs.declared.arithmetic.IntOp.{IntOp}
+use Rattle.go_num.specs.declared.arithmetic.IntOp.TheVariants as I
 use Rattle.go_num.specs.declared.value.NumKind.{NumKind}
 use Rattle.go_num.specs.declared.value.NumKind.TheVariants as K
 use Rattle.go_num.specs.declared.value.Value.{Value}
@@ -22,6 +24,7 @@ use Rattle.go_ops.specs.declared.fit.Fit.{Fit}
 use Rattle.go_ops.specs.declared.fit.Fit.TheVariants.{Differs, Fits, Long}
 use Rattle.go_ops.specs.declared.limits.Given.{Given}
 use Rattle.go_ops.specs.declared.operator.Operation.{Operation}
+use Rattle.go_ops.specs.declared.operator.Operation.TheVariants.{Arithmetic}
 use Rattle.go_ops.specs.declared.sort.Sort.{Sort}
 use Rattle.go_ops.specs.declared.sort.Sort.TheVariants as S
 use Rattle.go_ops.proofs.MatchingLemmas.{common-of}
@@ -113,6 +116,15 @@ pub quotient-there : (op : Operation) (x y : RecData) (s : Sort) → is_by_zero 
 quotient-there op x y s is = by_mode op x.mode x.type x.value x.object x.span (constant_in y) s is
 
 -- WITHOUT A VALUE
+
+-- a string and a constant of another kind have none together
+pub text-integer : (op : IntOp) (s : Sort) (a : List ℕ) (b : ℤ) → of_values (Arithmetic op) s (V.Text a) (V.Int b) ≡ None
+text-integer I.Add s a b = refl
+text-integer op s a b = refl
+
+pub text-truth : (op : IntOp) (s : Sort) (a : List ℕ) (b : Bool) → of_values (Arithmetic op) s (V.Text a) (V.Bool b) ≡ None
+text-truth I.Add s a b = refl
+text-truth op s a b = refl
 
 -- constants that have no value together give none
 pub nothing-given : (given : Given) (op : Operation) (s : Sort) (a b : Value) → IsGivenNothing given → of_values op s a b ≡ None → IsGiven given (fit_found (of_values op s a b) s) (of_values op s a b)

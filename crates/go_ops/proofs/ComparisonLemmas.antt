@@ -51,21 +51,25 @@ module _ (headers : Headers) (op : CmpOp) (x y : RecData) where
         ∙ ap (by_two constant_overflow (not_overflows (given_fit x s t)) (not_overflows (given_fit y t s))) kept_is
 
     compared_is : tested headers from_compared gives ≡ matched_comparison op x y s t
+    unfolding matched_comparison
     compared_is =
         whole-by headers incomparable_operands (by_sorts x y (λ s t. compares op (common_sort s t))) from_fitting gives (compares op (common_sort s t))
         (sorts-told headers x y s t decided (λ s t. compares op (common_sort s t)))
         ∙ ap (by_whole incomparable_operands (compares op (common_sort s t))) fitting_is
 
     matched_is : tested headers from_matched gives ≡ sorts_comparison headers op x y s t
+    unfolding sorts_comparison
     matched_is = matched-by headers x y s t decided from_compared gives ∙ ap (by_answer mismatched_operands (run headers (match_by x y s t))) compared_is
 
   values_is : (a : Asked (Sort × Sort)) → run headers (sorts_of x y) ≡ a → tested headers from_matched gives ≡ values_comparison headers op x y a
+  unfolding values_comparison
   values_is (Decided pair) is = matched_is pair.0 pair.1 is
   values_is (Lacks d) is =
       whole-lacks headers mismatched_operands (then_ask (sorts_of x y) (λ pair. match_by x y pair.0 pair.1)) from_compared gives d
       (run-then-Lacks headers (sorts_of x y) (λ pair. match_by x y pair.0 pair.1) d is)
 
   pub comparison-is : whole_comparison headers op x y ≡ asked headers (Some (comparison op x y))
+  unfolding whole_comparison built_comparison
   comparison-is =
       let both = is_constant_or_no_value x && is_constant_or_no_value y in
       sym (whole-by headers unbuilt_form (Done both) from_values gives both refl

@@ -70,6 +70,7 @@ fn is_constant_or_no_value(r: &Rec) -> bool
 }
 
 // Behind U0.
+#[tactic(auto, unfolding(crate::specs::ComparisonStages::built_comparison))]
 fn of_built<J: Judge>(
     alloc: Global,
     judge: &mut J,
@@ -94,6 +95,7 @@ fn of_built<J: Judge>(
 }
 
 // Of two single values.
+#[tactic(auto, unfolding(crate::specs::ComparisonStages::values_comparison))]
 fn of_values<J: Judge>(
     alloc: Global,
     judge: &mut J,
@@ -119,6 +121,7 @@ fn of_values<J: Judge>(
 }
 
 // By the sorts of both.
+#[tactic(auto, unfolding(crate::specs::ComparisonStages::sorts_comparison))]
 fn of_sorts<J: Judge>(
     alloc: Global,
     judge: &mut J,
@@ -146,6 +149,7 @@ fn of_sorts<J: Judge>(
 }
 
 // Behind R4.
+#[tactic(auto, unfolding(crate::specs::ComparisonStages::matched_comparison))]
 fn of_matched<J: Judge>(
     alloc: Global,
     judge: &mut J,
@@ -296,7 +300,7 @@ fn truths_compared(op: CmpOp, p: bool, q: bool) -> bool
 fn differ(p: bool, q: bool) -> bool
     ensures { result ≡ xor p q }
 {
-    if p { !q } else { q }
+    p != q
 }
 
 // Whether values of a type of this sort compare so.

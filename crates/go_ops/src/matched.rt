@@ -28,6 +28,7 @@ use std::alloc::Global;
 
 /// What an operation comes to whose operands match: R5 where the operator is not defined on them; R7; R8, U9, L2 and L3 at
 /// the constants and by what they give. An error is want of memory.
+#[tactic(auto, unfolding(crate::specs::Stages::matched_outcome))]
 pub(crate) fn of_matched<J: Judge>(
     alloc: Global,
     judge: &mut J,

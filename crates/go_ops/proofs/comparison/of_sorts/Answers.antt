@@ -1,14 +1,17 @@
-use Rattle.std.proofs.Common.{sym, ap, ◌∙◌}
+use Rattle.std.proofs.Common.{◌≡◌, true, sym, ap, ◌∙◌}
 use Rattle.std.proofs.lemmas.Result.{IfOk-weaker}
 use Rattle.go_model.specs.Outcomes.Records.{rec_as}
 use Rattle.go_model.specs.Types.Forms.{answer_as}
+use Rattle.go_model.specs.Values.Quests.{Decided, run}
 use Rattle.go_model.proofs.OwnDataLemmas.{rec_agrees}
-use Rattle.go_ops.specs.ComparisonStages.{matched_comparison}
+use Rattle.go_ops.specs.ComparisonStages.{matched_comparison, sorts_comparison}
+use Rattle.go_ops.specs.Matching.{match_by}
 use Rattle.go_ops.specs.Rules.{mismatched_operands}
 use Rattle.go_ops.specs.Stages.{by_answer}
 use Rattle.go_ops.proofs.comparison.of_sorts.Goals as goal
 
 pub returns-in-Yes-clause-outcome : goal.returns-in-Yes-clause-outcome
+unfolding sorts_comparison
 returns-in-Yes-clause-outcome g c =
     let old = c.args.judge.now in
     let tree = g.J.Ask.tree old in
@@ -17,7 +20,7 @@ returns-in-Yes-clause-outcome g c =
     let kept = c.in_ok-matches.ensures.keeps in
     let first = rec_agrees (g.J.Ask.is_type old) tree (g.J.Ask.tree c.matches.new.judge) kept.kept.trees c.args.x.now c.requires.first in
     let second = rec_agrees (g.J.Ask.is_type old) tree (g.J.Ask.tree c.matches.new.judge) kept.kept.trees c.args.y.now c.requires.second in
-    let yes = sym (ap answer_as c.in-Yes.is) ∙ c.in_ok-matches.ensures.answer in
+    let yes : Decided true ≡ run (g.J.Ask.headers old) (match_by x y c.args.s c.args.t) = sym (ap answer_as c.in-Yes.is) ∙ c.in_ok-matches.ensures.answer in
     IfOk-weaker c.of_matched.result _ _
     (λ outcome is.
     is
