@@ -1,5 +1,5 @@
 -- What the tests of a comparison come to, by the sorts of its operands.
-use Rattle.std.proofs.Common.{◌≡◌, ◌&&◌, Bool, Option, Some, None, List, [], ◌∷◌, refl, sym, ap, ◌∙◌}
+use Rattle.std.proofs.Common.{◌≡◌, ◌&&◌, Bool, true, Option, Some, None, List, [], ◌∷◌, refl, sym, ap, ◌∙◌}
 use Rattle.go_module.specs.Rules.{unbuilt_form}
 use Rattle.go_num.specs.declared.comparisons.CmpOp.{CmpOp}
 use Rattle.go_model.specs.Outcomes.Judged.{OutcomeData, RuleTest, asked, tested}
@@ -68,10 +68,20 @@ module _ (headers : Headers) (op : CmpOp) (x y : RecData) where
       whole-lacks headers mismatched_operands (then_ask (sorts_of x y) (λ pair. match_by x y pair.0 pair.1)) from_compared gives d
       (run-then-Lacks headers (sorts_of x y) (λ pair. match_by x y pair.0 pair.1) d is)
 
-  pub comparison-is : whole_comparison headers op x y ≡ asked headers (Some (comparison op x y))
+  comparison-is : whole_comparison headers op x y ≡ asked headers (Some (comparison op x y))
   unfolding whole_comparison built_comparison
   comparison-is =
       let both = is_constant_or_no_value x && is_constant_or_no_value y in
       sym (whole-by headers unbuilt_form (Done both) from_values gives both refl
       ∙ ap (by_whole unbuilt_form both)
       (sym (two-refused headers from_matched gives x y) ∙ ap (or_later (two_refused x y)) (values_is (run headers (sorts_of x y)) refl)))
+
+  -- what the code finds, from a test on
+  pub sorts-yes : (s t : Sort) (o : OutcomeData RecData) → Decided true ≡ run headers (match_by x y s t) → o ≡ matched_comparison op x y s t → o ≡ sorts_comparison headers op x y s t
+  unfolding sorts_comparison
+  sorts-yes s t o holds is = is ∙ ap (λ a. by_answer mismatched_operands a (matched_comparison op x y s t)) holds
+
+  pub comparison-told : (b : Bool) (o : OutcomeData RecData) → b ≡ (is_constant_or_no_value x && is_constant_or_no_value y)
+      → o ≡ by_whole unbuilt_form b (built_comparison headers op x y) → o ≡ asked headers (Some (comparison op x y))
+  unfolding whole_comparison
+  comparison-told b o built is = is ∙ ap (λ c. by_whole unbuilt_form c (built_comparison headers op x y)) built ∙ comparison-is

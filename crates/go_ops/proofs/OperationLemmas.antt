@@ -125,7 +125,7 @@ module _ (headers : Headers) (op : Operation) (x y : RecData) where
     by_built true is = where_built (run headers (sort_in y)) refl is
     by_built false is = sym (whole-no headers unbuilt_form built from_values gives is)
 
-    pub operation-first : first_outcome headers op x y s ≡ asked headers (Some (operation op x y))
+    operation-first : first_outcome headers op x y s ≡ asked headers (Some (operation op x y))
     unfolding first_outcome
     operation-first = by_built (is_built x s) by_first
 
@@ -134,3 +134,11 @@ module _ (headers : Headers) (op : Operation) (x y : RecData) where
       sym (whole-lacks headers unbuilt_form built from_values gives d
       (run-then-Lacks headers (by_sort x (is_built x)) (λ yes. if yes then by_sort y (is_built y) else Done false) d
       (run-then-Lacks headers (sort_in x) (λ s. Done (is_built x s)) d lacks)))
+
+  -- what the code finds, from a test on
+  pub values-yes : (s t : Sort) (o : OutcomeData RecData) → Decided true ≡ run headers (match_by x y s t) → o ≡ matched_outcome op x y s t → o ≡ values_outcome headers op x y s t
+  unfolding values_outcome
+  values-yes s t o holds is = is ∙ ap (λ a. by_answer mismatched_operands a (matched_outcome op x y s t)) holds
+
+  pub operation-told : (s : Sort) (o : OutcomeData RecData) → run headers (sort_in x) ≡ Decided s → o ≡ first_outcome headers op x y s → o ≡ asked headers (Some (operation op x y))
+  operation-told s o first is = is ∙ operation-first s first

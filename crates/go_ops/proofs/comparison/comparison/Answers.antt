@@ -1,15 +1,12 @@
 use Rattle.std.proofs.Common.{◌≡◌, ◌&&◌, true, false, sym, ◌∙◌}
 use Rattle.std.proofs.lemmas.Result.{IfOk-weaker}
-use Rattle.go_module.specs.Rules.{unbuilt_form}
 use Rattle.go_model.specs.Outcomes.Records.{rec_as}
-use Rattle.go_ops.specs.ComparisonStages.{built_comparison, whole_comparison}
+use Rattle.go_model.specs.Outcomes.View.{outcome_as}
 use Rattle.go_ops.specs.Comparisons.{is_constant_or_no_value}
-use Rattle.go_ops.specs.Refusals.{by_whole}
-use Rattle.go_ops.proofs.ComparisonLemmas.{comparison-is}
+use Rattle.go_ops.proofs.ComparisonLemmas.{comparison-told}
 use Rattle.go_ops.proofs.comparison.comparison.Goals as goal
 
 pub returns-then-are_built-clause-outcome : goal.returns-then-are_built-clause-outcome
-unfolding whole_comparison
 returns-then-are_built-clause-outcome g c =
     let old = c.args.judge.now in
     let headers = g.J.Ask.headers old in
@@ -18,11 +15,10 @@ returns-then-are_built-clause-outcome g c =
     let y = rec_as tree c.args.y.now in
     let built : true ≡ (is_constant_or_no_value x && is_constant_or_no_value y) = sym c.if-are_built.true ∙ c.are_built.ensures in
     IfOk-weaker c.of_built.result _ _
-    (λ outcome is. is ∙ (λ i. by_whole unbuilt_form (built i) (built_comparison headers c.args.op x y)) ∙ comparison-is headers c.args.op x y)
+    (λ outcome. comparison-told headers c.args.op x y true (outcome_as (g.J.Ask.tree c.of_built.new.judge) outcome) built)
     c.of_built.ensures.outcome
 
 pub returns-else-are_built-clause-outcome : goal.returns-else-are_built-clause-outcome
-unfolding whole_comparison
 returns-else-are_built-clause-outcome g c =
     let old = c.args.judge.now in
     let headers = g.J.Ask.headers old in
@@ -31,5 +27,5 @@ returns-else-are_built-clause-outcome g c =
     let y = rec_as tree c.args.y.now in
     let unbuilt : false ≡ (is_constant_or_no_value x && is_constant_or_no_value y) = sym c.if-are_built.false ∙ c.are_built.ensures in
     IfOk-weaker c.broken.result _ _
-    (λ outcome is. is ∙ (λ i. by_whole unbuilt_form (unbuilt i) (built_comparison headers c.args.op x y)) ∙ comparison-is headers c.args.op x y)
+    (λ outcome. comparison-told headers c.args.op x y false (outcome_as tree outcome) unbuilt)
     c.broken.ensures.outcome

@@ -1,12 +1,13 @@
 use Rattle.std.proofs.Common.{◌≡◌, sym, ap, ◌∙◌}
 use Rattle.std.proofs.lemmas.Result.{IfOk-weaker}
 use Rattle.go_model.specs.Outcomes.Records.{rec_as}
+use Rattle.go_model.specs.Outcomes.View.{outcome_as}
 use Rattle.go_model.specs.Values.Quests.{Decided, run}
 use Rattle.go_model.proofs.OwnDataLemmas.{rec_agrees}
 use Rattle.go_ops.specs.AskedSorts.{sort_as}
 use Rattle.go_ops.specs.Sorts.{sort_in}
 use Rattle.go_ops.specs.Stages.{first_outcome}
-use Rattle.go_ops.proofs.OperationLemmas.{operation-first, operation-waits}
+use Rattle.go_ops.proofs.OperationLemmas.{operation-told, operation-waits}
 use Rattle.go_ops.proofs.ReadyLemmas.{are-of}
 use Rattle.go_ops.proofs.operation.operation.Goals as goal
 
@@ -35,9 +36,8 @@ returns-in-Is-clause-outcome g c =
     let told : run headers (sort_in x) ≡ Decided c.in-Is.s = sym c.in_ok-s.ensures.sort ∙ ap sort_as c.in-Is.is in
     IfOk-weaker c.of_first.result _ _
     (λ outcome is.
-    is
-    ∙ (λ i. first_outcome (same i) c.args.op (first i) (second i) c.in-Is.s)
-    ∙ operation-first headers c.args.op x y c.in-Is.s told)
+    operation-told headers c.args.op x y c.in-Is.s (outcome_as (g.J.Ask.tree c.of_first.new.judge) outcome) told
+    (is ∙ (λ i. first_outcome (same i) c.args.op (first i) (second i) c.in-Is.s)))
     c.of_first.ensures.outcome
 
 pub returns-in-Unknown-clause-outcome : goal.returns-in-Unknown-clause-outcome
