@@ -1,9 +1,10 @@
 -- What operations on constants give, by the sort of the type that both have.
-use Rattle.std.proofs.Common.{◌≡◌, ℤ, pos, negsuc, ℕ, zero, suc, ◌&&◌, ◌||◌, Bool, true, false, Option, Some, None, if◌then◌else◌, length, refl, sym, ap, ◌∙◌, subst}
+use Rattle.std.proofs.Common.{◌≡◌, ℤ, ℕ, ◌&&◌, ◌||◌, Bool, true, false, List, Option, Some, None, if◌then◌else◌, length, refl, sym, ap, ◌∙◌, subst}
 use Rattle.std.specs.Prelude.{nat_le, not}
 use Rattle.go_base.specs.declared.ids.ObjId.{ObjId}
-use Rattle.go_num.specs.Arithmetic.{is_zero, limited}
 use Rattle.go_num.specs.Text.{most_text}
+use Rattle.go_num.specs.declared.arithmetic.IntOp.{IntOp}
+use Rattle.go_num.specs.declared.arithmetic.IntOp.TheVariants as I
 use Rattle.go_num.specs.declared.value.NumKind.{NumKind}
 use Rattle.go_num.specs.declared.value.NumKind.TheVariants as K
 use Rattle.go_num.specs.declared.value.Value.{Value}
@@ -14,13 +15,16 @@ use Rattle.go_model.specs.declared.rec.Mode.TheVariants as M
 use Rattle.go_model.specs.Outcomes.Operands.{is_constant_mode}
 use Rattle.go_model.specs.Outcomes.Records.{RecData}
 use Rattle.go_ops.specs.Constants.{constant_in}
+use Rattle.go_ops.specs.Limited.{IsGiven, IsGivenNothing}
 use Rattle.go_ops.specs.Matching.{common_sort, later}
-use Rattle.go_ops.specs.Operators.{has_no_quotient, is_boolean, is_by_zero, is_integer, is_numeric, is_text}
+use Rattle.go_ops.specs.Operators.{fit_found, has_no_quotient, is_boolean, is_by_zero, is_integer, is_numeric, is_text, of_values}
 use Rattle.go_ops.specs.Representable.{fit_of, fit_of_integer, fit_of_text, fit_of_truth}
 use Rattle.go_ops.specs.Stages.{are_of, both_divide, both_of}
 use Rattle.go_ops.specs.declared.fit.Fit.{Fit}
 use Rattle.go_ops.specs.declared.fit.Fit.TheVariants.{Differs, Fits, Long}
+use Rattle.go_ops.specs.declared.limits.Given.{Given}
 use Rattle.go_ops.specs.declared.operator.Operation.{Operation}
+use Rattle.go_ops.specs.declared.operator.Operation.TheVariants.{Arithmetic}
 use Rattle.go_ops.specs.declared.sort.Sort.{Sort}
 use Rattle.go_ops.specs.declared.sort.Sort.TheVariants as S
 use Rattle.go_ops.proofs.MatchingLemmas.{common-of}
@@ -91,12 +95,6 @@ kinds-agree None w s t first second = refl
 
 -- DIVISORS
 
--- zero is within the limits
-pub zero-limited : (z : ℤ) → limited z ≡ None → is_zero z ≡ false
-zero-limited (pos zero) is = absurd (let never : Some (pos zero) ≡ None = is in cc)
-zero-limited (pos (suc n)) is = refl
-zero-limited (negsuc n) is = refl
-
 no_quotient : (q i : Bool) → (q && (i || true)) ≡ false → not q ≡ true
 no_quotient true true is = absurd (let never : true ≡ false = is in cc)
 no_quotient true false is = absurd (let never : true ≡ false = is in cc)
@@ -116,3 +114,18 @@ by_mode op mode type value object span w s is = refl
 -- two constants of which R7 does not stand have a quotient where one is asked
 pub quotient-there : (op : Operation) (x y : RecData) (s : Sort) → is_by_zero op x y s ≡ false → both_divide op (constant_in x) (constant_in y) ≡ true
 quotient-there op x y s is = by_mode op x.mode x.type x.value x.object x.span (constant_in y) s is
+
+-- WITHOUT A VALUE
+
+-- a string and a constant of another kind have none together
+pub text-integer : (op : IntOp) (s : Sort) (a : List ℕ) (b : ℤ) → of_values (Arithmetic op) s (V.Text a) (V.Int b) ≡ None
+text-integer I.Add s a b = refl
+text-integer op s a b = refl
+
+pub text-truth : (op : IntOp) (s : Sort) (a : List ℕ) (b : Bool) → of_values (Arithmetic op) s (V.Text a) (V.Bool b) ≡ None
+text-truth I.Add s a b = refl
+text-truth op s a b = refl
+
+-- constants that have no value together give none
+pub nothing-given : (given : Given) (op : Operation) (s : Sort) (a b : Value) → IsGivenNothing given → of_values op s a b ≡ None → IsGiven given (fit_found (of_values op s a b) s) (of_values op s a b)
+nothing-given given op s a b nothing is = subst (λ (v : Option Value). IsGiven given (fit_found v s) v) (sym is) (nothing None)

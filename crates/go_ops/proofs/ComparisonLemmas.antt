@@ -1,5 +1,5 @@
 -- What the tests of a comparison come to, by the sorts of its operands.
-use Rattle.std.proofs.Common.{◌≡◌, ◌&&◌, Bool, Option, Some, None, List, [], ◌∷◌, refl, sym, ap, ◌∙◌}
+use Rattle.std.proofs.Common.{◌≡◌, ◌&&◌, Bool, true, Option, Some, None, List, [], ◌∷◌, refl, sym, ap, ◌∙◌}
 use Rattle.go_module.specs.Rules.{unbuilt_form}
 use Rattle.go_num.specs.declared.comparisons.CmpOp.{CmpOp}
 use Rattle.go_model.specs.Outcomes.Judged.{OutcomeData, RuleTest, asked, tested}
@@ -51,23 +51,37 @@ module _ (headers : Headers) (op : CmpOp) (x y : RecData) where
         ∙ ap (by_two constant_overflow (not_overflows (given_fit x s t)) (not_overflows (given_fit y t s))) kept_is
 
     compared_is : tested headers from_compared gives ≡ matched_comparison op x y s t
+    unfolding matched_comparison
     compared_is =
         whole-by headers incomparable_operands (by_sorts x y (λ s t. compares op (common_sort s t))) from_fitting gives (compares op (common_sort s t))
         (sorts-told headers x y s t decided (λ s t. compares op (common_sort s t)))
         ∙ ap (by_whole incomparable_operands (compares op (common_sort s t))) fitting_is
 
     matched_is : tested headers from_matched gives ≡ sorts_comparison headers op x y s t
+    unfolding sorts_comparison
     matched_is = matched-by headers x y s t decided from_compared gives ∙ ap (by_answer mismatched_operands (run headers (match_by x y s t))) compared_is
 
   values_is : (a : Asked (Sort × Sort)) → run headers (sorts_of x y) ≡ a → tested headers from_matched gives ≡ values_comparison headers op x y a
+  unfolding values_comparison
   values_is (Decided pair) is = matched_is pair.0 pair.1 is
   values_is (Lacks d) is =
       whole-lacks headers mismatched_operands (then_ask (sorts_of x y) (λ pair. match_by x y pair.0 pair.1)) from_compared gives d
       (run-then-Lacks headers (sorts_of x y) (λ pair. match_by x y pair.0 pair.1) d is)
 
-  pub comparison-is : whole_comparison headers op x y ≡ asked headers (Some (comparison op x y))
+  comparison-is : whole_comparison headers op x y ≡ asked headers (Some (comparison op x y))
+  unfolding whole_comparison built_comparison
   comparison-is =
       let both = is_constant_or_no_value x && is_constant_or_no_value y in
       sym (whole-by headers unbuilt_form (Done both) from_values gives both refl
       ∙ ap (by_whole unbuilt_form both)
       (sym (two-refused headers from_matched gives x y) ∙ ap (or_later (two_refused x y)) (values_is (run headers (sorts_of x y)) refl)))
+
+  -- what the code finds, from a test on
+  pub sorts-yes : (s t : Sort) (o : OutcomeData RecData) → Decided true ≡ run headers (match_by x y s t) → o ≡ matched_comparison op x y s t → o ≡ sorts_comparison headers op x y s t
+  unfolding sorts_comparison
+  sorts-yes s t o holds is = is ∙ ap (λ a. by_answer mismatched_operands a (matched_comparison op x y s t)) holds
+
+  pub comparison-told : (b : Bool) (o : OutcomeData RecData) → b ≡ (is_constant_or_no_value x && is_constant_or_no_value y)
+      → o ≡ by_whole unbuilt_form b (built_comparison headers op x y) → o ≡ asked headers (Some (comparison op x y))
+  unfolding whole_comparison
+  comparison-told b o built is = is ∙ ap (λ c. by_whole unbuilt_form c (built_comparison headers op x y)) built ∙ comparison-is

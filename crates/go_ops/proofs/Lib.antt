@@ -18,3 +18,4 @@ pub mod ComparisonLemmas
 pub mod NoTypeLemmas
 pub mod OperationLemmas
 pub mod StageLemmas
+pub mod ReadyLemmas

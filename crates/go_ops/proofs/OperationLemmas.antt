@@ -90,15 +90,18 @@ module _ (headers : Headers) (op : Operation) (x y : RecData) where
         ∙ ap (by_part division_by_zero (Part 1) (not (is_by_zero op x y c))) divided_is
 
     defined_is : tested headers from_defined gives ≡ matched_outcome op x y s t
+    unfolding matched_outcome
     defined_is =
         whole-by headers undefined_binary (by_sorts x y (λ s t. is_defined_on op (common_sort s t))) from_zero gives (is_defined_on op c)
         (sorts-told headers x y s t decided (λ s t. is_defined_on op (common_sort s t)))
         ∙ ap (by_whole undefined_binary (is_defined_on op c)) zero_is
 
     matched_is : tested headers from_matched gives ≡ values_outcome headers op x y s t
+    unfolding values_outcome
     matched_is = matched-by headers x y s t decided from_defined gives ∙ ap (by_answer mismatched_operands (run headers (match_by x y s t))) defined_is
 
     values_is : tested headers from_values gives ≡ built_outcome headers op x y s t
+    unfolding built_outcome
     values_is = sym (two-refused headers from_matched gives x y) ∙ ap (or_later (two_refused x y)) matched_is
 
   -- U0, where the sort of the first operand is decided
@@ -110,6 +113,7 @@ module _ (headers : Headers) (op : Operation) (x y : RecData) where
 
     where_built : (a : Asked Sort) → run headers (sort_in y) ≡ a → run headers built ≡ run headers (by_sort y (is_built y))
         → second_outcome headers op x y s a ≡ tested headers (at_whole unbuilt_form built ∷ from_values) gives
+    unfolding second_outcome
     where_built (Decided t) second is =
         sym (whole-by headers unbuilt_form built from_values gives (is_built y t) (is ∙ run-then headers (sort_in y) (λ t. Done (is_built y t)) t second)
         ∙ ap (by_whole unbuilt_form (is_built y t)) (values_is s t (both-decided headers x y s t first second)))
@@ -121,7 +125,8 @@ module _ (headers : Headers) (op : Operation) (x y : RecData) where
     by_built true is = where_built (run headers (sort_in y)) refl is
     by_built false is = sym (whole-no headers unbuilt_form built from_values gives is)
 
-    pub operation-first : first_outcome headers op x y s ≡ asked headers (Some (operation op x y))
+    operation-first : first_outcome headers op x y s ≡ asked headers (Some (operation op x y))
+    unfolding first_outcome
     operation-first = by_built (is_built x s) by_first
 
   pub operation-waits : (d : ℕ) → run headers (sort_in x) ≡ Lacks d → Waits d ≡ asked headers (Some (operation op x y))
@@ -129,3 +134,11 @@ module _ (headers : Headers) (op : Operation) (x y : RecData) where
       sym (whole-lacks headers unbuilt_form built from_values gives d
       (run-then-Lacks headers (by_sort x (is_built x)) (λ yes. if yes then by_sort y (is_built y) else Done false) d
       (run-then-Lacks headers (sort_in x) (λ s. Done (is_built x s)) d lacks)))
+
+  -- what the code finds, from a test on
+  pub values-yes : (s t : Sort) (o : OutcomeData RecData) → Decided true ≡ run headers (match_by x y s t) → o ≡ matched_outcome op x y s t → o ≡ values_outcome headers op x y s t
+  unfolding values_outcome
+  values-yes s t o holds is = is ∙ ap (λ a. by_answer mismatched_operands a (matched_outcome op x y s t)) holds
+
+  pub operation-told : (s : Sort) (o : OutcomeData RecData) → run headers (sort_in x) ≡ Decided s → o ≡ first_outcome headers op x y s → o ≡ asked headers (Some (operation op x y))
+  operation-told s o first is = is ∙ operation-first s first

@@ -37,20 +37,20 @@ module _ (op : CmpOp) (x y : RecData) (s t : Sort) where
   fitting_comparison = by_two constant_overflow (not_overflows (given_fit x s t)) (not_overflows (given_fit y t s)) kept_comparison
 
   -- from R6 on
-  abbrev pub matched_comparison : OutcomeData RecData
+  unfoldable pub matched_comparison : OutcomeData RecData
   matched_comparison = by_whole incomparable_operands (compares op (common_sort s t)) fitting_comparison
 
 module _ (headers : Headers) (op : CmpOp) (x y : RecData) where
   -- from R4, from R1 on, and from U0 on
-  abbrev pub sorts_comparison : Sort → Sort → OutcomeData RecData
+  unfoldable pub sorts_comparison : Sort → Sort → OutcomeData RecData
   sorts_comparison s t = by_answer mismatched_operands (run headers (match_by x y s t)) (matched_comparison op x y s t)
 
-  abbrev pub values_comparison : Asked (Sort × Sort) → OutcomeData RecData
+  unfoldable pub values_comparison : Asked (Sort × Sort) → OutcomeData RecData
   values_comparison (Decided pair) = sorts_comparison pair.0 pair.1
   values_comparison (Lacks d) = Waits d
 
-  abbrev pub built_comparison : OutcomeData RecData
+  unfoldable pub built_comparison : OutcomeData RecData
   built_comparison = or_later (two_refused x y) (values_comparison (run headers (sorts_of x y)))
 
-  abbrev pub whole_comparison : OutcomeData RecData
+  unfoldable pub whole_comparison : OutcomeData RecData
   whole_comparison = by_whole unbuilt_form (is_constant_or_no_value x && is_constant_or_no_value y) built_comparison

@@ -90,21 +90,21 @@ module _ (op : Operation) (x y : RecData) (s t : Sort) where
   abbrev pub defined_outcome : OutcomeData RecData
   defined_outcome = by_part division_by_zero (Part 1) (not (is_by_zero op x y (common_sort s t))) divided_outcome
 
-  abbrev pub matched_outcome : OutcomeData RecData
+  unfoldable pub matched_outcome : OutcomeData RecData
   matched_outcome = by_whole undefined_binary (is_defined_on op (common_sort s t)) defined_outcome
 
 module _ (headers : Headers) (op : Operation) (x y : RecData) (s : Sort) where
   -- from R4, from R1 on
-  abbrev pub values_outcome : Sort → OutcomeData RecData
+  unfoldable pub values_outcome : Sort → OutcomeData RecData
   values_outcome t = by_answer mismatched_operands (run headers (match_by x y s t)) (matched_outcome op x y s t)
 
-  abbrev pub built_outcome : Sort → OutcomeData RecData
+  unfoldable pub built_outcome : Sort → OutcomeData RecData
   built_outcome t = or_later (two_refused x y) (values_outcome t)
 
   -- from U0 on, by the second operand, and by both
-  abbrev pub second_outcome : Asked Sort → OutcomeData RecData
+  unfoldable pub second_outcome : Asked Sort → OutcomeData RecData
   second_outcome (Decided t) = by_whole unbuilt_form (is_built y t) (built_outcome t)
   second_outcome (Lacks d) = Waits d
 
-  abbrev pub first_outcome : OutcomeData RecData
+  unfoldable pub first_outcome : OutcomeData RecData
   first_outcome = by_whole unbuilt_form (is_built x s) (second_outcome (run headers (sort_in y)))

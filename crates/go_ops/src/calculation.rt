@@ -2,7 +2,7 @@
 // "String concatenation").
 ghost use Rattle.std.specs.Prelude.{◌≡◌, ◌++◌, false, IfOk, int_rem, not, Some, true};
 ghost use Rattle.std.specs.Option.{option_map};
-ghost use Rattle.go_num.specs.Arithmetic.{binary_value, divides_by_zero, is_zero};
+ghost use Rattle.go_num.specs.Arithmetic.{binary_value, divides_by_zero, is_zero, limited};
 ghost use Rattle.go_num.specs.declared.arithmetic.IntOp.TheVariants as ops;
 ghost use Rattle.go_num.specs.declared.value.Value.TheVariants as values;
 ghost use Rattle.go_model.specs.Outcomes.Records.{rec_view};
@@ -39,7 +39,9 @@ pub(crate) fn calculated(
     ensures { IfOk result (λ given. IsGiven given (spec.fit_of_both op (rec_view x.now) (rec_view y.now) sort)
         (spec.value_of op (rec_view x.now) (rec_view y.now) sort)) }
 {
-    of_constants(alloc, op, constant_in(x), constant_in(y), sort)
+    let first = constant_in(x);
+    let second = constant_in(y);
+    of_constants(alloc, op, first, second, sort)
 }
 
 fn of_constants(
@@ -166,7 +168,15 @@ fn of_integers(op: IntOp, a: i128, b: i128, sort: Sort) -> Given
     requires divisor { divides_by_zero op b ≡ false }
     ensures { IsGiven result (fit_of_integer (binary_value op a b) sort) (Some (values.Int (binary_value op a b))) }
 {
-    integer_given(int_binary(op, a, b).ok(), sort)
+    integer_given(value_of(op, a, b), sort)
+}
+
+// The value, where it has at most 128 bits.
+fn value_of(op: IntOp, a: i128, b: i128) -> Option<i128>
+    requires { divides_by_zero op b ≡ false }
+    ensures { result ≡ limited (binary_value op a b) }
+{
+    int_binary(op, a, b).ok()
 }
 
 // Of strings.

@@ -1,10 +1,9 @@
 // Comparisons (Go specification, "Comparison operators", "Constant expressions").
-ghost use Rattle.std.specs.Prelude.{◌≡◌, IfOk, None, Some};
+ghost use Rattle.std.specs.Prelude.{◌≡◌, ◌&&◌, IfOk, None, Some};
+ghost use Rattle.std.specs.Bool.{xor};
 ghost use Rattle.std.specs.Option.{option_map};
-ghost use Rattle.go_term.specs.Types.{TypeData};
-ghost use Rattle.go_term.specs.declared.term.Term.{Term};
 ghost use Rattle.go_model.specs.Outcomes.Judged.{asked};
-ghost use Rattle.go_model.specs.Outcomes.Records.{rec_as};
+ghost use Rattle.go_model.specs.Outcomes.Records.{rec_as, rec_view};
 ghost use Rattle.go_model.specs.Outcomes.View.{outcome_as};
 ghost use Rattle.go_model.specs.Types.Own.{IsOwnOutcome, IsOwnRec, Keeps};
 ghost use Rattle.go_model.specs.Values.Quests.{run};
@@ -50,20 +49,28 @@ pub(crate) fn comparison<J: Judge>(
         (J.world judge.old) (J.world judge.new) (J.is_type judge.old) (J.is_type judge.new)
         (J.tree judge.old) (J.tree judge.new) }
 {
-    if is_constant_or_no_value(x) && is_constant_or_no_value(y) {
+    if are_built(x, y) {
         of_built(alloc, judge, op, x, y)
     } else {
         broken(alloc, judge, UNBUILT_FORM)
     }
 }
 
+// Whether U0 stands at no comparison of these operands.
+fn are_built(x: &Rec, y: &Rec) -> bool
+    ensures { result ≡ (spec.is_constant_or_no_value (rec_view x.now) && spec.is_constant_or_no_value (rec_view y.now)) }
+{
+    is_constant_or_no_value(x) && is_constant_or_no_value(y)
+}
+
 fn is_constant_or_no_value(r: &Rec) -> bool
-    ensures { (tree : Term → TypeData) → result ≡ spec.is_constant_or_no_value (rec_as tree r.now) }
+    ensures { result ≡ spec.is_constant_or_no_value (rec_view r.now) }
 {
     !is_value(r.mode) || is_constant(r.mode)
 }
 
 // Behind U0.
+#[tactic(auto, unfolding(crate::specs::ComparisonStages::built_comparison))]
 fn of_built<J: Judge>(
     alloc: Global,
     judge: &mut J,
@@ -88,6 +95,7 @@ fn of_built<J: Judge>(
 }
 
 // Of two single values.
+#[tactic(auto, unfolding(crate::specs::ComparisonStages::values_comparison))]
 fn of_values<J: Judge>(
     alloc: Global,
     judge: &mut J,
@@ -113,6 +121,7 @@ fn of_values<J: Judge>(
 }
 
 // By the sorts of both.
+#[tactic(auto, unfolding(crate::specs::ComparisonStages::sorts_comparison))]
 fn of_sorts<J: Judge>(
     alloc: Global,
     judge: &mut J,
@@ -140,6 +149,7 @@ fn of_sorts<J: Judge>(
 }
 
 // Behind R4.
+#[tactic(auto, unfolding(crate::specs::ComparisonStages::matched_comparison))]
 fn of_matched<J: Judge>(
     alloc: Global,
     judge: &mut J,
@@ -235,7 +245,9 @@ fn of_kept<J: Judge>(
         (J.tree judge.old) (J.tree judge.new) }
 {
     let ty = basic_type(alloc, judge, Basic::UntypedBool)?;
-    let value = compared_both(op, constant_in(x), constant_in(y));
+    let first = constant_in(x);
+    let second = constant_in(y);
+    let value = compared_both(op, first, second);
     Ok(Outcome::Found(record_of(judge, ty, value, None)))
 }
 
@@ -276,13 +288,19 @@ fn truths_compared(op: CmpOp, p: bool, q: bool) -> bool
     ensures { result ≡ spec.truths_compared op p q }
 {
     match op {
-        CmpOp::Ne => p != q,
-        CmpOp::Eq => p == q,
-        CmpOp::Lt => p == q,
-        CmpOp::Le => p == q,
-        CmpOp::Gt => p == q,
-        CmpOp::Ge => p == q,
+        CmpOp::Ne => differ(p, q),
+        CmpOp::Eq => !differ(p, q),
+        CmpOp::Lt => !differ(p, q),
+        CmpOp::Le => !differ(p, q),
+        CmpOp::Gt => !differ(p, q),
+        CmpOp::Ge => !differ(p, q),
     }
+}
+
+fn differ(p: bool, q: bool) -> bool
+    ensures { result ≡ xor p q }
+{
+    p != q
 }
 
 // Whether values of a type of this sort compare so.

@@ -1,11 +1,11 @@
 // What operators are defined on, and what of it is built (Go specification, "Arithmetic operators", "Logical operators",
 // "Integer operators").
-ghost use Rattle.std.specs.Prelude.{◌≡◌};
+ghost use Rattle.std.specs.Prelude.{◌≡◌, ◌||◌};
 ghost use Rattle.std.specs.Option.{option_map};
 ghost use Rattle.go_num.specs.Arithmetic.{divides_by_zero};
-ghost use Rattle.go_term.specs.Types.{TypeData};
-ghost use Rattle.go_term.specs.declared.term.Term.{Term};
-ghost use Rattle.go_model.specs.Outcomes.Records.{rec_as, rec_view};
+ghost use Rattle.go_model.specs.Outcomes.Operands as operands;
+ghost use Rattle.go_model.specs.Outcomes.Records.{rec_view};
+ghost use Rattle.go_ops.specs.Constants as constants;
 ghost use Rattle.go_ops.specs.Operators as spec;
 ghost use Rattle.go_ops.specs.declared.operator.Operation.TheVariants as operations;
 
@@ -19,7 +19,7 @@ use go_num::{IntOp, Value};
 
 /// Whether U0 stands at no operation with this operand, which has that sort.
 pub(crate) fn is_built(r: &Rec, s: Sort) -> bool
-    ensures { (tree : Term → TypeData) → result ≡ spec.is_built (rec_as tree r.now) s }
+    ensures { result ≡ spec.is_built (rec_view r.now) s }
 {
     !(is_value(r.mode) && (is_interface(s) || (is_untyped(s) && !is_constant(r.mode))))
 }
@@ -67,7 +67,21 @@ fn has_arithmetic(op: IntOp, s: Sort) -> bool
 pub(crate) fn is_by_zero(op: Operation, x: &Rec, y: &Rec, s: Sort) -> bool
     ensures { result ≡ spec.is_by_zero op (rec_view x.now) (rec_view y.now) s }
 {
-    has_no_quotient(op, constant_in(y)) && (is_integer(s) || is_constant(x.mode))
+    has_zero(op, y) && is_exact(x, s)
+}
+
+// Whether the second operand is a constant by which there is no quotient.
+fn has_zero(op: Operation, y: &Rec) -> bool
+    ensures { result ≡ spec.has_no_quotient op (constants.constant_in (rec_view y.now)) }
+{
+    has_no_quotient(op, constant_in(y))
+}
+
+// Whether a constant divisor must not be zero: of integers, and of constants.
+fn is_exact(x: &Rec, s: Sort) -> bool
+    ensures { result ≡ (spec.is_integer s || operands.is_constant (rec_view x.now)) }
+{
+    is_integer(s) || is_constant(x.mode)
 }
 
 fn has_no_quotient(op: Operation, v: Option<&Value>) -> bool

@@ -28,6 +28,7 @@ use std::alloc::Global;
 
 /// What an operation comes to whose operands match: R5 where the operator is not defined on them; R7; R8, U9, L2 and L3 at
 /// the constants and by what they give. An error is want of memory.
+#[tactic(auto, unfolding(crate::specs::Stages::matched_outcome))]
 pub(crate) fn of_matched<J: Judge>(
     alloc: Global,
     judge: &mut J,
@@ -206,7 +207,9 @@ fn of_kept<J: Judge>(
         (J.world judge.old) (J.world judge.new) (J.is_type judge.old) (J.is_type judge.new)
         (J.tree judge.old) (J.tree judge.new) }
 {
-    match (kind_of(s), kind_of(t)) {
+    let first = kind_of(s);
+    let second = kind_of(t);
+    match (first, second) {
         (Some(k), Some(l)) => of_untyped(alloc, judge, later(k, l), given),
         (Some(_), None) => of_type(alloc, judge, &y.ty, given),
         (None, Some(_)) => of_type(alloc, judge, &x.ty, given),

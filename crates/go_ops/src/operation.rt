@@ -81,6 +81,7 @@ fn of_first<J: Judge>(
 }
 
 // And behind U0 at it.
+#[tactic(auto, unfolding(crate::specs::Stages::second_outcome))]
 fn of_second<J: Judge>(
     alloc: Global,
     judge: &mut J,
@@ -137,6 +138,7 @@ fn of_sorts<J: Judge>(
 }
 
 // Behind U0.
+#[tactic(auto, unfolding(crate::specs::Stages::built_outcome))]
 fn of_built<J: Judge>(
     alloc: Global,
     judge: &mut J,
@@ -164,6 +166,7 @@ fn of_built<J: Judge>(
 }
 
 // Of two single values, from R4 on.
+#[tactic(auto, unfolding(crate::specs::Stages::values_outcome))]
 fn of_values<J: Judge>(
     alloc: Global,
     judge: &mut J,
