@@ -2,7 +2,11 @@
 #![tactic(auto)]
 
 #[cfg(test)]
+mod fit_rows;
+#[cfg(test)]
 mod number_operators;
+#[cfg(test)]
+mod operator_tokens;
 #[cfg(test)]
 mod operators;
 #[cfg(test)]

@@ -20,7 +20,7 @@ use crate::modes::{is_constant, is_value};
 use crate::operands::refused_two;
 use crate::rules::{CONSTANT_OVERFLOW, INCOMPARABLE_OPERANDS, MISMATCHED_OPERANDS, UNKEPT_FLOAT};
 use crate::sort::Sort;
-use crate::sort_tests::{is_boolean, is_numeric, is_text};
+use crate::sort_kinds::{is_boolean, is_numeric, is_text};
 use crate::sorts::{AskedSorts, sorts_of};
 use crate::types::basic_type;
 use go_base::NoMemory;

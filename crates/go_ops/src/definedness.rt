@@ -13,7 +13,7 @@ use crate::constants::constant_in;
 use crate::modes::{is_constant, is_value};
 use crate::operator::Operation;
 use crate::sort::Sort;
-use crate::sort_tests::{is_boolean, is_integer, is_numeric, is_text};
+use crate::sort_kinds::{is_boolean, is_integer, is_numeric, is_text};
 use go_model::Rec;
 use go_num::{IntOp, Value};
 

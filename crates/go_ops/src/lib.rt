@@ -12,7 +12,7 @@ mod rules;
 mod fit;
 mod operator;
 mod sort;
-mod sort_tests;
+mod sort_kinds;
 mod sorts;
 
 // Operands that are single values.
@@ -43,16 +43,10 @@ mod sign;
 mod source;
 mod unary_expr;
 
-// Tests.
-#[cfg(test)]
-mod fit_tests;
-#[cfg(test)]
-mod operator_tests;
-
 pub use binary_expr::{binary, binary_op};
 pub use fit::Fit;
 pub use operator::{BinaryOp, Operation, Sign, UnaryOp};
-pub use representability::{Represents, representable};
+pub use representability::{Represents, fit_of, representable};
 pub use rules::{
     CONSTANT_OVERFLOW, DIVISION_BY_ZERO, INCOMPARABLE_OPERANDS, INVALID_SHIFT, LONG_TEXT,
     MISMATCHED_OPERANDS, NO_ADDRESS, NO_POINTER, NO_RECEIVE, SEVERAL_VALUES, UNDEFINED_BINARY,

@@ -14,7 +14,7 @@ ghost use Rattle.go_ops.specs.MatchingParts.{answer_of, kind_of};
 use crate::fit::Fit;
 use crate::representability::fit_of;
 use crate::sort::Sort;
-use crate::sort_tests::is_number;
+use crate::sort_kinds::is_number;
 use go_base::NoMemory;
 use go_model::{Answer, Rec, Same};
 use go_num::{NumKind, Value};

@@ -44,8 +44,8 @@ pub fn representable<F: Forms>(
     }
 }
 
-/// How a constant fits a type of this sort.
-pub(crate) fn fit_of(v: &Value, sort: Sort) -> Fit
+/// How a constant fits a type of this sort (Go specification, "Representability").
+pub fn fit_of(v: &Value, sort: Sort) -> Fit
     ensures { result ≡ spec.fit_of v.now sort }
 {
     match v {

@@ -28,7 +28,7 @@ use crate::limits::{Given, integer_given, limited, no_value_given, none_given};
 use crate::operands::refused_two;
 use crate::rules::INVALID_SHIFT;
 use crate::sort::Sort;
-use crate::sort_tests::{is_integer, is_number};
+use crate::sort_kinds::{is_integer, is_number};
 use crate::sorts::{AskedSort, sort_in};
 use go_base::NoMemory;
 use go_model::{Judge, Outcome, Rec, broken};

@@ -24,7 +24,7 @@ use crate::operands::refused_one;
 use crate::operator::Sign;
 use crate::rules::UNDEFINED_UNARY;
 use crate::sort::Sort;
-use crate::sort_tests::{is_boolean, is_integer, is_numeric};
+use crate::sort_kinds::{is_boolean, is_integer, is_numeric};
 use crate::sorts::{AskedSort, sort_in};
 use go_base::NoMemory;
 use go_model::{Judge, Outcome, Rec, broken};

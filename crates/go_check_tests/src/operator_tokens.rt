@@ -1,6 +1,6 @@
 // Which operator a token is.
-use crate::{BinaryOp, Operation, Sign, UnaryOp, binary_op, unary_op};
 use go_num::{CmpOp, IntOp, UnOp};
+use go_ops::{BinaryOp, Operation, Sign, UnaryOp, binary_op, unary_op};
 use go_tree::TokenKind;
 use std::test::Fail;
 

@@ -1,8 +1,7 @@
 // How constants fit types, at the borders of each.
-use crate::representability::fit_of;
-use crate::{Fit, FloatType, Sort};
 use go_base::Bytes;
 use go_num::{IntType, NumKind, Value};
+use go_ops::{Fit, FloatType, Sort, fit_of};
 use std::test::Fail;
 
 #[test]
