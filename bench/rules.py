@@ -10,7 +10,7 @@ Of each row of the tables:
 - Each edit is one of a function's crate, and changes the function's file, the constant's, or one that the function's
   file imports from. No two crates have an edit of one name.
 - crates/go_rows/data/rules.txt has a row `CODE: ` for it, in the order of the tables, which runs the program, and one
-  row `CODE not: ` or more.
+  row `CODE not: ` or more; but for the rules that no program meets yet, whose table has no programs.
 Each definition and each constant of a rule is in the tables, but of those that are not told yet, and so is each code in what a row of go_rows/data wants.
 Prints what is wrong, and exits with 1 where something is.
 """
@@ -19,6 +19,8 @@ import collections, pathlib, re, sys
 ROOT = pathlib.Path(__file__).resolve().parent.parent
 CRATES = ROOT / 'crates'
 HEAD = ['Code', 'Phase', 'Place', 'Broken where', 'Definition', 'Number', 'Constant', 'Function', 'Edit', 'Program']
+# Of rules that no program meets yet.
+JUDGED = [column for column in HEAD if column not in ('Phase', 'Program')]
 CODE = r'[SMPCRINUL]\d+'
 NUMBER = re.compile(r'^ *(\w+) = record \{ family = ([A-Z]); number = (\d+) \}', re.M)
 CONSTANT = re.compile(r'^ *pub const (\w+): Rule = Rule \{\s*family: Family::([A-Z]),\s*number: (\d+),\s*\};', re.M)
@@ -54,20 +56,20 @@ def text_of(path):
     return path.read_text() if path.is_file() else ''
 
 
-def rows_of(table):
-    """The rows of the tables with the columns HEAD, each by its columns."""
+def rows_of(table, head):
+    """The rows of the tables with these columns, each by its columns."""
     rows, inside = [], False
     for line in table.splitlines():
         cells = [cell.strip() for cell in line.strip('|').split(' | ')] if line.startswith('|') else []
-        if cells == HEAD:
+        if cells == head:
             inside = True
         elif not cells:
             inside = False
         elif inside and not set(line) <= set('|-'):
-            if len(cells) != len(HEAD) or not all(cells) or not re.fullmatch(CODE, cells[0]):
+            if len(cells) != len(head) or not all(cells) or not re.fullmatch(CODE, cells[0]):
                 say('not a row of a rule: ' + line)
             else:
-                rows.append(dict(zip(HEAD, cells)))
+                rows.append(dict(zip(head, cells)))
     return rows
 
 
@@ -242,8 +244,9 @@ def check_codes_told(codes):
 def main():
     if sys.argv[1:] != ['--check']:
         sys.exit(__doc__)
-    rows = rows_of(text_of(ROOT / 'docs/RULES.md'))
-    checked = [check_row(row) for row in rows]
+    tables = text_of(ROOT / 'docs/RULES.md')
+    rows = rows_of(tables, HEAD)
+    checked = [check_row(row) for row in rows + rows_of(tables, JUDGED)]
     check_all_told({number for number, _ in checked}, 'specs', '.antt', NUMBER)
     check_all_told({constant for _, constant in checked}, 'src', '.rt', CONSTANT)
     codes = list(dict.fromkeys(row['Code'] for row in rows))
