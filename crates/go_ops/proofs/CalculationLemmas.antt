@@ -1,5 +1,5 @@
 -- What operations on constants give, by the sort of the type that both have.
-use Rattle.std.proofs.Common.{◌≡◌, ℤ, ℕ, ◌&&◌, ◌||◌, Bool, true, false, List, Option, Some, None, if◌then◌else◌, length, refl, sym, ap, ◌∙◌, subst}
+use Rattle.std.proofs.Common.{◌≡◌, ℤ, ℕ, ◌&&◌, ◌||◌, Bool, true, false, List, Option, Some, None, if◌then◌else◌, length, refl, sym, subst}
 use Rattle.std.specs.Prelude.{nat_le, not}
 use Rattle.go_base.specs.declared.ids.ObjId.{ObjId}
 use Rattle.go_num.specs.Text.{most_text}
@@ -20,7 +20,6 @@ use Rattle.go_ops.specs.Matching.{common_sort, later}
 use Rattle.go_ops.specs.Operators.{fit_found, has_no_quotient, is_boolean, is_by_zero, is_integer, is_numeric, is_text, of_values}
 use Rattle.go_ops.specs.Representable.{fit_of, fit_of_integer, fit_of_text, fit_of_truth}
 use Rattle.go_ops.specs.Stages.{are_of, both_divide, both_of}
-use Rattle.go_ops.specs.declared.fit.Fit.{Fit}
 use Rattle.go_ops.specs.declared.fit.Fit.TheVariants.{Differs, Fits, Long}
 use Rattle.go_ops.specs.declared.limits.Given.{Given}
 use Rattle.go_ops.specs.declared.operator.Operation.{Operation}

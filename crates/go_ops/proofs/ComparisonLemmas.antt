@@ -1,5 +1,5 @@
 -- What the tests of a comparison come to, by the sorts of its operands.
-use Rattle.std.proofs.Common.{◌≡◌, ◌&&◌, Bool, true, Option, Some, None, List, [], ◌∷◌, refl, sym, ap, ◌∙◌}
+use Rattle.std.proofs.Common.{◌≡◌, ◌&&◌, Bool, true, Some, List, [], ◌∷◌, refl, sym, ap, ◌∙◌}
 use Rattle.go_module.specs.Rules.{unbuilt_form}
 use Rattle.go_num.specs.declared.comparisons.CmpOp.{CmpOp}
 use Rattle.go_model.specs.Outcomes.Judged.{OutcomeData, RuleTest, asked, tested}
@@ -8,9 +8,8 @@ use Rattle.go_model.specs.Outcomes.Records.{HeaderData, RecData}
 use Rattle.go_model.specs.Outcomes.Walk.{Headers}
 use Rattle.go_model.specs.Values.Quests.{Asked, Decided, Done, Lacks, Quest, run, then_ask}
 use Rattle.go_model.proofs.QuestLemmas.{run-then-Lacks}
-use Rattle.go_ops.specs.ComparisonStages.{built_comparison, fitting_comparison, kept_comparison, matched_comparison, sorts_comparison, truth_outcome, values_comparison, whole_comparison}
-use Rattle.go_ops.specs.Comparisons.{compared_values, compares, comparison, is_constant_or_no_value}
-use Rattle.go_ops.specs.Constants.{constant_in, record_of}
+use Rattle.go_ops.specs.ComparisonStages.{built_comparison, fitting_comparison, kept_comparison, matched_comparison, sorts_comparison, values_comparison, whole_comparison}
+use Rattle.go_ops.specs.Comparisons.{compares, comparison, is_constant_or_no_value}
 use Rattle.go_ops.specs.Matching.{are_kept, are_matched, are_single, common_sort, given_fit, match_by, not_overflowing}
 use Rattle.go_ops.specs.Refusals.{by_two, by_whole, or_later, two_refused}
 use Rattle.go_ops.specs.Representable.{not_overflows, not_unkept}

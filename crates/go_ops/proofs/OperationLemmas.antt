@@ -1,5 +1,5 @@
 -- What the tests of an operation come to, by the sorts of its operands.
-use Rattle.std.proofs.Common.{◌≡◌, ℕ, Bool, true, false, Option, Some, None, List, [], ◌∷◌, if◌then◌else◌, refl, sym, ap, ◌∙◌, subst}
+use Rattle.std.proofs.Common.{◌≡◌, ℕ, Bool, true, false, Some, None, List, [], ◌∷◌, if◌then◌else◌, refl, sym, ap, ◌∙◌}
 use Rattle.std.specs.Prelude.{not}
 use Rattle.go_module.specs.Rules.{unbuilt_form}
 use Rattle.go_model.specs.declared.outcome.Spot.TheVariants.{Part}
@@ -18,7 +18,7 @@ use Rattle.go_ops.specs.Refusals.{by_part, by_two, by_whole, or_later, two_refus
 use Rattle.go_ops.specs.Representable.{not_overflows, not_unkept}
 use Rattle.go_ops.specs.Rules.{constant_overflow, division_by_zero, mismatched_operands, undefined_binary, unkept_float}
 use Rattle.go_ops.specs.Sorts.{by_sort, by_sorts, sort_in, sorts_of}
-use Rattle.go_ops.specs.Stages.{built_outcome, by_answer, defined_outcome, divided_outcome, first_outcome, fitting_outcome, given_outcome, kept_outcome, matched_outcome, second_outcome, values_outcome}
+use Rattle.go_ops.specs.Stages.{built_outcome, by_answer, defined_outcome, divided_outcome, first_outcome, fitting_outcome, kept_outcome, matched_outcome, second_outcome, values_outcome}
 use Rattle.go_ops.specs.declared.fit.Fit.{Fit}
 use Rattle.go_ops.specs.declared.operator.Operation.{Operation}
 use Rattle.go_ops.specs.declared.sort.Sort.{Sort}

@@ -1,14 +1,13 @@
 -- What is known of two honest operands whose sorts are decided.
 use Rattle.std.proofs.Common.{◌≡◌, Bool, true, false, Option, None, if◌then◌else◌, refl, sym, ap, ◌∙◌}
 use Rattle.std.specs.Option.{option_map}
-use Rattle.go_num.specs.declared.value.Value.{Value}
 use Rattle.go_term.specs.Types.{TypeData}
 use Rattle.go_term.specs.declared.term.Term.{Term}
 use Rattle.go_model.specs.declared.rec.Rec.{Rec}
 use Rattle.go_model.specs.Outcomes.Operands.{is_value}
 use Rattle.go_model.specs.Outcomes.Records.{RecData, rec_as}
 use Rattle.go_model.specs.Outcomes.Walk.{Headers}
-use Rattle.go_model.specs.Values.Quests.{Asked, Decided, Done, run}
+use Rattle.go_model.specs.Values.Quests.{Decided, Done, run}
 use Rattle.go_ops.specs.Honest.{IsHonest}
 use Rattle.go_ops.specs.Sorts.{sort_by, sort_in}
 use Rattle.go_ops.specs.Stages.{AreOf, constant_of}

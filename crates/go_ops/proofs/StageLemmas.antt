@@ -1,5 +1,5 @@
 -- What tests on the sorts of two operands come to, where these are decided.
-use Rattle.std.proofs.Common.{◌≡◌, ℕ, Bool, true, false, Option, Some, None, List, [], ◌∷◌, ◌++◌, refl, ap, ◌∙◌}
+use Rattle.std.proofs.Common.{◌≡◌, ℕ, Bool, true, false, Option, None, List, [], ◌∷◌, ◌++◌, refl, ap, ◌∙◌}
 use Rattle.go_base.specs.declared.rule.Rule.{Rule}
 use Rattle.go_model.specs.declared.outcome.Spot.TheVariants.{Whole}
 use Rattle.go_model.specs.Outcomes.Judged.{OutcomeData, RuleTest, lack_or, rule_end, ruled, spot_if_no, tested}
@@ -8,10 +8,9 @@ use Rattle.go_model.specs.Outcomes.Records.{HeaderData, RecData}
 use Rattle.go_model.specs.Outcomes.Walk.{Headers}
 use Rattle.go_model.specs.Values.Quests.{Asked, Decided, Done, Lacks, Quest, run, then_ask}
 use Rattle.go_model.proofs.QuestLemmas.{run-then}
-use Rattle.go_ops.specs.Matching.{are_kept, are_matched, given, given_fit, match_by, not_overflowing}
+use Rattle.go_ops.specs.Matching.{are_matched, given, given_fit, match_by}
 use Rattle.go_ops.specs.Refusals.{by_two, by_whole}
-use Rattle.go_ops.specs.Representable.{not_overflows, not_unkept}
-use Rattle.go_ops.specs.Rules.{constant_overflow, mismatched_operands, unkept_float}
+use Rattle.go_ops.specs.Rules.{mismatched_operands}
 use Rattle.go_ops.specs.Sorts.{by_sorts, sort_in, sorts_of}
 use Rattle.go_ops.specs.Stages.{by_answer}
 use Rattle.go_ops.specs.declared.fit.Fit.{Fit}

@@ -1,12 +1,12 @@
 -- Comparison operators; Constant expressions (Go specification).
 -- Decides what is asked of `x op y` where op is a comparison: "Comparison operators compare two operands and yield an untyped
 -- boolean value." Own: until assignability is built, U0 stands at a comparison with a value that is no constant.
-use Rattle.std.specs.Prelude.{◌&&◌, ◌||◌, not, Bool, true, false, Option, Some, None, List, [], ◌∷◌}
+use Rattle.std.specs.Prelude.{◌&&◌, ◌||◌, not, Bool, Option, Some, None, [], ◌∷◌}
 use Rattle.std.specs.Bool.{xor}
 use Rattle.go_module.specs.Rules.{unbuilt_form}
 use Rattle.go_num.specs.Comparisons.{ints_compared, texts_compared}
 use Rattle.go_num.specs.declared.comparisons.CmpOp.{CmpOp}
-use Rattle.go_num.specs.declared.comparisons.CmpOp.TheVariants.{Eq, Ge, Gt, Le, Lt, Ne}
+use Rattle.go_num.specs.declared.comparisons.CmpOp.TheVariants.{Eq, Ne}
 use Rattle.go_num.specs.declared.value.Value.{Value}
 use Rattle.go_num.specs.declared.value.Value.TheVariants as V
 use Rattle.go_term.specs.Types.{basic_type}

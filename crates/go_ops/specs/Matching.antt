@@ -5,7 +5,7 @@
 -- strings, and two untyped operands match where both are integers or runes, or both of one kind. Which type both have then: "if the operands of a binary operation are
 -- different kinds of untyped constants, the operation and, for non-boolean operations, the result use the kind that appears
 -- later in this list: integer, rune, .."; own: there are no later ones.
-use Rattle.std.specs.Prelude.{◌&&◌, ◌||◌, not, Bool, true, false, Option, Some, None, List, [], ◌∷◌}
+use Rattle.std.specs.Prelude.{◌&&◌, not, Bool, true, false, Option, Some, None, List, [], ◌∷◌}
 use Rattle.go_base.specs.declared.rule.Rule.{Rule}
 use Rattle.go_num.specs.declared.value.NumKind.{NumKind}
 use Rattle.go_num.specs.declared.value.NumKind.TheVariants as K
@@ -18,7 +18,7 @@ use Rattle.go_model.specs.Outcomes.Judged.{RuleTest}
 use Rattle.go_model.specs.Outcomes.Operands.{at_each, at_whole, type_or_none}
 use Rattle.go_model.specs.Outcomes.Records.{HeaderData, RecData}
 use Rattle.go_model.specs.Types.TypeIdentity.{Test, identical}
-use Rattle.go_model.specs.Values.Quests.{Done, Quest, then_ask}
+use Rattle.go_model.specs.Values.Quests.{Done, then_ask}
 use Rattle.go_ops.specs.Representable.{fit_of, not_overflows, not_unkept}
 use Rattle.go_ops.specs.Rules.{constant_overflow, mismatched_operands, several_values, unkept_float}
 use Rattle.go_ops.specs.Sorts.{by_sorts, sorts_of}

@@ -1,7 +1,7 @@
 -- Arithmetic operators; Logical operators; String concatenation; Constant expressions (Go specification).
 -- Decides what is asked of `x op y` where op is no comparison and no shift. Own: until assignability is built, U0 stands at an
 -- operation with an operand whose underlying type is an interface, or with an untyped operand that is no constant.
-use Rattle.std.specs.Prelude.{ℤ, ◌&&◌, ◌||◌, ◌++◌, not, Bool, true, false, Option, Some, None, List, [], ◌∷◌, if◌then◌else◌, int_div, int_rem}
+use Rattle.std.specs.Prelude.{ℤ, ◌&&◌, ◌||◌, ◌++◌, not, Bool, true, false, Option, Some, None, [], ◌∷◌, if◌then◌else◌, int_div, int_rem}
 use Rattle.go_module.specs.Rules.{unbuilt_form}
 use Rattle.go_num.specs.Arithmetic.{binary_value, divides_by_zero, is_zero}
 use Rattle.go_num.specs.declared.arithmetic.IntOp.{IntOp}

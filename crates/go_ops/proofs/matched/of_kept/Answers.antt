@@ -1,4 +1,4 @@
-use Rattle.std.proofs.Common.{None, Option, Some, sym, ap, ◌∙◌}
+use Rattle.std.proofs.Common.{None, Some, sym, ap, ◌∙◌}
 use Rattle.std.proofs.lemmas.Result.{IfOk-weaker}
 use Rattle.go_num.specs.declared.value.NumKind.{NumKind}
 use Rattle.go_term.specs.Types.{TypeData, basic_type}
