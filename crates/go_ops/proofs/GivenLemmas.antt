@@ -1,4 +1,5 @@
--- Records that operators give, and when they are honest: what follows of the sorts of operands and of the tests on limits.
+-- Records that operators give, and when they are honest: what follows of the sorts of operands and of the tests on
+-- limits.
 use Rattle.std.proofs.Common.{◌≡◌, ℤ, ℕ, suc, ◌^◌, Bool, true, false, true≢false, Option, Some, None, [], refl, sym, ap, ◌∙◌}
 use Rattle.std.specs.Prelude.{unwrap_or}
 use Rattle.go_base.specs.declared.ids.ObjId.{ObjId}

@@ -29,7 +29,8 @@ type-by x y s t o u first second =
     (λ i. by_kinds (λ k l. basic_type (untyped_basic (later k l))) (λ k. type_or_none y) (λ l. type_or_none x) (type_or_none x) (first i) (second i))
     ∙ sym (type_kinds x y s t)
 
--- what holds of the sorts of both, and of the later of two kinds where of both, holds of the sort of the type that both have
+-- what holds of the sorts of both, and of the later of two kinds where of both, holds of the sort of the type that both
+-- have
 pub common-of : (P : Sort → Bool) → ((k l : NumKind) → P (S.Untyped k) ≡ true → P (S.Untyped l) ≡ true → P (S.Untyped (later k l)) ≡ true)
     → (s t : Sort) → P s ≡ true → P t ≡ true → P (common_sort s t) ≡ true
 common-of P both (S.Untyped k) (S.Untyped l) p q = both k l p q

@@ -1,7 +1,8 @@
 -- Receive operator (Go specification).
--- Decides what is asked of `<-x`: "For an operand ch whose core type is a channel, the value of the receive operation <-ch is the
--- value received from the channel ch. The channel direction must permit receive operations, and the type of the receive
--- operation is the element type of the channel." Core types are underlying types, as long as there are no type parameters.
+-- Decides what is asked of `<-x`: "For an operand ch whose core type is a channel, the value of the receive operation
+-- <-ch is the value received from the channel ch. The channel direction must permit receive operations, and the type of
+-- the receive operation is the element type of the channel." Core types are underlying types, as long as there are no
+-- type parameters.
 use Rattle.std.specs.Prelude.{is_some, Bool, true, false, Option, Some, None, [], ◌∷◌, if◌then◌else◌, unwrap_or}
 use Rattle.go_term.specs.Types.{TypeData, channel, made, more_parts, no_parts}
 use Rattle.go_term.specs.declared.term.Dir.{Dir}

@@ -1,6 +1,7 @@
 -- Comparison operators; Constant expressions (Go specification).
--- Decides what is asked of `x op y` where op is a comparison: "Comparison operators compare two operands and yield an untyped
--- boolean value." Own: until assignability is built, U0 stands at a comparison with a value that is no constant.
+-- Decides what is asked of `x op y` where op is a comparison: "Comparison operators compare two operands and yield an
+-- untyped boolean value." Own: until assignability is built, U0 stands at a comparison with a value that is no
+-- constant.
 use Rattle.std.specs.Prelude.{◌&&◌, ◌||◌, not, Bool, Option, Some, None, [], ◌∷◌}
 use Rattle.std.specs.Bool.{xor}
 use Rattle.go_module.specs.Rules.{unbuilt_form}
@@ -25,8 +26,8 @@ use Rattle.go_ops.specs.declared.sort.Sort.{Sort}
 abbrev pub is_constant_or_no_value : RecData → Bool
 is_constant_or_no_value r = not (is_value r) || is_constant r
 
--- "Boolean types are comparable", "Integer types are comparable and ordered", "Floating-point types are comparable and ordered",
--- "String types are comparable and ordered"
+-- "Boolean types are comparable", "Integer types are comparable and ordered", "Floating-point types are comparable and
+-- ordered", "String types are comparable and ordered"
 abbrev pub compares_equal : Sort → Bool
 compares_equal s = is_numeric s || (is_text s || is_boolean s)
 

@@ -1,6 +1,6 @@
 -- Constants; Constant expressions (Go specification).
--- Decides what is asked of a constant that an operation gives, and the record that an operation has. "The values of typed
--- constants must always be accurately representable by values of the constant type."
+-- Decides what is asked of a constant that an operation gives, and the record that an operation has. "The values of
+-- typed constants must always be accurately representable by values of the constant type."
 use Rattle.std.specs.Prelude.{Option, Some, None, List, [], ◌∷◌, ℤ}
 use Rattle.go_num.specs.declared.value.Value.{Value}
 use Rattle.go_term.specs.Types.{TypeData}

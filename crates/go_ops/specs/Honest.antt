@@ -1,6 +1,6 @@
 -- Constants; Representability (Go specification).
--- Says which records operators take and give: a value stands exactly in that of a constant, which has a type that represents it
--- over these headers, so that it is of that type's kind and within the limits.
+-- Says which records operators take and give: a value stands exactly in that of a constant, which has a type that
+-- represents it over these headers, so that it is of that type's kind and within the limits.
 use Rattle.std.specs.Prelude.{◌≡◌, Some, is_some}
 use Rattle.go_num.specs.declared.value.Value.{Value}
 use Rattle.go_term.specs.Types.{TypeData}

@@ -1,6 +1,6 @@
 -- Constant expressions; Representability (Go specification).
--- What an operation comes to behind the tests on its operands, by how the constant fits that it gives, as the code finds
--- it (own). That the tests of R8, U9, L2 and L3 come to the same: `LimitLemmas`.
+-- What an operation comes to behind the tests on its operands, by how the constant fits that it gives, as the code
+-- finds it (own). That the tests of R8, U9, L2 and L3 come to the same: `LimitLemmas`.
 use Rattle.std.specs.Prelude.{◌≡◌, ℤ, Option, Some, None, List, [], ◌∷◌}
 use Rattle.go_num.specs.Arithmetic.{limited}
 use Rattle.go_num.specs.declared.value.NumKind.TheVariants as K

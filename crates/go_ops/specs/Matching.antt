@@ -1,10 +1,11 @@
 -- Operators; Constant expressions; Comparison operators (Go specification).
--- Decides which two operands match: "the operand types must be identical unless the operation involves shifts or untyped
--- constants". "If one operand is an untyped constant and the other operand is not, the constant is implicitly converted to the
--- type of the other operand"; own: an untyped constant matches a typed operand where both are boolean, both numbers or both
--- strings, and two untyped operands match where both are integers or runes, or both of one kind. Which type both have then: "if the operands of a binary operation are
--- different kinds of untyped constants, the operation and, for non-boolean operations, the result use the kind that appears
--- later in this list: integer, rune, .."; own: there are no later ones.
+-- Decides which two operands match: "the operand types must be identical unless the operation involves shifts or
+-- untyped constants". "If one operand is an untyped constant and the other operand is not, the constant is implicitly
+-- converted to the type of the other operand"; own: an untyped constant matches a typed operand where both are boolean,
+-- both numbers or both strings, and two untyped operands match where both are integers or runes, or both of one kind.
+-- Which type both have then: "if the operands of a binary operation are different kinds of untyped constants, the
+-- operation and, for non-boolean operations, the result use the kind that appears later in this list: integer, rune,
+-- .."; own: there are no later ones.
 use Rattle.std.specs.Prelude.{◌&&◌, not, Bool, true, false, Option, Some, None, List, [], ◌∷◌}
 use Rattle.go_base.specs.declared.rule.Rule.{Rule}
 use Rattle.go_num.specs.declared.value.NumKind.{NumKind}

@@ -1,6 +1,7 @@
 -- Arithmetic operators; Logical operators; String concatenation; Constant expressions (Go specification).
--- Decides what is asked of `x op y` where op is no comparison and no shift. Own: until assignability is built, U0 stands at an
--- operation with an operand whose underlying type is an interface, or with an untyped operand that is no constant.
+-- Decides what is asked of `x op y` where op is no comparison and no shift. Own: until assignability is built, U0
+-- stands at an operation with an operand whose underlying type is an interface, or with an untyped operand that is no
+-- constant.
 use Rattle.std.specs.Prelude.{ℤ, ◌&&◌, ◌||◌, ◌++◌, not, Bool, true, false, Option, Some, None, [], ◌∷◌, if◌then◌else◌, int_div, int_rem}
 use Rattle.go_module.specs.Rules.{unbuilt_form}
 use Rattle.go_num.specs.Arithmetic.{binary_value, divides_by_zero, is_zero}
@@ -64,8 +65,9 @@ is_boolean (S.Untyped K.Bool) = true
 is_boolean S.Bool = true
 is_boolean s = false
 
--- "+ sum: integers, floats, complex values, strings"; "- difference, * product, / quotient: integers, floats, complex values";
--- "% remainder, & bitwise AND, | bitwise OR, ^ bitwise XOR, &^ bit clear: integers"; "Logical operators apply to boolean values"
+-- "+ sum: integers, floats, complex values, strings"; "- difference, * product, / quotient: integers, floats, complex
+-- values"; "% remainder, & bitwise AND, | bitwise OR, ^ bitwise XOR, &^ bit clear: integers"; "Logical operators apply
+-- to boolean values"
 abbrev pub is_defined_on : Operation → Sort → Bool
 is_defined_on (Arithmetic Add) s = is_numeric s || is_text s
 is_defined_on (Arithmetic Sub) s = is_numeric s
@@ -81,8 +83,8 @@ abbrev pub has_no_quotient : Operation → Option Value → Bool
 has_no_quotient (Arithmetic op) (Some (V.Int b)) = divides_by_zero op b
 has_no_quotient op v = false
 
--- "If the divisor is a constant, it must not be zero", of integers, and "The divisor of a constant division or remainder
--- operation must not be zero"
+-- "If the divisor is a constant, it must not be zero", of integers, and "The divisor of a constant division or
+-- remainder operation must not be zero"
 abbrev pub is_by_zero : Operation → RecData → RecData → Sort → Bool
 is_by_zero op x y s = has_no_quotient op (constant_in y) && (is_integer s || is_constant x)
 
@@ -93,8 +95,8 @@ abbrev pub of_numbers : IntOp → Sort → ℤ → ℤ → Option Value
 of_numbers Quo (S.Float f) a b = if is_zero (int_rem a b) then Some (V.Int (int_div a b)) else None
 of_numbers op s a b = Some (V.Int (binary_value op a b))
 
--- "Strings can be concatenated using the + operator"; "&& conditional AND: p && q is "if p then q else false"", "|| conditional
--- OR: p || q is "if p then true else q""
+-- "Strings can be concatenated using the + operator"; "&& conditional AND: p && q is "if p then q else false"", "||
+-- conditional OR: p || q is "if p then true else q""
 abbrev pub of_values : Operation → Sort → Value → Value → Option Value
 of_values (Arithmetic op) s (V.Int a) (V.Int b) = of_numbers op s a b
 of_values (Arithmetic Add) s (V.Text a) (V.Text b) = Some (V.Text (a ++ b))

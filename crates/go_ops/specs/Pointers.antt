@@ -1,8 +1,8 @@
 -- Address operators; Pointer types (Go specification).
--- Decides what is asked of `&x` and `*x`: "For an operand x of type T, the address operation &x generates a pointer of type *T to
--- x. The operand must be addressable .. As an exception to the addressability requirement, x may also be a (possibly
--- parenthesized) composite literal." "For an operand x of pointer type *T, the pointer indirection *x denotes the variable of
--- type T pointed to by x."
+-- Decides what is asked of `&x` and `*x`: "For an operand x of type T, the address operation &x generates a pointer of
+-- type *T to x. The operand must be addressable .. As an exception to the addressability requirement, x may also be a
+-- (possibly parenthesized) composite literal." "For an operand x of pointer type *T, the pointer indirection *x denotes
+-- the variable of type T pointed to by x."
 use Rattle.std.specs.Prelude.{◌&&◌, ◌||◌, is_some, Bool, true, false, Option, Some, None, [], ◌∷◌, if◌then◌else◌, unwrap_or}
 use Rattle.go_term.specs.Types as types
 use Rattle.go_term.specs.Types.{TypeData, made, more_parts, no_parts, pointer}

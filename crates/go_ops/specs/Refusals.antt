@@ -1,4 +1,5 @@
--- What the code finds of rules that are asked of operands: the outcome of a node that breaks one, and nothing where they hold.
+-- What the code finds of rules that are asked of operands: the outcome of a node that breaks one, and nothing where
+-- they hold.
 use Rattle.std.specs.Prelude.{Bool, true, false, Option, Some, None, List, [], ◌∷◌, IfSome, unwrap_or}
 use Rattle.std.specs.Option.{option_map}
 use Rattle.go_base.specs.declared.rule.Rule.{Rule}
@@ -16,7 +17,8 @@ use Rattle.go_model.specs.Types.Own.{IsOwnOutcome}
 use Rattle.go_ops.specs.Matching.{is_single_type}
 use Rattle.go_ops.specs.Rules.{several_values}
 
--- a rule that is asked of the node as a whole, of its operand at a place, and of its first two: what comes later where it holds
+-- a rule that is asked of the node as a whole, of its operand at a place, and of its first two: what comes later where
+-- it holds
 abbrev pub by_whole : {R : Type 0} → Rule → Bool → OutcomeData R → OutcomeData R
 by_whole rule true later = later
 by_whole rule false later = Broken rule (Whole ∷ [])

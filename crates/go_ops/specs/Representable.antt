@@ -1,7 +1,7 @@
 -- Representability; Constants; Numeric types (Go specification).
--- Decides whether a type represents a constant: "A constant x is representable by a value of type T .. if x is in the set of
--- values determined by T". Own: a constant of a float type is a whole number that the type has without rounding together with
--- all smaller ones; an untyped integer is within 128 bits, and a string has at most 1,048,576 bytes.
+-- Decides whether a type represents a constant: "A constant x is representable by a value of type T .. if x is in the
+-- set of values determined by T". Own: a constant of a float type is a whole number that the type has without rounding
+-- together with all smaller ones; an untyped integer is within 128 bits, and a string has at most 1,048,576 bytes.
 use Rattle.std.specs.Prelude.{ℕ, ℤ, ◌^◌, Bool, true, false, if◌then◌else◌, is_some, length, nat_le, unsigned_abs}
 use Rattle.go_num.specs.Arithmetic.{limited}
 use Rattle.go_num.specs.Ranges.{fits}

@@ -1,8 +1,8 @@
 -- Operators; Integer operators; Constant expressions (Go specification).
--- Decides what is asked of a shift: "The right operand in a shift expression must have integer type or be an untyped constant
--- representable by a value of type uint. If the left operand of a non-constant shift expression is an untyped constant, it is
--- first implicitly converted to the type it would assume if the shift expression were replaced by its left operand alone." Own:
--- a shift of an untyped rune is an untyped rune.
+-- Decides what is asked of a shift: "The right operand in a shift expression must have integer type or be an untyped
+-- constant representable by a value of type uint. If the left operand of a non-constant shift expression is an untyped
+-- constant, it is first implicitly converted to the type it would assume if the shift expression were replaced by its
+-- left operand alone." Own: a shift of an untyped rune is an untyped rune.
 use Rattle.std.specs.Prelude.{ℤ, pos, negsuc, ◌&&◌, Bool, true, false, Option, Some, None, [], ◌∷◌}
 use Rattle.go_num.specs.Ranges.{fits}
 use Rattle.go_num.specs.Shifts.{shift_value}

@@ -16,7 +16,8 @@ use Rattle.go_ops.specs.Rules.{no_pointer, no_receive}
 use Rattle.go_ops.specs.declared.source.Source.{Source}
 use Rattle.go_ops.specs.declared.source.Source.TheVariants.{Channel, Pointer}
 
--- the rule that is broken where nothing is read, what stands for a value that is read, and its type by an underlying type
+-- the rule that is broken where nothing is read, what stands for a value that is read, and its type by an underlying
+-- type
 abbrev pub rule_of : Source → Rule
 rule_of Pointer = no_pointer
 rule_of Channel = no_receive

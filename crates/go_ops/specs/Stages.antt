@@ -57,8 +57,8 @@ value_of_values op s v w = given_values None (of_values op s) v w
 abbrev pub constant_of : Rec → Option Value
 constant_of r = constant_in (rec_view r)
 
--- two operands of these sorts: one without a type has none that operators are defined on, and constants are of the kind of
--- the type that both have then
+-- two operands of these sorts: one without a type has none that operators are defined on, and constants are of the kind
+-- of the type that both have then
 pub record AreOf (x y : Rec) (s t : Sort) : Type 0 where
   pub first : x.ty ≡ None → s ≡ S.Other
   pub second : y.ty ≡ None → t ≡ S.Other

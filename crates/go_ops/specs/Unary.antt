@@ -1,7 +1,6 @@
--- Operators; Arithmetic operators; Logical operators; Constant expressions (Go specification): "unary_op = "+" | "-" | "!" |
--- "^" | "*" | "&" | "<-" ."
--- Decides which operator a token is, and what is asked of `+x`, `-x`, `^x` and `!x`: "+x is 0 + x", "-x negation is 0 - x", "^x
--- bitwise complement", "! NOT: !p is "not p"".
+-- Operators; Arithmetic operators; Logical operators; Constant expressions (Go specification): "unary_op = "+" | "-" |
+-- "!" | "^" | "*" | "&" | "<-" ." Decides which operator a token is, and what is asked of `+x`, `-x`, `^x` and `!x`:
+-- "+x is 0 + x", "-x negation is 0 - x", "^x bitwise complement", "! NOT: !p is "not p"".
 use Rattle.std.specs.Prelude.{not, Bool, Option, Some, None, [], ◌∷◌}
 use Rattle.go_num.specs.Arithmetic.{unary_value}
 use Rattle.go_num.specs.declared.ranges.IntType.{IntType}

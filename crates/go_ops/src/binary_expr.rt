@@ -55,9 +55,9 @@ fn arithmetic(op: IntOp) -> BinaryOp
     BinaryOp::Operates(Operation::Arithmetic(op))
 }
 
-/// What `x op y` comes to by the records of x and y: its record, or the first of the operator's rules that it breaks, and
-/// where, or the first header that it waits for. It asks for a token that is a binary operator, and for records whose
-/// constants their types represent. An error is want of memory; the judge is as before, also on an error.
+/// What `x op y` comes to by the records of x and y: its record, or the first of the operator's rules that it breaks,
+/// and where, or the first header that it waits for. It asks for a token that is a binary operator, and for records
+/// whose constants their types represent. An error is want of memory; the judge is as before, also on an error.
 pub fn binary<J: Judge>(
     alloc: Global,
     judge: &mut J,

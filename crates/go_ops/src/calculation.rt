@@ -1,5 +1,5 @@
-// What operations on constants give (Go specification, "Constant expressions", "Arithmetic operators", "Logical operators",
-// "String concatenation").
+// What operations on constants give (Go specification, "Constant expressions", "Arithmetic operators", "Logical
+// operators", "String concatenation").
 ghost use Rattle.std.specs.Prelude.{◌≡◌, ◌++◌, false, IfOk, int_rem, not, Some, true};
 ghost use Rattle.std.specs.Option.{option_map};
 ghost use Rattle.go_num.specs.Arithmetic.{binary_value, divides_by_zero, is_zero, limited};

@@ -33,8 +33,8 @@ pub(crate) fn receive<J: Judge>(alloc: Global, judge: &mut J, a: &Rec) -> Result
     }
 }
 
-/// The type of what is received from a channel whose underlying type has this form; none where the form is no channel, or
-/// one for sending alone.
+/// The type of what is received from a channel whose underlying type has this form; none where the form is no channel,
+/// or one for sending alone.
 pub(crate) fn received_from<J: Judge>(judge: &J, shape: Shape) -> Option<Ty>
     requires { AreOwn (J.is_type judge.now) shape }
     ensures received { option_map (J.tree judge.now) result

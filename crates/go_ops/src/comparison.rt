@@ -30,8 +30,8 @@ use go_num::{CmpOp, Value, int_compare, text_compare};
 use go_term::Basic;
 use std::alloc::Global;
 
-/// A comparison by the records of its operands: U0 at a value that is no constant; R1, R2; R4 where they do not match; R6
-/// where they do not compare; R8 and U9 at the constants. An error is want of memory.
+/// A comparison by the records of its operands: U0 at a value that is no constant; R1, R2; R4 where they do not match;
+/// R6 where they do not compare; R8 and U9 at the constants. An error is want of memory.
 pub(crate) fn comparison<J: Judge>(
     alloc: Global,
     judge: &mut J,

@@ -1,5 +1,5 @@
-// What operators are defined on, and what of it is built (Go specification, "Arithmetic operators", "Logical operators",
-// "Integer operators").
+// What operators are defined on, and what of it is built (Go specification, "Arithmetic operators", "Logical
+// operators", "Integer operators").
 ghost use Rattle.std.specs.Prelude.{◌≡◌, ◌||◌};
 ghost use Rattle.std.specs.Option.{option_map};
 ghost use Rattle.go_num.specs.Arithmetic.{divides_by_zero};

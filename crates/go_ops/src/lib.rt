@@ -1,9 +1,9 @@
 //! What operators come to: the outcome of an operation by the records of its operands (Go specification, "Operators",
 //! "Constant expressions").
 //!
-//! `binary` and `unary` judge one node each over the headers that a judge knows; `representable` says how a constant fits a
-//! type. Each construct has a file of its own and a definition of its name in specs/. Which operands a node has, and when
-//! it is judged, is left to go_expr.
+//! `binary` and `unary` judge one node each over the headers that a judge knows; `representable` says how a constant
+//! fits a type. Each construct has a file of its own and a definition of its name in specs/. Which operands a node has,
+//! and when it is judged, is left to go_expr.
 #![tactic(auto)]
 
 mod rules;

@@ -1,4 +1,5 @@
-// Operations whose operands match (Go specification, "Arithmetic operators", "Logical operators", "Constant expressions").
+// Operations whose operands match (Go specification, "Arithmetic operators", "Logical operators", "Constant
+// expressions").
 ghost use Rattle.std.specs.Prelude.{◌≡◌, false, IfOk, IfSome, IsSome, None, true};
 ghost use Rattle.std.specs.Option.{option_map};
 ghost use Rattle.go_term.specs.Types.{basic_type};
@@ -26,8 +27,8 @@ use go_num::NumKind;
 use go_term::Ty;
 use std::alloc::Global;
 
-/// What an operation comes to whose operands match: R5 where the operator is not defined on them; R7; R8, U9, L2 and L3 at
-/// the constants and by what they give. An error is want of memory.
+/// What an operation comes to whose operands match: R5 where the operator is not defined on them; R7; R8, U9, L2 and L3
+/// at the constants and by what they give. An error is want of memory.
 #[tactic(auto, unfolding(crate::specs::Stages::matched_outcome))]
 pub(crate) fn of_matched<J: Judge>(
     alloc: Global,

@@ -58,8 +58,8 @@ fn refused_at_first<J: Judge>(
     Ok(Some(broken_at(alloc, judge, rule, Spot::Part(0))?))
 }
 
-/// The outcome of a node with these two operands where one of them is no single value: R1 at each that is no value, else
-/// R2 at each of several. An error is want of memory.
+/// The outcome of a node with these two operands where one of them is no single value: R1 at each that is no value,
+/// else R2 at each of several. An error is want of memory.
 pub(crate) fn refused_two<J: Judge>(
     alloc: Global,
     judge: &mut J,

@@ -1,5 +1,5 @@
-// Operations that are no comparison and no shift (Go specification, "Arithmetic operators", "Logical operators", "String
-// concatenation", "Constant expressions").
+// Operations that are no comparison and no shift (Go specification, "Arithmetic operators", "Logical operators",
+// "String concatenation", "Constant expressions").
 ghost use Rattle.std.specs.Prelude.{◌≡◌, IfOk, Some};
 ghost use Rattle.go_model.specs.Outcomes.Judged.{asked};
 ghost use Rattle.go_model.specs.Outcomes.Records.{rec_as};
@@ -24,9 +24,9 @@ use go_model::{Answer, Judge, Outcome, Rec, broken};
 use go_module::UNBUILT_FORM;
 use std::alloc::Global;
 
-/// An operation by the records of its operands: U0 where one is not built; R1, R2; R4 where they do not match; R5 where the
-/// operator is not defined on them; R7; R8, U9, L2 and L3 at the constants and by what they give. An error is want of
-/// memory.
+/// An operation by the records of its operands: U0 where one is not built; R1, R2; R4 where they do not match; R5 where
+/// the operator is not defined on them; R7; R8, U9, L2 and L3 at the constants and by what they give. An error is want
+/// of memory.
 pub(crate) fn operation<J: Judge>(
     alloc: Global,
     judge: &mut J,

@@ -20,9 +20,9 @@ use go_model::{DEEP_TYPE, Judge, LARGE_TYPE, Mode, Outcome, Rec, broken};
 use go_term::{Shape, TermFault, Ty};
 use std::alloc::Global;
 
-/// `&x`, where it is said whether x is a composite literal, parentheses aside: R1 or R2 where x is no single value, else
-/// R10 where it is neither addressable nor such a literal; L4 and L5 by the size of the pointer type. An error is want of
-/// memory.
+/// `&x`, where it is said whether x is a composite literal, parentheses aside: R1 or R2 where x is no single value,
+/// else R10 where it is neither addressable nor such a literal; L4 and L5 by the size of the pointer type. An error is
+/// want of memory.
 pub(crate) fn address<J: Judge>(
     alloc: Global,
     judge: &mut J,
@@ -97,8 +97,8 @@ fn is_addressable(mode: Mode) -> bool
     matches!(mode, Mode::Var)
 }
 
-/// `*x`: a pointer type where x is a type, L4 and L5 by its size; else R1 or R2 where x is no single value, and R11 where
-/// its underlying type is no pointer. An error is want of memory.
+/// `*x`: a pointer type where x is a type, L4 and L5 by its size; else R1 or R2 where x is no single value, and R11
+/// where its underlying type is no pointer. An error is want of memory.
 pub(crate) fn indirection<J: Judge>(
     alloc: Global,
     judge: &mut J,

@@ -20,8 +20,8 @@ pub const MISMATCHED_OPERANDS: Rule = Rule {
     number: 4,
 };
 
-/// A binary operator that is not defined on the type of its operands (Go specification, "Arithmetic operators", "Logical
-/// operators").
+/// A binary operator that is not defined on the type of its operands (Go specification, "Arithmetic operators",
+/// "Logical operators").
 pub const UNDEFINED_BINARY: Rule = Rule {
     family: Family::R,
     number: 5,

@@ -31,8 +31,8 @@ use go_model::{Judge, Outcome, Rec, broken};
 use go_num::{IntType, UnOp, Value, int_unary};
 use std::alloc::Global;
 
-/// A sign or a complement, by the record of its operand: R1, R2; R3 where the operator is not defined on it; R8 and L2 by
-/// the constant that it gives. An error is want of memory.
+/// A sign or a complement, by the record of its operand: R1, R2; R3 where the operator is not defined on it; R8 and L2
+/// by the constant that it gives. An error is want of memory.
 pub(crate) fn sign<J: Judge>(
     alloc: Global,
     judge: &mut J,

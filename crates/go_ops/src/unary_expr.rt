@@ -36,9 +36,9 @@ pub fn unary_op(token: TokenKind) -> Option<UnaryOp>
 }
 
 /// What `op x` comes to by the record of x, where it is said whether x is a composite literal, parentheses aside: its
-/// record, or the first of the operator's rules that it breaks, and where, or the first header that it waits for. It asks
-/// for a token that is a unary operator, and for a record whose constant its type represents. An error is want of memory;
-/// the judge is as before, also on an error.
+/// record, or the first of the operator's rules that it breaks, and where, or the first header that it waits for. It
+/// asks for a token that is a unary operator, and for a record whose constant its type represents. An error is want of
+/// memory; the judge is as before, also on an error.
 pub fn unary<J: Judge>(
     alloc: Global,
     judge: &mut J,
