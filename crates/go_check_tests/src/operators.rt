@@ -91,7 +91,7 @@ pub(crate) fn is_wanted(outcome: &Outcome, want: Want) -> bool {
             is_constant(rec, Basic::UntypedBool) && rec.value == Some(Value::Bool(truth))
         }
         (Outcome::Broken(rule, spots), Want::Breaks(broken, spot)) => {
-            *rule == broken && spots.as_slice() == [spot]
+            *rule == broken && spots.as_slice() == [spot].as_slice()
         }
         _ => false,
     }
