@@ -4,12 +4,10 @@
 #[cfg(test)]
 mod fit_rows;
 #[cfg(test)]
-mod number_operators;
+mod operator_rows;
 #[cfg(test)]
 mod operator_tokens;
 #[cfg(test)]
 mod operators;
-#[cfg(test)]
-mod other_operators;
 #[cfg(test)]
 mod tests;

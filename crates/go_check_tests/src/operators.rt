@@ -42,6 +42,21 @@ fn constant<J: Judge>(
     }
 }
 
+/// Whether `a op b` of two integer constants comes to what is wanted. An error is want of memory.
+pub(crate) fn of_numbers<J: Judge>(
+    alloc: Global,
+    judge: &mut J,
+    a: (Basic, i128),
+    op: TokenKind,
+    b: (Basic, i128),
+    want: Want,
+) -> Result<bool, NoMemory> {
+    let left = (a.0, Value::Int(a.1));
+    let right = (b.0, Value::Int(b.1));
+    let outcome = of_two(alloc, judge, op, left, right)?;
+    Ok(is_wanted(&outcome, want))
+}
+
 /// What `a op b` comes to of two constants; Nothing where one is none of its type, or the token no binary operator.
 pub(crate) fn of_two<J: Judge>(
     alloc: Global,
