@@ -6,8 +6,7 @@ use Rattle.std.proofs.lemmas.Bool.{eq-eqb}
 use Rattle.std.proofs.lemmas.List.{length-map}
 use Rattle.std.proofs.lemmas.Option.{get_or_from_slice_get, slice_get-map, slice_get_within}
 use Rattle.go_base.specs.declared.ids.ObjId.{ObjId}
-use Rattle.go_graph.specs.Graph.{Graph, HasEdge, start, further, IsGraph, is_marked, row_at}
-use Rattle.go_graph.specs.Graph.{Path as GraphPath}
+use Rattle.go_graph.specs.Graph.{Graph, HasEdge, start, further, IsGraph, is_marked, row_at, Path as GraphPath}
 use Rattle.go_module.specs.Names.Declarations.{Declaration, number_of, numbers_of}
 use Rattle.go_module.specs.declared.object.Method.{Method}
 use Rattle.go_module.proofs.MemberLemmas.{cons_cases, contains_head, contains_none}
@@ -17,8 +16,8 @@ use Rattle.go_cycles.specs.Places.{ArePlaces, mark_at, marked_by, placed_by}
 use Rattle.go_cycles.proofs.GraphLemmas.{declared_row, listed, row_declared}
 use Rattle.go_cycles.proofs.ListLemmas.{flat_cases, flat_contains}
 use Rattle.go_cycles.proofs.PlaceLemmas.{IsPlaced, declared_place, place_declared}
-use Rattle.go_model.specs.Outcomes.Records.{HeaderData, ParamData, alias, constant, definition, func, variable}
-use Rattle.go_model.specs.Outcomes.Walk.{Headers}
+use Rattle.go_judge.specs.Records.{HeaderData, ParamData, alias, constant, definition, func, variable}
+use Rattle.go_judge.specs.Headers.{Headers}
 use Rattle.go_model.specs.Values.ByValue.{Contained, Holds, held_in}
 use Rattle.go_by_value.specs.Holding.{graph_of, held_by, place_list, places_held}
 

@@ -8,8 +8,8 @@ use Rattle.go_graph.specs.Graph.{Graph}
 use Rattle.go_module.specs.Names.Declarations.{Declaration, number_of}
 use Rattle.go_term.specs.declared.shape.Shape.{Shape}
 use Rattle.go_term.specs.declared.shape.Shape.TheVariants.{Named}
-use Rattle.go_model.specs.Outcomes.Records.{HeaderData, definition}
-use Rattle.go_model.specs.Outcomes.Walk.{Headers}
+use Rattle.go_judge.specs.Records.{HeaderData, definition}
+use Rattle.go_judge.specs.Headers.{Headers}
 use Rattle.go_model.specs.Values.ByValue.{contained_at, held_in}
 
 -- the type itself, where a definition has it

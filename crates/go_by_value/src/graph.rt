@@ -4,8 +4,8 @@ ghost use Rattle.std.specs.List.{flat_map};
 ghost use Rattle.std.specs.Option.{option_map};
 ghost use Rattle.go_names.specs.Views.{declarations_view};
 ghost use Rattle.go_cycles.specs.Places.{placed_by};
-ghost use Rattle.go_model.specs.Outcomes.Records.{header_as};
-ghost use Rattle.go_model.specs.Types.Own.{IsOwnHeader, Keeps};
+ghost use Rattle.go_judge.specs.Records.{header_as};
+ghost use Rattle.go_judge.specs.Types.Own.{IsOwnHeader, Keeps};
 ghost use Rattle.go_by_value.specs.Holding.{graph_of, held_by, place_list, places_held};
 
 use crate::held::push_held;

@@ -2,7 +2,7 @@
 ghost use Rattle.std.specs.Prelude.{◌≡◌, ◌↔◌, ℕ, IfOk, true};
 ghost use Rattle.go_names.specs.Views.{declarations_view};
 ghost use Rattle.go_cycles.specs.Places.{ArePlaces, marked_by, placed_by};
-ghost use Rattle.go_model.specs.Types.Own.{Keeps};
+ghost use Rattle.go_judge.specs.Types.Own.{Keeps};
 ghost use Rattle.go_model.specs.Values.ByValue.{Contained};
 
 use crate::graph::graph_of;

@@ -3,7 +3,7 @@ ghost use Rattle.std.specs.Prelude.{◌≡◌, ◌++◌, ◌<◌, IfOk, OnOk, So
 ghost use Rattle.go_module.specs.Modules.Module.{PackageData, module_view, package_view};
 ghost use Rattle.go_names.specs.Views.{declaration_view, declarations_view};
 ghost use Rattle.go_cycles.specs.Places.{marked_by, placed_by};
-ghost use Rattle.go_model.specs.Types.Own.{Keeps};
+ghost use Rattle.go_judge.specs.Types.Own.{Keeps};
 ghost use Rattle.go_model.specs.Values.ByValue.{AreContained, contained_at};
 ghost use Rattle.go_by_value.specs.Holding.{broken_in};
 

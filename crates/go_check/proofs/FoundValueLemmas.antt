@@ -8,13 +8,15 @@ use Rattle.go_module.specs.Modules.Module.{ModuleData, PackageData}
 use Rattle.go_module.specs.Names.Declarations.{declarations_of}
 use Rattle.go_module.specs.Order.{IsListOf}
 use Rattle.go_model.specs.Obligations.Obliged.{Obliged}
-use Rattle.go_model.specs.Outcomes.Records.{HeaderData}
-use Rattle.go_model.specs.Outcomes.Walk.{Headers, outcome}
-use Rattle.go_model.specs.Outcomes.Walked.{AreWalked, Outcomes}
+use Rattle.go_judge.specs.Records.{HeaderData}
+use Rattle.go_judge.specs.Headers.{Headers, Outcomes}
+use Rattle.go_model.specs.Outcomes.Walk.{outcome}
+use Rattle.go_model.specs.Outcomes.Walked.{AreWalked}
 use Rattle.go_model.specs.Phases.{BreaksShapes, BreaksValues}
 use Rattle.go_model.specs.Values.ByValue.{AreContained, broken_contained}
 use Rattle.go_model.specs.Values.Headers.{Known}
-use Rattle.go_model.specs.Values.Meaning.{Naming, names_in}
+use Rattle.go_judge.specs.Naming.{Naming}
+use Rattle.go_model.specs.Values.Naming.{names_in}
 use Rattle.go_model.specs.Values.Rules.{broken_values}
 use Rattle.go_decl.specs.Broken.{AreBroken}
 

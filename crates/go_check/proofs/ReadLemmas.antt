@@ -7,12 +7,13 @@ use Rattle.go_tree.specs.Tree.{Tree, start_of}
 use Rattle.go_module.specs.Modules.Module.{FileData}
 use Rattle.go_module.specs.Names.Declarations.{Declaration, Spec, declarations_in, declared_in, name_text, number_of}
 use Rattle.go_operands.specs.Operands.{expressions_in_parts}
-use Rattle.go_model.specs.Values.Meaning.{Naming}
-use Rattle.go_model.specs.Outcomes.Judged.{OutcomeData}
+use Rattle.go_judge.specs.Naming.{Naming}
+use Rattle.go_judge.specs.Judged.{OutcomeData}
 use Rattle.go_model.specs.Outcomes.Readings.{record_in}
-use Rattle.go_model.specs.Outcomes.Records.{HeaderData, RecData}
-use Rattle.go_model.specs.Outcomes.Walk.{Headers, outcome}
-use Rattle.go_model.specs.Outcomes.Walked.{AreWalked, Outcomes}
+use Rattle.go_judge.specs.Records.{HeaderData, RecData}
+use Rattle.go_judge.specs.Headers.{Headers, Outcomes}
+use Rattle.go_model.specs.Outcomes.Walk.{outcome}
+use Rattle.go_model.specs.Outcomes.Walked.{AreWalked}
 use Rattle.go_model.specs.Outline.{Outline}
 use Rattle.go_model.specs.Members.{members_of}
 use Rattle.go_model.specs.PackageLines.{declaration_defs, def_by, expr_at, expr_by, expr_end, line_at, member_def, member_defs, member_defs_by, record_line, told_as, written}

@@ -9,8 +9,8 @@ use Rattle.go_module.specs.Modules.Module.{ModuleData, PackageData, module_view}
 use Rattle.go_model.specs.Phases.{AreReports, IsVerdict, all_told, skips, checks, imports_accepted, is_accepted, no_headers, package_report}
 use Rattle.go_model.specs.Report as report
 use Rattle.go_model.specs.Report.{VerdictData, skipped}
-use Rattle.go_model.specs.Outcomes.Walk.{Headers}
-use Rattle.go_model.specs.Values.HeadersView.{headers_view}
+use Rattle.go_judge.specs.Headers.{Headers}
+use Rattle.go_judge.specs.HeadersView.{headers_view}
 use Rattle.go_check.specs.declared.module.State.{State}
 use Rattle.go_check.specs.declared.names.Names.{Names}
 use Rattle.go_check.specs.Packages.Names.{ImportsSound, sound_at}

@@ -16,8 +16,9 @@ use Rattle.go_model.specs.Outline.{outline_of}
 use Rattle.go_model.specs.PackageLines.{AreLines}
 use Rattle.go_model.specs.Phases.{ArePackageLines, BreaksShapes, BreaksValues, IsVerdict, by_names, by_shapes, by_values, denoted_in, sound}
 use Rattle.go_model.specs.Report.{VerdictData, refused}
-use Rattle.go_model.specs.Values.Meaning.{names_in, no_names}
-use Rattle.go_model.specs.Outcomes.Walk.{Headers}
+use Rattle.go_model.specs.Values.Naming.{names_in}
+use Rattle.go_judge.specs.Naming.{no_names}
+use Rattle.go_judge.specs.Headers.{Headers}
 use Rattle.go_scope.specs.Collecting.{IsBrokenNames}
 use Rattle.go_cycles.specs.Shapes.{AreShapes, denoted_by}
 use Rattle.go_check.specs.Packages.Book.{home_at, names_at, scope_names}

@@ -5,7 +5,7 @@ ghost use Rattle.std.specs.List.{flat_map};
 ghost use Rattle.go_tree.specs.declared.node_kind.NodeKind.TheVariants as kinds;
 ghost use Rattle.go_tree.specs.Tree.{kind_of, start_of, tree_of};
 ghost use Rattle.go_module.specs.Modules.Module.{file_view};
-ghost use Rattle.go_model.specs.Outcomes.Records.{rec_view};
+ghost use Rattle.go_judge.specs.Records.{rec_view};
 ghost use Rattle.go_model.specs.PackageLines as rule;
 ghost use Rattle.go_model.specs.PackageLines.{expr_by};
 ghost use Rattle.go_model.specs.Report.{line_view};

@@ -1,7 +1,7 @@
 // Who judges the expressions of a module, by the headers that are known and the scopes of its packages.
 ghost use Rattle.std.specs.Prelude.{◌≡◌, false, refl};
-ghost use Rattle.go_model.specs.Outcomes.Walked.{no_outcomes};
-ghost use Rattle.go_model.specs.Values.HeadersView.{headers_view};
+ghost use Rattle.go_judge.specs.Headers.{no_outcomes};
+ghost use Rattle.go_judge.specs.HeadersView.{headers_view};
 ghost use Rattle.go_term.specs.View.{type_of};
 ghost use Rattle.go_check.specs.Packages.Book.{Standing, book_names, standing_of};
 

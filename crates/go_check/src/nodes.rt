@@ -4,7 +4,7 @@ ghost use Rattle.std.specs.List.{flat_map};
 ghost use Rattle.std.specs.Option.{option_map};
 ghost use Rattle.go_tree.specs.Tree.{tree_of};
 ghost use Rattle.go_operands.specs.Operands.{expressions_in, expressions_in_parts};
-ghost use Rattle.go_model.specs.Outcomes.Records.{rec_view};
+ghost use Rattle.go_judge.specs.Records.{rec_view};
 ghost use Rattle.go_model.specs.PackageLines as rule;
 ghost use Rattle.go_model.specs.Values.Records.{record_by};
 ghost use Rattle.go_names.specs.Views.{spec_view, specs_view, trees_at};

@@ -5,12 +5,13 @@ ghost use Rattle.go_module.specs.Modules.Module.{ModuleData, PackageData, module
 ghost use Rattle.go_module.specs.Names.Imports.{known_in};
 ghost use Rattle.go_module.specs.Names.Rules.BrokenNames.{broken_names};
 ghost use Rattle.go_model.specs.Outline.{outline_of};
-ghost use Rattle.go_model.specs.Outcomes.Walk.{Headers as Known};
+ghost use Rattle.go_judge.specs.Headers.{Headers as Known};
 ghost use Rattle.go_model.specs.Outcomes.Walked.{AreWalked, NodesAreNumbered, nodes_of};
 ghost use Rattle.go_model.specs.Phases as phases;
 ghost use Rattle.go_model.specs.Report.{verdict_view};
-ghost use Rattle.go_model.specs.Values.HeadersView.{headers_view};
-ghost use Rattle.go_model.specs.Values.Meaning.{AreThere, Naming, names_in};
+ghost use Rattle.go_judge.specs.HeadersView.{headers_view};
+ghost use Rattle.go_judge.specs.Naming.{AreThere, Naming};
+ghost use Rattle.go_model.specs.Values.Naming.{names_in};
 ghost use Rattle.go_expr.specs.Walker.{outcomes_view};
 ghost use Rattle.go_check.specs.Packages.Book.{book_names, denotes_by, names_at};
 ghost use Rattle.go_check.specs.Packages.Names.{AreNames, ImportsSound, sound_at};

@@ -1,9 +1,8 @@
 // Who judges the expressions of a module, walks over them, and is told the headers of its declarations.
 ghost use Rattle.std.specs.Prelude.{◌≡◌, ◌∷◌, [], ℕ, None, false, refl, OnErr, OnOk};
-ghost use Rattle.go_model.specs.Outcomes.Records.{header_view};
-ghost use Rattle.go_model.specs.Outcomes.Walked.{no_outcomes};
-ghost use Rattle.go_model.specs.Values.Headers.{headers_of};
-ghost use Rattle.go_model.specs.Values.HeadersView.{headers_view};
+ghost use Rattle.go_judge.specs.Records.{header_view};
+ghost use Rattle.go_judge.specs.Headers.{no_outcomes, headers_of};
+ghost use Rattle.go_judge.specs.HeadersView.{headers_view};
 ghost use Rattle.go_expr.specs.Walker.{outcomes_view};
 ghost use Rattle.go_term.specs.View.{type_of};
 ghost use Rattle.go_check.specs.Packages.Book.{Standing, book_names, standing_of};

@@ -3,8 +3,9 @@ ghost use Rattle.std.specs.Prelude.{◌≡◌, ◌↔◌, ◌<◌, [], ℕ, Some
 ghost use Rattle.go_module.specs.Modules.Module.{PackageData, module_view};
 ghost use Rattle.go_model.specs.Outcomes.Walked.{AreWalked, NodesAreNumbered, nodes_of};
 ghost use Rattle.go_model.specs.Phases.{BreaksShapes, BreaksValues};
-ghost use Rattle.go_model.specs.Values.HeadersView.{AreOwnHeaders, headers_as};
-ghost use Rattle.go_model.specs.Values.Meaning.{AreThere, names_in};
+ghost use Rattle.go_judge.specs.HeadersView.{AreOwnHeaders, headers_as};
+ghost use Rattle.go_judge.specs.Naming.{AreThere};
+ghost use Rattle.go_model.specs.Values.Naming.{names_in};
 
 use go_base::{Broken, NoMemory, Steps};
 use go_by_value::by_value;

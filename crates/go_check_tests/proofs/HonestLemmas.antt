@@ -4,16 +4,16 @@ use Rattle.std.specs.Prelude.{IfSome}
 use Rattle.go_num.specs.declared.value.Value.{Value}
 use Rattle.go_term.specs.Types.{TypeData}
 use Rattle.go_term.specs.declared.term.Term.{Term}
-use Rattle.go_model.specs.declared.rec.Mode.TheVariants as M
-use Rattle.go_model.specs.declared.rec.Rec.{Rec}
-use Rattle.go_model.specs.Outcomes.Records.{RecData, rec_as}
-use Rattle.go_model.specs.Outcomes.Walk.{Headers}
-use Rattle.go_model.specs.Types.Own.{IsOwnRec}
-use Rattle.go_model.specs.Values.Quests.{Decided, run}
-use Rattle.go_model.proofs.OwnDataLemmas.{rec_agrees}
-use Rattle.go_ops.specs.Honest.{IsHonest}
-use Rattle.go_ops.specs.Representable.{representable}
-use Rattle.go_ops.specs.declared.fit.Fit.TheVariants.{Fits}
+use Rattle.go_judge.specs.declared.rec.Mode.TheVariants as M
+use Rattle.go_judge.specs.declared.rec.Rec.{Rec}
+use Rattle.go_judge.specs.Records.{RecData, rec_as}
+use Rattle.go_judge.specs.Headers.{Headers}
+use Rattle.go_judge.specs.Types.Own.{IsOwnRec}
+use Rattle.go_judge.specs.Quests.{Decided, run}
+use Rattle.go_judge.proofs.OwnDataLemmas.{rec_agrees}
+use Rattle.go_constructs.specs.Operators.Honest.{IsHonest}
+use Rattle.go_constructs.specs.Operators.Representable.{representable}
+use Rattle.go_constructs.specs.declared.fit.Fit.TheVariants.{Fits}
 
 -- that of a constant which its type represents
 pub constant_is_honest : (headers : Headers) (type : TypeData) (value : Value) → run headers (representable value type) ≡ Decided Fits

@@ -1,8 +1,8 @@
 // What operators come to on constants of basic types, judged by a rulebook, where memory is ample.
 ghost use Rattle.std.specs.Prelude.{IfOk, IfSome};
-ghost use Rattle.go_model.specs.Outcomes.Records.{rec_as};
-ghost use Rattle.go_model.specs.Types.Own.{IsOwnRec, Keeps};
-ghost use Rattle.go_ops.specs.Honest.{IsHonest};
+ghost use Rattle.go_judge.specs.Records.{rec_as};
+ghost use Rattle.go_judge.specs.Types.Own.{IsOwnRec, Keeps};
+ghost use Rattle.go_constructs.specs.Operators.Honest.{IsHonest};
 
 use go_base::{NoMemory, Rule};
 use go_model::{Judge, Mode, Outcome, Rec, Spot};

@@ -4,15 +4,14 @@ use Rattle.std.specs.Prelude.{◌==◌, IfSome, if◌then◌else◌, is_some}
 use Rattle.std.specs.Option.{option_map}
 use Rattle.go_term.specs.Types.{TypeData}
 use Rattle.go_term.specs.declared.term.Term.{Term}
-use Rattle.go_model.specs.declared.header.Header.{Header}
-use Rattle.go_model.specs.declared.headers.Headers.{Headers as HeaderMap}
-use Rattle.go_model.specs.Outcomes.Records.{header_as}
-use Rattle.go_model.specs.Outcomes.Walk.{Headers}
-use Rattle.go_model.specs.Types.Own.{IsOwnHeader, KeepsTypes}
-use Rattle.go_model.specs.Values.Headers.{headers_of}
-use Rattle.go_model.specs.Values.HeadersView.{AreOwnHeaders, header_in, headers_as}
-use Rattle.go_model.proofs.HeadersViewLemmas.{headers_added, headers_agree, headers_stay_own, own_added}
-use Rattle.go_model.proofs.OwnDataLemmas.{header_agrees, header_stays_own}
+use Rattle.go_judge.specs.declared.header.Header.{Header}
+use Rattle.go_judge.specs.declared.headers.Headers.{Headers as HeaderMap}
+use Rattle.go_judge.specs.Records.{header_as}
+use Rattle.go_judge.specs.Headers.{Headers, headers_of}
+use Rattle.go_judge.specs.Types.Own.{IsOwnHeader, KeepsTypes}
+use Rattle.go_judge.specs.HeadersView.{AreOwnHeaders, header_in, headers_as}
+use Rattle.go_judge.proofs.HeadersViewLemmas.{headers_added, headers_agree, headers_stay_own, own_added}
+use Rattle.go_judge.proofs.OwnDataLemmas.{header_agrees, header_stays_own}
 
 -- whether rules have a header, by the map
 is_some-map : {A B : Type 0} (f : A → B) (o : Option A) → is_some (option_map f o) ≡ is_some o

@@ -12,7 +12,7 @@ use Rattle.go_module.specs.Names.Declarations.{Declaration, number_of, numbers_o
 use Rattle.go_module.specs.Scopes.{same_object}
 use Rattle.go_model.specs.Values.Declared.{declared_as}
 use Rattle.go_decl.specs.Places.{place_among}
-use Rattle.go_model.proofs.EntryLemmas.{found_behind, same_is}
+use Rattle.go_judge.proofs.EntryLemmas.{found_behind, same_is}
 
 -- the first place at which a test passes, element by element
 later : (c : Bool) (n : ℕ) → cond c (Some (suc n)) None ≡ option_map suc (cond c (Some n) None)

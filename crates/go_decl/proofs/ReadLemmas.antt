@@ -16,14 +16,15 @@ use Rattle.go_module.specs.Modules.Module.{PackageData}
 use Rattle.go_module.specs.Names.Declarations.{Declaration, Spec, by_itself, by_values, declarations_in, declarations_of, declared_by_kind, declared_in, pairs, rests_on, specs_of, with_list}
 use Rattle.go_operands.specs.Operands.{expressions_in, expressions_in_parts}
 use Rattle.go_module.proofs.MemberLemmas.{cons_cases, contains_head, contains_none, contains_tail}
-use Rattle.go_model.specs.Values.Meaning.{Naming}
-use Rattle.go_model.specs.Outcomes.Judged.{OutcomeData}
+use Rattle.go_judge.specs.Naming.{Naming}
+use Rattle.go_judge.specs.Judged.{OutcomeData}
 use Rattle.go_model.specs.Outcomes.Readings.{broken_spots, record_in}
-use Rattle.go_model.specs.Outcomes.Records.{RecData}
-use Rattle.go_model.specs.Outcomes.Constructs.Kinds.{no_type, no_value}
-use Rattle.go_model.specs.Outcomes.Operands.{is_constant, is_type}
-use Rattle.go_model.specs.Outcomes.Walk.{Headers, outcome}
-use Rattle.go_model.specs.Outcomes.Walked.{AreWalked, Outcomes, nodes_of}
+use Rattle.go_judge.specs.Records.{RecData}
+use Rattle.go_judge.specs.Kinds.{no_type, no_value}
+use Rattle.go_judge.specs.Operands.{is_constant, is_type}
+use Rattle.go_judge.specs.Headers.{Headers, Outcomes}
+use Rattle.go_model.specs.Outcomes.Walk.{outcome}
+use Rattle.go_model.specs.Outcomes.Walked.{AreWalked, nodes_of}
 use Rattle.go_model.specs.Values.Records.{header_by, header_over, record_by, record_of, tells_by, told_by}
 use Rattle.go_model.specs.Values.Rules.{broken_by, broken_in, broken_node, broken_spec, broken_spec_by, has_record, others_by, others_by_kind, unequal_at, unequal_by, unequal_by_kind, unequal_sides}
 use Rattle.go_model.proofs.FlatLemmas.{flat_cases, flat_contains, flat_map-same, map_cases, only_is}

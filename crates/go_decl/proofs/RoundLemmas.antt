@@ -7,16 +7,16 @@ use Rattle.go_base.specs.declared.ids.ObjId.{ObjId}
 use Rattle.go_term.specs.Types.{TypeData}
 use Rattle.go_term.specs.declared.term.Term.{Term}
 use Rattle.go_module.specs.Scopes.{same_object}
-use Rattle.go_model.specs.declared.header.Header.{Header}
+use Rattle.go_judge.specs.declared.header.Header.{Header}
 use Rattle.std.proofs.lemmas.Bool.{cases_eq, ne_eqb}
-use Rattle.go_model.specs.Values.Meaning.{Naming}
+use Rattle.go_judge.specs.Naming.{Naming}
 use Rattle.go_module.specs.Names.Declarations.{Declaration, number_of}
-use Rattle.go_model.specs.Outcomes.Records.{HeaderData, header_as}
-use Rattle.go_model.specs.Outcomes.Walk.{Headers}
+use Rattle.go_judge.specs.Records.{HeaderData, header_as}
+use Rattle.go_judge.specs.Headers.{Headers, headers_of}
 use Rattle.go_model.specs.Values.Declared.{declared_as}
 use Rattle.go_model.specs.Values.Records.{header_over}
-use Rattle.go_model.specs.Values.Headers.{headers_of, Justified, Follows, Known}
-use Rattle.go_model.specs.Values.Quests.{IsPart}
+use Rattle.go_model.specs.Values.Headers.{Justified, Follows, Known}
+use Rattle.go_judge.specs.Quests.{IsPart}
 use Rattle.go_model.proofs.HeaderLemmas.{Follows-part, Follows-same, has_all, headers_of-here, headers_of-there, kept, stays}
 use Rattle.go_decl.specs.Places.{ArePlaces}
 use Rattle.go_decl.specs.Rounds.{IsBacked, IsSettled, IsToldOrNot, and_open, not_told, open_in, told}

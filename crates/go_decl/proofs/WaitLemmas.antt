@@ -11,10 +11,11 @@ use Rattle.go_graph.specs.Graph.{Graph, HasEdge, Path, start, further, IsGraph, 
 use Rattle.go_model.specs.Names.Declarations.{Declaration, number_of, rests_on}
 use Rattle.go_operands.specs.Operands.{expressions_in}
 use Rattle.go_module.proofs.MemberLemmas.{cons_cases, contains_head, contains_none, contains_tail}
-use Rattle.go_model.specs.Values.Meaning.{Naming}
+use Rattle.go_judge.specs.Naming.{Naming}
 use Rattle.go_model.specs.Outcomes.Readings.{awaited_in}
-use Rattle.go_model.specs.Outcomes.Walk.{Headers, outcome}
-use Rattle.go_model.specs.Outcomes.Walked.{AreWalked, Outcomes}
+use Rattle.go_judge.specs.Headers.{Headers, Outcomes}
+use Rattle.go_model.specs.Outcomes.Walk.{outcome}
+use Rattle.go_model.specs.Outcomes.Walked.{AreWalked}
 use Rattle.go_model.specs.Values.Waiting.{Chain, Waits, awaited_among, awaited_by, awaited_by_nodes, awaited_under, more, one}
 use Rattle.go_model.specs.Values.Declared.{declared_as}
 use Rattle.go_model.proofs.FlatLemmas.{flat_contains, flat_map-same, map-same}

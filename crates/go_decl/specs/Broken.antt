@@ -4,8 +4,8 @@ use Rattle.go_base.specs.declared.rule.Broken.{Broken}
 use Rattle.go_module.specs.Modules.Module.{PackageData}
 use Rattle.go_module.specs.Names.Declarations.{declarations_of}
 use Rattle.go_module.specs.Order.{IsListOf}
-use Rattle.go_model.specs.Values.Meaning.{Naming}
-use Rattle.go_model.specs.Outcomes.Walk.{Headers}
+use Rattle.go_judge.specs.Naming.{Naming}
+use Rattle.go_judge.specs.Headers.{Headers}
 use Rattle.go_model.specs.Values.Rules.{broken_values}
 use Rattle.go_model.specs.Values.Waiting.{Chain}
 

@@ -10,10 +10,11 @@ use Rattle.go_module.specs.declared.declaration.Built.TheVariants.{Itself, Pair,
 use Rattle.go_module.specs.Modules.Module.{ModuleData, PackageData, package_view}
 use Rattle.go_module.specs.Names.Declarations.{Declaration, Spec, declared_in, number_of, rests_on, specs_of}
 use Rattle.go_module.specs.Places.{with_number}
-use Rattle.go_model.specs.Values.Meaning.{Naming}
-use Rattle.go_model.specs.Outcomes.Judged.{OutcomeData}
-use Rattle.go_model.specs.Outcomes.Records.{RecData}
-use Rattle.go_model.specs.Outcomes.Walk.{Headers, outcome}
+use Rattle.go_judge.specs.Naming.{Naming}
+use Rattle.go_judge.specs.Judged.{OutcomeData}
+use Rattle.go_judge.specs.Records.{RecData}
+use Rattle.go_judge.specs.Headers.{Headers}
+use Rattle.go_model.specs.Outcomes.Walk.{outcome}
 use Rattle.go_model.specs.Values.Rules.{broken_by, others_by_kind, unequal_by}
 use Rattle.go_names.specs.Views.{declaration_view, spec_view}
 use Rattle.go_decl.specs.declared.parts.FoundPart.{FoundPart}

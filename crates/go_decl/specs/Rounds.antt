@@ -1,10 +1,10 @@
 -- Headers that are found in rounds: what the rounds keep, and when no more can be found.
 use Rattle.std.specs.Prelude.{◌≡◌, ℕ, suc, Option, Some, None, List, [], ◌∷◌}
 use Rattle.go_module.specs.Names.Declarations.{Declaration, number_of}
-use Rattle.go_model.specs.Values.Meaning.{Naming}
-use Rattle.go_model.specs.Outcomes.Records.{HeaderData}
-use Rattle.go_model.specs.Outcomes.Walk.{Headers}
-use Rattle.go_model.specs.Values.Headers.{Follows, headers_of, Justified}
+use Rattle.go_judge.specs.Naming.{Naming}
+use Rattle.go_judge.specs.Records.{HeaderData}
+use Rattle.go_judge.specs.Headers.{Headers, headers_of}
+use Rattle.go_model.specs.Values.Headers.{Follows, Justified}
 
 -- these headers are those of some justified list
 pub record IsBacked (before : Headers) (naming : Naming) (declarations : List Declaration) (headers : Headers) : Type 0 where

@@ -1,14 +1,14 @@
 // The headers of declarations, found in rounds, told to rules, and kept (Go specification, "Constant declarations").
-ghost use Rattle.std.specs.Prelude.{◌≡◌, ◌<◌, ◌↔◌, ◌∷◌, [], ℕ, None, Some, false, is_some, length};
-ghost use Rattle.std.specs.Prelude.{IfOk, OnErr, OnOk, IsTrue};
+ghost use Rattle.std.specs.Prelude.{◌≡◌, ◌<◌, ◌↔◌, ◌∷◌, [], ℕ, None, Some, false, is_some, length, IfOk, OnErr, OnOk, IsTrue};
 ghost use Rattle.std.specs.Map.{lookup};
 ghost use Rattle.go_base.specs.declared.ids.ObjId.{ObjId as Object};
 ghost use Rattle.go_module.specs.Scopes.{same_object};
-ghost use Rattle.go_model.specs.Outcomes.Records.{HeaderData, header_as};
-ghost use Rattle.go_model.specs.Types.Own.{IsOwnHeader, KeepsTypes};
-ghost use Rattle.go_model.specs.Values.Headers.{Known, headers_of};
-ghost use Rattle.go_model.specs.Values.HeadersView.{AreOwnHeaders, header_in, headers_as};
-ghost use Rattle.go_model.specs.Values.Meaning.{AreThere};
+ghost use Rattle.go_judge.specs.Records.{HeaderData, header_as};
+ghost use Rattle.go_judge.specs.Types.Own.{IsOwnHeader, KeepsTypes};
+ghost use Rattle.go_model.specs.Values.Headers.{Known};
+ghost use Rattle.go_judge.specs.Headers.{headers_of};
+ghost use Rattle.go_judge.specs.HeadersView.{AreOwnHeaders, header_in, headers_as};
+ghost use Rattle.go_judge.specs.Naming.{AreThere};
 ghost use Rattle.go_decl.specs.Places.{ArePlaces};
 ghost use Rattle.go_decl.specs.Rounds.{IsBacked, IsSettled, IsToldOrNot, open_in};
 ghost use Rattle.go_names.specs.Views.{declarations_view};

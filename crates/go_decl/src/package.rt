@@ -3,12 +3,12 @@
 ghost use Rattle.std.specs.Prelude.{◌≡◌, ◌↔◌, ◌<◌, ℕ, Some, IfOk, OnErr, OnOk, length, slice_get};
 ghost use Rattle.go_module.specs.Modules.Module.{PackageData, module_view, package_view};
 ghost use Rattle.go_module.specs.Names.Declarations.{declarations_of, specs_of};
-ghost use Rattle.go_model.specs.Outcomes.Records.{HeaderData};
+ghost use Rattle.go_judge.specs.Records.{HeaderData};
 ghost use Rattle.go_model.specs.Outcomes.Walked.{AreNumbered, AreWalked, NodesAreNumbered, nodes_of};
-ghost use Rattle.go_model.specs.Types.Own.{KeepsTypes};
+ghost use Rattle.go_judge.specs.Types.Own.{KeepsTypes};
 ghost use Rattle.go_model.specs.Values.Headers.{Known};
-ghost use Rattle.go_model.specs.Values.HeadersView.{AreOwnHeaders, headers_as};
-ghost use Rattle.go_model.specs.Values.Meaning.{AreThere};
+ghost use Rattle.go_judge.specs.HeadersView.{AreOwnHeaders, headers_as};
+ghost use Rattle.go_judge.specs.Naming.{AreThere};
 ghost use Rattle.go_names.specs.Views.{specs_view};
 ghost use Rattle.go_decl.specs.Broken.{AreBroken};
 ghost use Rattle.go_decl.specs.Rounds.{IsBacked};

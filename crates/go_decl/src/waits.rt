@@ -3,9 +3,9 @@ ghost use Rattle.std.specs.Prelude.{◌≡◌, ◌++◌, ◌↔◌, ℕ, true, I
 ghost use Rattle.std.specs.List.{flat_map};
 ghost use Rattle.go_names.specs.Views.{declaration_view, declarations_view};
 ghost use Rattle.go_tree.specs.Tree.{tree_of};
-ghost use Rattle.go_model.specs.Values.Meaning.{Naming};
+ghost use Rattle.go_judge.specs.Naming.{Naming};
 ghost use Rattle.go_model.specs.Outcomes.Readings.{awaited_in};
-ghost use Rattle.go_model.specs.Outcomes.Walk.{Headers};
+ghost use Rattle.go_judge.specs.Headers.{Headers};
 ghost use Rattle.go_model.specs.Outcomes.Walked.{AreWalked};
 ghost use Rattle.go_model.specs.Values.Waiting.{Chain, awaited_among, awaited_under};
 ghost use Rattle.go_decl.specs.Places.{ArePlaces, placed_by};

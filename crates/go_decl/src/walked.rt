@@ -4,8 +4,8 @@ ghost use Rattle.std.specs.List.{flat_map};
 ghost use Rattle.go_tree.specs.Tree.{tree_of};
 ghost use Rattle.go_operands.specs.Operands.{expressions_in, expressions_in_parts};
 ghost use Rattle.go_model.specs.Outcomes.Walked.{walked_over};
-ghost use Rattle.go_model.specs.Types.Own.{KeepsTypes};
-ghost use Rattle.go_model.specs.Values.Meaning.{AreThere};
+ghost use Rattle.go_judge.specs.Types.Own.{KeepsTypes};
+ghost use Rattle.go_judge.specs.Naming.{AreThere};
 ghost use Rattle.go_names.specs.Views.{specs_view};
 
 use go_base::NoMemory;

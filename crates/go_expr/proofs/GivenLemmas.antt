@@ -3,10 +3,10 @@ use Rattle.std.proofs.Common.{◌≡◌, ℕ, zero, suc, ◌+◌, ◌<◌, ◌�
 use Rattle.std.proofs.lemmas.List.FromFn.{map-range_with_len_more}
 use Rattle.go_term.specs.Types.{TypeData}
 use Rattle.go_term.specs.declared.term.Term.{Term}
-use Rattle.go_model.specs.declared.outcome.Outcome.{Outcome}
-use Rattle.go_model.specs.Outcomes.Judged.{All, Broken, First, Found, Gone, Nothing, Operands, OutcomeData, Waits, joined, outcome_at, together}
-use Rattle.go_model.specs.Outcomes.Records.{RecData}
-use Rattle.go_model.specs.Outcomes.View.{outcome_as}
+use Rattle.go_judge.specs.declared.outcome.Outcome.{Outcome}
+use Rattle.go_judge.specs.Judged.{All, Broken, First, Found, Gone, Nothing, Operands, OutcomeData, Waits, joined, outcome_at, together}
+use Rattle.go_judge.specs.Records.{RecData}
+use Rattle.go_judge.specs.View.{outcome_as}
 use Rattle.go_expr.specs.Given.{first_outcomes, with_one}
 
 -- the outcome at a place that is there, and at one that is not

@@ -5,7 +5,7 @@ use Rattle.go_tree.specs.Tree.{Tree}
 use Rattle.go_operands.specs.Operands.{operands_of}
 use Rattle.go_term.specs.Types.{TypeData}
 use Rattle.go_term.specs.declared.term.Term.{Term}
-use Rattle.go_model.specs.Outcomes.Constructs.Interface.{elem_in, elems_in, terms_in}
+use Rattle.go_constructs.specs.Interface.{elem_in, elems_in, terms_in}
 
 module _ (tree : Term → TypeData) where
   -- where no type is left

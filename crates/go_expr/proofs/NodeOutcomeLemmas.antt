@@ -7,17 +7,18 @@ use Rattle.go_tree.specs.declared.node_kind.NodeKind.{NodeKind}
 use Rattle.go_tree.specs.declared.node_kind.NodeKind.TheVariants.{ArrowExpr, ChanType}
 use Rattle.go_tree.specs.Tree.{Tree, Trees, branch, end_of, id_of, kind_of, more_trees, no_trees, parts_of, start_of, text_of}
 use Rattle.go_module.specs.Rules.{unbuilt_form}
-use Rattle.go_model.specs.declared.outcome.Spot.TheVariants.{Part}
-use Rattle.go_model.specs.Outcomes.Constructs.Channel.{channel}
-use Rattle.go_model.specs.Outcomes.Constructs.Kinds.{no_value}
-use Rattle.go_model.specs.Outcomes.Constructs.Limits.{wide_integer}
-use Rattle.go_model.specs.Outcomes.Constructs.Sum.{sum}
-use Rattle.go_model.specs.Outcomes.Judged.{Asks, Found, Nothing, OutcomeData, asked, judged, tested, with_records}
-use Rattle.go_model.specs.Outcomes.Operands.{at_whole, integers_ask, is_value}
-use Rattle.go_model.specs.Outcomes.Records.{HeaderData, RecData, integer_in, integer_record}
-use Rattle.go_model.specs.Outcomes.Walk.{Headers, construct}
-use Rattle.go_model.specs.Values.Meaning.{Naming}
-use Rattle.go_model.specs.Values.Quests.{Done}
+use Rattle.go_judge.specs.declared.outcome.Spot.TheVariants.{Part}
+use Rattle.go_constructs.specs.Channel.{channel}
+use Rattle.go_judge.specs.Kinds.{no_value}
+use Rattle.go_judge.specs.Limits.{wide_integer}
+use Rattle.go_constructs.specs.Sum.{sum}
+use Rattle.go_judge.specs.Judged.{Asks, Found, Nothing, OutcomeData, asked, judged, tested, with_records}
+use Rattle.go_judge.specs.Operands.{at_whole, integers_ask, is_value}
+use Rattle.go_judge.specs.Records.{HeaderData, RecData, integer_in, integer_record}
+use Rattle.go_judge.specs.Headers.{Headers}
+use Rattle.go_model.specs.Outcomes.Walk.{construct}
+use Rattle.go_judge.specs.Naming.{Naming}
+use Rattle.go_judge.specs.Quests.{Done}
 use Rattle.go_model.proofs.OutcomeLemmas.{joined_gone}
 use Rattle.go_expr.specs.Outcomes.{direction_by, first_kind, limited_view, operand_in, sum_by_kinds}
 

@@ -6,11 +6,11 @@ use Rattle.std.specs.Option.{option_map}
 use Rattle.std.proofs.lemmas.List.{reverse-append}
 use Rattle.go_term.specs.Types.{TypeData}
 use Rattle.go_term.specs.declared.term.Term.{Term}
-use Rattle.go_model.specs.declared.outcome.Outcome.{Outcome}
-use Rattle.go_model.specs.Outcomes.View.{outcome_as}
-use Rattle.go_model.specs.Types.Own.{IsOwnOutcome, KeepsTypes}
-use Rattle.go_model.proofs.EntryLemmas.{chosen}
-use Rattle.go_model.proofs.OwnDataLemmas.{outcome_agrees, outcome_stays_own}
+use Rattle.go_judge.specs.declared.outcome.Outcome.{Outcome}
+use Rattle.go_judge.specs.View.{outcome_as}
+use Rattle.go_judge.specs.Types.Own.{IsOwnOutcome, KeepsTypes}
+use Rattle.go_judge.proofs.EntryLemmas.{chosen}
+use Rattle.go_judge.proofs.OwnDataLemmas.{outcome_agrees, outcome_stays_own}
 use Rattle.go_expr.specs.declared.walker.Walker.{Walker}
 use Rattle.go_expr.specs.Walker.{AreOwnOutcomes, outcome_in, outcomes_as}
 

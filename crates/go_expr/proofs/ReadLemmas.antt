@@ -2,11 +2,12 @@
 use Rattle.std.proofs.Common.{◌≡◌, List, Option, ap}
 use Rattle.std.specs.Prelude.{Contains, unwrap_or}
 use Rattle.go_tree.specs.Tree.{Tree}
-use Rattle.go_model.specs.Values.Meaning.{Naming}
-use Rattle.go_model.specs.Outcomes.Judged.{Nothing, OutcomeData}
-use Rattle.go_model.specs.Outcomes.Records.{RecData}
-use Rattle.go_model.specs.Outcomes.Walk.{Headers, outcome}
-use Rattle.go_model.specs.Outcomes.Walked.{AreWalked, Outcomes}
+use Rattle.go_judge.specs.Naming.{Naming}
+use Rattle.go_judge.specs.Judged.{Nothing, OutcomeData}
+use Rattle.go_judge.specs.Records.{RecData}
+use Rattle.go_judge.specs.Headers.{Headers, Outcomes}
+use Rattle.go_model.specs.Outcomes.Walk.{outcome}
+use Rattle.go_model.specs.Outcomes.Walked.{AreWalked}
 use Rattle.go_expr.specs.Read.{outcome_read}
 
 -- the outcome that is read at a node that was walked

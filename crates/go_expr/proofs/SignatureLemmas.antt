@@ -9,7 +9,7 @@ use Rattle.go_tree.specs.Tree.{Tree, branch, kind_of, list_of, parts_of, tree_of
 use Rattle.go_module.specs.NodeParts.{all_but_first}
 use Rattle.go_term.specs.Types.{TypeData, signature_parts}
 use Rattle.go_term.specs.declared.term.Term.{Term}
-use Rattle.go_model.specs.Outcomes.Signatures.{list_types, many_params, param_types, params_of, result_types, types_in}
+use Rattle.go_constructs.specs.Signatures.{list_types, many_params, param_types, params_of, result_types, types_in}
 
 -- a test of some node
 pub any-trees : (f : Tree → Bool) (nodes : List Node) → list_any (λ n. f (tree_of n)) nodes ≡ list_any f (map tree_of nodes)

@@ -5,7 +5,7 @@ use Rattle.std.proofs.lemmas.Bool.{cases_lt}
 use Rattle.std.specs.List.{flat_map, zip}
 use Rattle.go_tree.specs.Tree.{Tree}
 use Rattle.go_term.specs.Types.{TypeData}
-use Rattle.go_model.specs.Outcomes.Constructs.Struct.{fields_by, fields_in}
+use Rattle.go_constructs.specs.Struct.{fields_by, fields_in}
 
 -- nothing is paired with an empty list
 no_pairs : {A B : Type 0} (xs : List A) → zip {X = B} xs [] ≡ []

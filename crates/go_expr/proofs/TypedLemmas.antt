@@ -2,17 +2,17 @@
 use Rattle.std.proofs.Common.{◌≡◌, ℕ, ◌+◌, Option, Some, None, List, [], ◌∷◌, ◌++◌, length, map, refl, sym, ap, ◌∙◌, arith}
 use Rattle.std.specs.Prelude.{is_some, unwrap_or}
 use Rattle.go_term.specs.Types.{TypeData, list, of_list}
-use Rattle.go_model.specs.declared.outcome.Spot.{Spot}
-use Rattle.go_model.specs.declared.outcome.Spot.TheVariants.{Part}
-use Rattle.go_model.specs.declared.rec.Mode.{Mode}
-use Rattle.go_model.specs.declared.rec.Mode.TheVariants.{IsType}
-use Rattle.go_model.specs.Outcomes.Constructs.Kinds.{no_type}
-use Rattle.go_model.specs.Outcomes.Constructs.Limits.{makes_of}
-use Rattle.go_model.specs.Outcomes.Judged.{Broken, asked, end_on, first_lack, no_spots, rule_end, ruled, spot_if_no}
-use Rattle.go_model.specs.Outcomes.Operands.{are_types, is_type, spots_from, type_or_none}
-use Rattle.go_model.specs.Outcomes.Records.{RecData, type_by, type_in}
-use Rattle.go_model.specs.Outcomes.Walk.{Headers}
-use Rattle.go_model.specs.Values.Quests.{Decided}
+use Rattle.go_judge.specs.declared.outcome.Spot.{Spot}
+use Rattle.go_judge.specs.declared.outcome.Spot.TheVariants.{Part}
+use Rattle.go_judge.specs.declared.rec.Mode.{Mode}
+use Rattle.go_judge.specs.declared.rec.Mode.TheVariants.{IsType}
+use Rattle.go_judge.specs.Kinds.{no_type}
+use Rattle.go_judge.specs.Limits.{makes_of}
+use Rattle.go_judge.specs.Judged.{Broken, asked, end_on, first_lack, no_spots, rule_end, ruled, spot_if_no}
+use Rattle.go_judge.specs.Operands.{are_types, is_type, spots_from, type_or_none}
+use Rattle.go_judge.specs.Records.{RecData, type_by, type_in}
+use Rattle.go_judge.specs.Headers.{Headers}
+use Rattle.go_judge.specs.Quests.{Decided}
 use Rattle.go_expr.specs.Given.{no_type_spots, one_or_none, spot_if_none, types_among}
 use Rattle.go_expr.specs.TypeLiteral.{type_outcome}
 

@@ -8,15 +8,15 @@ use Rattle.go_tree.specs.declared.node.Node.{Node}
 use Rattle.go_tree.specs.Tree.{Tree, id_of, tree_of}
 use Rattle.go_term.specs.Types.{TypeData}
 use Rattle.go_term.specs.declared.term.Term.{Term}
-use Rattle.go_operands.specs.Operands.{operands_of}
-use Rattle.go_operands.specs.Operands.{expressions_in}
-use Rattle.go_model.specs.Values.Meaning.{Naming}
-use Rattle.go_model.specs.declared.outcome.Outcome.{Outcome}
-use Rattle.go_model.specs.Outcomes.Judged.{OutcomeData}
-use Rattle.go_model.specs.Outcomes.Records.{RecData}
-use Rattle.go_model.specs.Outcomes.View.{outcome_as}
-use Rattle.go_model.specs.Outcomes.Walk.{Headers, outcome}
-use Rattle.go_model.specs.Outcomes.Walked.{ArePartly, Outcomes, walked_over}
+use Rattle.go_operands.specs.Operands.{operands_of, expressions_in}
+use Rattle.go_judge.specs.Naming.{Naming}
+use Rattle.go_judge.specs.declared.outcome.Outcome.{Outcome}
+use Rattle.go_judge.specs.Judged.{OutcomeData}
+use Rattle.go_judge.specs.Records.{RecData}
+use Rattle.go_judge.specs.View.{outcome_as}
+use Rattle.go_judge.specs.Headers.{Headers, Outcomes}
+use Rattle.go_model.specs.Outcomes.Walk.{outcome}
+use Rattle.go_model.specs.Outcomes.Walked.{ArePartly, walked_over}
 use Rattle.go_model.proofs.WalkedLemmas.{partly_more, partly_walked, walked-append, walked-same}
 use Rattle.go_module.proofs.MemberLemmas.{contains_none, contains_tail}
 use Rattle.go_names.specs.Views.{trees_at}

@@ -6,7 +6,7 @@ use Rattle.go_module.specs.Names.Declarations.{name_text}
 use Rattle.go_term.specs.declared.shape.FieldShape.{FieldShape}
 use Rattle.go_term.specs.declared.term.Term.{Term}
 use Rattle.go_term.specs.Types.{TypeData, made, method}
-use Rattle.go_model.specs.Outcomes.Signatures.{is_variadic, types_in}
+use Rattle.go_constructs.specs.Signatures.{is_variadic, types_in}
 
 abbrev pub some_list : Option TypeData → List TypeData
 some_list (Some t) = t ∷ []

@@ -4,17 +4,17 @@ use Rattle.std.specs.Borrow.{Bor}
 use Rattle.std.specs.List.{AllByRecursion, flat_map, range_with_len}
 use Rattle.go_term.specs.Types.{TypeData}
 use Rattle.go_term.specs.declared.term.Term.{Term}
-use Rattle.go_model.specs.declared.outcome.Outcome.{Outcome}
-use Rattle.go_model.specs.declared.outcome.Spot.{Spot}
-use Rattle.go_model.specs.declared.outcome.Spot.TheVariants.{Part}
-use Rattle.go_model.specs.declared.rec.Mode.{Mode}
-use Rattle.go_model.specs.declared.rec.Mode.TheVariants.{IsType}
-use Rattle.go_model.specs.declared.rec.Rec.{Rec}
-use Rattle.go_model.specs.Outcomes.Judged as outcomes
-use Rattle.go_model.specs.Outcomes.Judged.{Operands, OutcomeData, outcome_at}
-use Rattle.go_model.specs.Outcomes.Records.{RecData, rec_as, type_in}
-use Rattle.go_model.specs.Outcomes.View.{outcome_as}
-use Rattle.go_model.specs.Types.Own.{IsOwnRec}
+use Rattle.go_judge.specs.declared.outcome.Outcome.{Outcome}
+use Rattle.go_judge.specs.declared.outcome.Spot.{Spot}
+use Rattle.go_judge.specs.declared.outcome.Spot.TheVariants.{Part}
+use Rattle.go_judge.specs.declared.rec.Mode.{Mode}
+use Rattle.go_judge.specs.declared.rec.Mode.TheVariants.{IsType}
+use Rattle.go_judge.specs.declared.rec.Rec.{Rec}
+use Rattle.go_judge.specs.Judged as outcomes
+use Rattle.go_judge.specs.Judged.{Operands, OutcomeData, outcome_at}
+use Rattle.go_judge.specs.Records.{RecData, rec_as, type_in}
+use Rattle.go_judge.specs.View.{outcome_as}
+use Rattle.go_judge.specs.Types.Own.{IsOwnRec}
 use Rattle.go_expr.specs.declared.given.Given.{Given}
 use Rattle.go_expr.specs.declared.given.Given.TheVariants.{All, First, Gone}
 

@@ -10,15 +10,15 @@ use Rattle.go_tree.specs.declared.node_kind.NodeKind.{NodeKind}
 use Rattle.go_tree.specs.declared.node_kind.NodeKind.TheVariants.{ArrowExpr, ChanType}
 use Rattle.go_tree.specs.Tree.{Tree, kind_of, list_of, parts_of}
 use Rattle.go_module.specs.Rules.{unbuilt_form}
-use Rattle.go_model.specs.declared.outcome.Spot.{Spot}
-use Rattle.go_model.specs.declared.outcome.Spot.TheVariants.{Part, Whole}
-use Rattle.go_model.specs.Outcomes.Constructs.Channel.{channel}
-use Rattle.go_model.specs.Outcomes.Constructs.Kinds.{no_value}
-use Rattle.go_model.specs.Outcomes.Constructs.Limits.{wide_integer}
-use Rattle.go_model.specs.Outcomes.Judged.{Construct, OutcomeData}
-use Rattle.go_model.specs.Outcomes.Judged as outcomes
-use Rattle.go_model.specs.Outcomes.Operands.{is_value, no_construct}
-use Rattle.go_model.specs.Outcomes.Records.{HeaderData, RecData, integer_in, integer_record}
+use Rattle.go_judge.specs.declared.outcome.Spot.{Spot}
+use Rattle.go_judge.specs.declared.outcome.Spot.TheVariants.{Part, Whole}
+use Rattle.go_constructs.specs.Channel.{channel}
+use Rattle.go_judge.specs.Kinds.{no_value}
+use Rattle.go_judge.specs.Limits.{wide_integer}
+use Rattle.go_judge.specs.Judged.{Construct, OutcomeData}
+use Rattle.go_judge.specs.Judged as outcomes
+use Rattle.go_judge.specs.Operands.{is_value, no_construct}
+use Rattle.go_judge.specs.Records.{HeaderData, RecData, integer_in, integer_record}
 use Rattle.go_expr.specs.declared.sum.Operand.{Operand}
 
 -- a value within the limits, or the rule that it breaks

@@ -4,9 +4,9 @@ use Rattle.std.specs.List.{flat_map}
 use Rattle.go_tree.specs.Tree.{Tree, id_of}
 use Rattle.go_module.specs.Names.Declarations.{Declaration, rests_on}
 use Rattle.go_operands.specs.Operands.{expressions_in}
-use Rattle.go_model.specs.Outcomes.Judged.{Nothing, OutcomeData}
-use Rattle.go_model.specs.Outcomes.Records.{RecData}
-use Rattle.go_model.specs.Outcomes.Walked.{Outcomes}
+use Rattle.go_judge.specs.Judged.{Nothing, OutcomeData}
+use Rattle.go_judge.specs.Records.{RecData}
+use Rattle.go_judge.specs.Headers.{Outcomes}
 
 -- the outcome of a node, and nothing where no walk reached it
 abbrev pub outcome_read : Outcomes → Tree → OutcomeData RecData

@@ -4,17 +4,17 @@ use Rattle.std.specs.List.{AllByRecursion}
 use Rattle.go_term.specs.Types as types
 use Rattle.go_term.specs.Types.{Head, TypeData, channel, pointer, slice}
 use Rattle.go_term.specs.declared.term.Term.{Term}
-use Rattle.go_model.specs.declared.outcome.Spot.TheVariants.{Part}
-use Rattle.go_model.specs.Outcomes.Constructs.Kinds.{no_length}
-use Rattle.go_model.specs.Outcomes.Constructs.Limits.{makes_of, within_limits}
-use Rattle.go_model.specs.Outcomes.Judged as outcomes
-use Rattle.go_model.specs.Outcomes.Judged.{Construct, OutcomeData, tested}
-use Rattle.go_model.specs.Outcomes.Operands.{are_types, of_all, of_one, type_or_none}
-use Rattle.go_model.specs.Outcomes.Records.{HeaderData, RecData, type_record}
-use Rattle.go_model.specs.Outcomes.View.{outcome_as}
-use Rattle.go_model.specs.Outcomes.Walk.{Headers}
-use Rattle.go_model.specs.Types.Own.{IsOwnOutcome}
-use Rattle.go_model.specs.Values.Quests.{Done}
+use Rattle.go_judge.specs.declared.outcome.Spot.TheVariants.{Part}
+use Rattle.go_judge.specs.Kinds.{no_length}
+use Rattle.go_judge.specs.Limits.{makes_of, within_limits}
+use Rattle.go_judge.specs.Judged as outcomes
+use Rattle.go_judge.specs.Judged.{Construct, OutcomeData, tested}
+use Rattle.go_judge.specs.Operands.{are_types, of_all, of_one, type_or_none}
+use Rattle.go_judge.specs.Records.{HeaderData, RecData, type_record}
+use Rattle.go_judge.specs.View.{outcome_as}
+use Rattle.go_judge.specs.Headers.{Headers}
+use Rattle.go_judge.specs.Types.Own.{IsOwnOutcome}
+use Rattle.go_judge.specs.Quests.{Done}
 use Rattle.go_expr.specs.declared.one_type.OneForm.{OneForm}
 use Rattle.go_expr.specs.declared.one_type.OneForm.TheVariants.{Chan, Pointer, Slice}
 use Rattle.go_expr.specs.declared.typed.Typed.{Typed}

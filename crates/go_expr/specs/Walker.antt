@@ -6,10 +6,10 @@ use Rattle.go_term.specs.Types.{TypeData}
 use Rattle.go_term.specs.View.{type_of}
 use Rattle.go_term.specs.declared.term.Term.{Term}
 use Rattle.go_module.specs.Scopes.{same_node}
-use Rattle.go_model.specs.declared.outcome.Outcome.{Outcome}
-use Rattle.go_model.specs.Outcomes.View.{outcome_as}
-use Rattle.go_model.specs.Outcomes.Walked.{Outcomes}
-use Rattle.go_model.specs.Types.Own.{IsOwnOutcome}
+use Rattle.go_judge.specs.declared.outcome.Outcome.{Outcome}
+use Rattle.go_judge.specs.View.{outcome_as}
+use Rattle.go_judge.specs.Headers.{Outcomes}
+use Rattle.go_judge.specs.Types.Own.{IsOwnOutcome}
 use Rattle.go_expr.specs.declared.walker.Walker.{Walker as OwnWalker}
 
 -- the outcome that a walk left for a node, by the node's number

@@ -1,11 +1,11 @@
 // Array types (Go specification, "Array types").
 ghost use Rattle.std.specs.Prelude.{◌≡◌, ◌∷◌, [], IfOk, map};
 ghost use Rattle.std.specs.List.{AllByRecursion};
-ghost use Rattle.go_model.specs.Outcomes.Constructs.Array as spec;
-ghost use Rattle.go_model.specs.Outcomes.Judged.{asked, judged};
-ghost use Rattle.go_model.specs.Outcomes.Records.{rec_as};
-ghost use Rattle.go_model.specs.Outcomes.View.{outcome_as};
-ghost use Rattle.go_model.specs.Types.Own.{IsOwnOutcome, IsOwnRec, Keeps};
+ghost use Rattle.go_constructs.specs.Array as spec;
+ghost use Rattle.go_judge.specs.Judged.{asked, judged};
+ghost use Rattle.go_judge.specs.Records.{rec_as};
+ghost use Rattle.go_judge.specs.View.{outcome_as};
+ghost use Rattle.go_judge.specs.Types.Own.{IsOwnOutcome, IsOwnRec, Keeps};
 ghost use Rattle.go_expr.specs.Given.{AreOwnRecs, recs_as};
 ghost use Rattle.go_expr.specs.TypeLiteral.{array_outcome, element_outcome};
 

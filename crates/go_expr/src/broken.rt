@@ -1,8 +1,8 @@
 // Nodes that break a rule at operands.
 ghost use Rattle.std.specs.Prelude.{◌≡◌, IfOk};
-ghost use Rattle.go_model.specs.Outcomes.Judged as outcomes;
-ghost use Rattle.go_model.specs.Outcomes.View.{outcome_as};
-ghost use Rattle.go_model.specs.Types.Own.{IsOwnOutcome};
+ghost use Rattle.go_judge.specs.Judged as outcomes;
+ghost use Rattle.go_judge.specs.View.{outcome_as};
+ghost use Rattle.go_judge.specs.Types.Own.{IsOwnOutcome};
 ghost use Rattle.go_expr.specs.Outcomes.{spots_of_two};
 
 use go_base::{NoMemory, Rule};

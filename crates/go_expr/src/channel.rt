@@ -1,10 +1,10 @@
 // Channel types (Go specification, "Channel types").
 ghost use Rattle.std.specs.Prelude.{◌≡◌, IfOk, map};
 ghost use Rattle.std.specs.List.{AllByRecursion};
-ghost use Rattle.go_model.specs.Outcomes.Constructs.Channel as spec;
-ghost use Rattle.go_model.specs.Outcomes.Judged.{judged};
-ghost use Rattle.go_model.specs.Outcomes.View.{outcome_as};
-ghost use Rattle.go_model.specs.Types.Own.{IsOwnOutcome, Keeps};
+ghost use Rattle.go_constructs.specs.Channel as spec;
+ghost use Rattle.go_judge.specs.Judged.{judged};
+ghost use Rattle.go_judge.specs.View.{outcome_as};
+ghost use Rattle.go_judge.specs.Types.Own.{IsOwnOutcome, Keeps};
 
 use crate::one_type::{OneForm, one_type};
 use go_base::NoMemory;

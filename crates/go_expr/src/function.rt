@@ -2,10 +2,10 @@
 ghost use Rattle.std.specs.Prelude.{◌≡◌, IfOk, length, map};
 ghost use Rattle.std.specs.List.{AllByRecursion};
 ghost use Rattle.go_tree.specs.Tree.{tree_of};
-ghost use Rattle.go_model.specs.Outcomes.Constructs.Function as spec;
-ghost use Rattle.go_model.specs.Outcomes.Judged.{judged};
-ghost use Rattle.go_model.specs.Outcomes.View.{outcome_as};
-ghost use Rattle.go_model.specs.Types.Own.{IsOwnOutcome, Keeps};
+ghost use Rattle.go_constructs.specs.Function as spec;
+ghost use Rattle.go_judge.specs.Judged.{judged};
+ghost use Rattle.go_judge.specs.View.{outcome_as};
+ghost use Rattle.go_judge.specs.Types.Own.{IsOwnOutcome, Keeps};
 
 use crate::signature::signature_of;
 use crate::type_literal::type_literal;

@@ -6,10 +6,10 @@ ghost use Rattle.go_tree.specs.declared.node_kind.NodeKind.TheVariants as kinds;
 ghost use Rattle.go_tree.specs.Tree.{Tree, kind_of, list_of, parts_of, tree_of};
 ghost use Rattle.go_term.specs.Shapes.{elem_tree, union_tree};
 ghost use Rattle.go_term.specs.Types.{of_one, union_term};
-ghost use Rattle.go_model.specs.Outcomes.Constructs.Interface as spec;
-ghost use Rattle.go_model.specs.Outcomes.Judged.{judged};
-ghost use Rattle.go_model.specs.Outcomes.View.{outcome_as};
-ghost use Rattle.go_model.specs.Types.Own.{IsOwnElem, IsOwnOutcome, Keeps};
+ghost use Rattle.go_constructs.specs.Interface as spec;
+ghost use Rattle.go_judge.specs.Judged.{judged};
+ghost use Rattle.go_judge.specs.View.{outcome_as};
+ghost use Rattle.go_judge.specs.Types.Own.{IsOwnElem, IsOwnOutcome, Keeps};
 ghost use Rattle.go_expr.specs.Elements.{method_tree, some_list};
 
 use crate::given::copy_of;

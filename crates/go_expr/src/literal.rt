@@ -1,12 +1,12 @@
 // Integer literals (Go specification, "Integer literals", "Constants").
 ghost use Rattle.std.specs.Prelude.{◌≡◌, List, IfOk};
-ghost use Rattle.go_model.specs.Outcomes.Constructs.Literal as spec;
-ghost use Rattle.go_model.specs.Outcomes.Judged.{OutcomeData, judged};
-ghost use Rattle.go_model.specs.Outcomes.Records as records;
-ghost use Rattle.go_model.specs.Outcomes.Records.{RecData, rec_as};
-ghost use Rattle.go_model.specs.Outcomes.View.{outcome_as};
+ghost use Rattle.go_constructs.specs.Literal as spec;
+ghost use Rattle.go_judge.specs.Judged.{OutcomeData, judged};
+ghost use Rattle.go_judge.specs.Records as records;
+ghost use Rattle.go_judge.specs.Records.{RecData, rec_as};
+ghost use Rattle.go_judge.specs.View.{outcome_as};
 ghost use Rattle.go_model.specs.Outcomes.Walk as walk;
-ghost use Rattle.go_model.specs.Types.Own.{IsOwnOutcome, IsOwnRec, Keeps};
+ghost use Rattle.go_judge.specs.Types.Own.{IsOwnOutcome, IsOwnRec, Keeps};
 ghost use Rattle.go_expr.specs.Outcomes.{limited_view};
 
 use crate::types::basic_type;

@@ -1,8 +1,8 @@
 // What identifiers mean (Go specification, "Declarations and scope", "Predeclared identifiers").
 ghost use Rattle.std.specs.Prelude.{◌≡◌, ℕ, Option, Some};
 ghost use Rattle.go_module.specs.declared.object.Object.{Object as ObjectData};
-ghost use Rattle.go_model.specs.Values.Meaning as spec;
-ghost use Rattle.go_model.specs.Values.Meaning.{AreThere};
+ghost use Rattle.go_constructs.specs.Meaning as spec;
+ghost use Rattle.go_judge.specs.Naming.{AreThere};
 
 use go_model::{Forms, Meaning};
 use go_module::{FIRST_NUMBER, ObjId, ObjKind, Object};

@@ -1,14 +1,14 @@
 // Identifiers (Go specification, "Operands", "Predeclared identifiers").
 ghost use Rattle.std.specs.Prelude.{◌≡◌, List, IfOk, IfSome};
 ghost use Rattle.std.specs.Option.{option_map};
-ghost use Rattle.go_model.specs.declared.meaning.Meaning.TheVariants as meanings;
-ghost use Rattle.go_model.specs.Outcomes.Constructs.Name as spec;
-ghost use Rattle.go_model.specs.declared.rec.Mode.TheVariants as modes;
-ghost use Rattle.go_model.specs.Outcomes.Judged as outcomes;
-ghost use Rattle.go_model.specs.Outcomes.Judged.{OutcomeData, judged};
-ghost use Rattle.go_model.specs.Outcomes.Records.{RecData, header_as, named_record, rec_as, typed_record};
-ghost use Rattle.go_model.specs.Outcomes.View.{outcome_as};
-ghost use Rattle.go_model.specs.Types.Own.{IsOwnHeader, IsOwnOutcome, IsOwnRec, Keeps};
+ghost use Rattle.go_constructs.specs.declared.meaning.Meaning.TheVariants as meanings;
+ghost use Rattle.go_constructs.specs.Name as spec;
+ghost use Rattle.go_judge.specs.declared.rec.Mode.TheVariants as modes;
+ghost use Rattle.go_judge.specs.Judged as outcomes;
+ghost use Rattle.go_judge.specs.Judged.{OutcomeData, judged};
+ghost use Rattle.go_judge.specs.Records.{RecData, header_as, named_record, rec_as, typed_record};
+ghost use Rattle.go_judge.specs.View.{outcome_as};
+ghost use Rattle.go_judge.specs.Types.Own.{IsOwnHeader, IsOwnOutcome, IsOwnRec, Keeps};
 
 use crate::types::{any_type, basic_type, named_type};
 use go_base::NoMemory;

@@ -3,10 +3,10 @@ ghost use Rattle.std.specs.Prelude.{◌≡◌, ◌∷◌, [], IfOk, map};
 ghost use Rattle.std.specs.List.{AllByRecursion};
 ghost use Rattle.go_term.specs.Shapes.{shape_tree};
 ghost use Rattle.go_term.specs.Types.{of_one};
-ghost use Rattle.go_model.specs.Outcomes.Judged.{asked, judged};
-ghost use Rattle.go_model.specs.Outcomes.Records.{rec_as};
-ghost use Rattle.go_model.specs.Outcomes.View.{outcome_as};
-ghost use Rattle.go_model.specs.Types.Own.{AreOwn, IsOwnOutcome, IsOwnRec, Keeps};
+ghost use Rattle.go_judge.specs.Judged.{asked, judged};
+ghost use Rattle.go_judge.specs.Records.{rec_as};
+ghost use Rattle.go_judge.specs.View.{outcome_as};
+ghost use Rattle.go_judge.specs.Types.Own.{AreOwn, IsOwnOutcome, IsOwnRec, Keeps};
 ghost use Rattle.go_expr.specs.Given.{AreOwnRecs, recs_as};
 ghost use Rattle.go_expr.specs.TypeLiteral.{head_of, one_literal};
 

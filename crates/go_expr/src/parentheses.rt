@@ -1,12 +1,12 @@
 // Expressions in parentheses (Go specification, "Operands").
 ghost use Rattle.std.specs.Prelude.{◌≡◌, List, ◌∷◌, IfOk, map};
 ghost use Rattle.std.specs.List.{AllByRecursion};
-ghost use Rattle.go_model.specs.Outcomes.Constructs.Parentheses as spec;
-ghost use Rattle.go_model.specs.Outcomes.Judged.{OutcomeData, judged};
-ghost use Rattle.go_model.specs.Outcomes.Records.{RecData};
-ghost use Rattle.go_model.specs.Outcomes.View.{outcome_as};
+ghost use Rattle.go_constructs.specs.Parentheses as spec;
+ghost use Rattle.go_judge.specs.Judged.{OutcomeData, judged};
+ghost use Rattle.go_judge.specs.Records.{RecData};
+ghost use Rattle.go_judge.specs.View.{outcome_as};
 ghost use Rattle.go_model.specs.Outcomes.Walk as walk;
-ghost use Rattle.go_model.specs.Types.Own.{IsOwnOutcome};
+ghost use Rattle.go_judge.specs.Types.Own.{IsOwnOutcome};
 
 use go_base::NoMemory;
 use go_model::{Judge, Outcome};

@@ -1,12 +1,12 @@
 // Qualified identifiers and selectors (Go specification, "Qualified identifiers", "Selectors").
 ghost use Rattle.std.specs.Prelude.{◌≡◌, List, ◌∷◌, IfOk, map};
-ghost use Rattle.go_model.specs.declared.meaning.Meaning.TheVariants as meanings;
-ghost use Rattle.go_model.specs.Outcomes.Constructs.Selector as spec;
-ghost use Rattle.go_model.specs.Outcomes.Judged.{OutcomeData, judged};
-ghost use Rattle.go_model.specs.Outcomes.Records.{RecData};
-ghost use Rattle.go_model.specs.Outcomes.View.{outcome_as};
+ghost use Rattle.go_constructs.specs.declared.meaning.Meaning.TheVariants as meanings;
+ghost use Rattle.go_constructs.specs.Selector as spec;
+ghost use Rattle.go_judge.specs.Judged.{OutcomeData, judged};
+ghost use Rattle.go_judge.specs.Records.{RecData};
+ghost use Rattle.go_judge.specs.View.{outcome_as};
 ghost use Rattle.go_model.specs.Outcomes.Walk as walk;
-ghost use Rattle.go_model.specs.Types.Own.{IsOwnOutcome, Keeps};
+ghost use Rattle.go_judge.specs.Types.Own.{IsOwnOutcome, Keeps};
 
 use crate::name::name;
 use go_base::NoMemory;

@@ -4,8 +4,8 @@ ghost use Rattle.std.specs.List.{AllByRecursion, list_any};
 ghost use Rattle.go_tree.specs.Tree.{Tree, kind_of, tree_of};
 ghost use Rattle.go_module.specs.Names.Inner as inner;
 ghost use Rattle.go_term.specs.Shapes.{func_parts};
-ghost use Rattle.go_model.specs.Outcomes.Signatures as spec;
-ghost use Rattle.go_model.specs.Types.Own.{AreOwnFunc};
+ghost use Rattle.go_constructs.specs.Signatures as spec;
+ghost use Rattle.go_judge.specs.Types.Own.{AreOwnFunc};
 
 use crate::given::push_copy;
 use go_base::NoMemory;

@@ -5,10 +5,10 @@ ghost use Rattle.std.specs.Option.{option_map};
 ghost use Rattle.go_tree.specs.Tree.{kind_of, list_of, parts_of, tree_of};
 ghost use Rattle.go_module.specs.Names.Inner.{is_tag_kind};
 ghost use Rattle.go_term.specs.Shapes.{field_tree};
-ghost use Rattle.go_model.specs.Outcomes.Constructs.Struct as spec;
-ghost use Rattle.go_model.specs.Outcomes.Judged.{judged};
-ghost use Rattle.go_model.specs.Outcomes.View.{outcome_as};
-ghost use Rattle.go_model.specs.Types.Own.{IsOwnOutcome, Keeps};
+ghost use Rattle.go_constructs.specs.Struct as spec;
+ghost use Rattle.go_judge.specs.Judged.{judged};
+ghost use Rattle.go_judge.specs.View.{outcome_as};
+ghost use Rattle.go_judge.specs.Types.Own.{IsOwnOutcome, Keeps};
 ghost use Rattle.go_expr.specs.Elements.{AreOwnFields};
 
 use crate::given::copy_of;

@@ -1,10 +1,10 @@
 // Type literals (Go specification, "Types"), where all that stands in them is a type.
 ghost use Rattle.std.specs.Prelude.{◌≡◌, IfOk};
 ghost use Rattle.go_term.specs.Shapes.{shape_tree};
-ghost use Rattle.go_model.specs.Outcomes.Records as records;
-ghost use Rattle.go_model.specs.Outcomes.Records.{rec_as};
-ghost use Rattle.go_model.specs.Outcomes.View.{outcome_as};
-ghost use Rattle.go_model.specs.Types.Own.{AreOwn, IsOwnOutcome, IsOwnRec, Keeps};
+ghost use Rattle.go_judge.specs.Records as records;
+ghost use Rattle.go_judge.specs.Records.{rec_as};
+ghost use Rattle.go_judge.specs.View.{outcome_as};
+ghost use Rattle.go_judge.specs.Types.Own.{AreOwn, IsOwnOutcome, IsOwnRec, Keeps};
 ghost use Rattle.go_expr.specs.TypeLiteral.{type_outcome};
 
 use go_base::NoMemory;

@@ -2,11 +2,11 @@
 ghost use Rattle.std.specs.Prelude.{◌≡◌, [], IfOk, List, Some, length, map};
 ghost use Rattle.std.specs.List.{AllByRecursion};
 ghost use Rattle.go_term.specs.Types.{TypeData};
-ghost use Rattle.go_model.specs.Outcomes.Constructs.Limits.{makes_of};
-ghost use Rattle.go_model.specs.Outcomes.Judged.{asked, judged};
-ghost use Rattle.go_model.specs.Outcomes.Operands.{type_or_none};
-ghost use Rattle.go_model.specs.Outcomes.View.{outcome_as};
-ghost use Rattle.go_model.specs.Types.Own.{IsOwnOutcome};
+ghost use Rattle.go_judge.specs.Limits.{makes_of};
+ghost use Rattle.go_judge.specs.Judged.{asked, judged};
+ghost use Rattle.go_judge.specs.Operands.{type_or_none};
+ghost use Rattle.go_judge.specs.View.{outcome_as};
+ghost use Rattle.go_judge.specs.Types.Own.{IsOwnOutcome};
 ghost use Rattle.go_expr.specs.Given.{AreOwnRecs, no_type_spots, recs_as};
 ghost use Rattle.go_expr.specs.TypeLiteral.{IsOwnTyped, literal_of_all, typed_outcome};
 

@@ -3,7 +3,7 @@ ghost use Rattle.std.specs.Prelude.{◌≡◌, [], None, IfOk};
 ghost use Rattle.go_term.specs.Shapes.{shape_tree};
 ghost use Rattle.go_term.specs.Size.{size_fault};
 ghost use Rattle.go_term.specs.Types.{basic_type, interface_type, named, of_list};
-ghost use Rattle.go_model.specs.Types.Own.{AreOwn, Keeps};
+ghost use Rattle.go_judge.specs.Types.Own.{AreOwn, Keeps};
 
 use go_base::NoMemory;
 use go_model::Judge;

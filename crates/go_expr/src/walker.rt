@@ -1,6 +1,5 @@
 // Walks over expressions and types, node by node (Go specification, "Expressions").
-ghost use Rattle.std.specs.Prelude.{◌≡◌, ◌==◌, ℕ, None, Some, IfOk, IfSome, OnErr, OnOk, if◌then◌else◌, length, map};
-ghost use Rattle.std.specs.Prelude.{option_and_then};
+ghost use Rattle.std.specs.Prelude.{◌≡◌, ◌==◌, ℕ, None, Some, IfOk, IfSome, OnErr, OnOk, if◌then◌else◌, length, map, option_and_then};
 ghost use Rattle.std.specs.List.{AllByRecursion};
 ghost use Rattle.std.specs.Option.{option_map};
 ghost use Rattle.go_tree.specs.Tree.{id_of, kind_of, tree_of};
@@ -8,14 +7,14 @@ ghost use Rattle.go_tree.specs.declared.node_kind.NodeKind.TheVariants as kinds;
 ghost use Rattle.go_term.specs.Types.{TypeData};
 ghost use Rattle.go_term.specs.declared.term.Term.{Term};
 ghost use Rattle.go_operands.specs.Operands.{expressions_in, operands_of};
-ghost use Rattle.go_model.specs.Outcomes.Judged.{judged};
+ghost use Rattle.go_judge.specs.Judged.{judged};
 ghost use Rattle.go_model.specs.Outcomes.Readings.{record_in};
-ghost use Rattle.go_model.specs.Outcomes.Records.{rec_as};
-ghost use Rattle.go_model.specs.Outcomes.View.{outcome_as};
+ghost use Rattle.go_judge.specs.Records.{rec_as};
+ghost use Rattle.go_judge.specs.View.{outcome_as};
 ghost use Rattle.go_model.specs.Outcomes.Walk as walk;
 ghost use Rattle.go_model.specs.Outcomes.Walked.{ArePartly, walked_over};
-ghost use Rattle.go_model.specs.Types.Own.{IsOwnOutcome, Keeps, KeepsTypes};
-ghost use Rattle.go_model.specs.Values.Meaning.{AreThere};
+ghost use Rattle.go_judge.specs.Types.Own.{IsOwnOutcome, Keeps, KeepsTypes};
+ghost use Rattle.go_judge.specs.Naming.{AreThere};
 ghost use Rattle.go_expr.specs.Outcomes.{arrow_by, direction_by, first_kind};
 ghost use Rattle.go_expr.specs.Walker.{AreOwnOutcomes, outcome_in, outcomes_as};
 

@@ -2,9 +2,9 @@
 use Rattle.std.specs.Prelude.{◌≡◌, ℕ, ◌<◌, Some, List, Contains, length}
 use Rattle.go_tree.specs.Tree.{Tree}
 use Rattle.go_operands.specs.Operands.{operands_of}
-use Rattle.go_model.specs.Values.Meaning.{Naming}
-use Rattle.go_model.specs.Outcomes.Judged.{Asks}
-use Rattle.go_model.specs.Outcomes.Records.{HeaderData, RecData}
+use Rattle.go_judge.specs.Naming.{Naming}
+use Rattle.go_judge.specs.Judged.{Asks}
+use Rattle.go_judge.specs.Records.{HeaderData, RecData}
 use Rattle.go_model.specs.Outcomes.Walk.{construct}
 use Rattle.go_laws.specs.Complete.{asked_in}
 

@@ -9,14 +9,14 @@ use Rattle.go_tree.specs.Tree.{Tree}
 use Rattle.go_module.proofs.MemberLemmas.{cons_cases, contains_head, contains_none, contains_tail}
 use Rattle.go_operands.specs.Operands.{expressions_in, operands_of}
 use Rattle.go_operands.proofs.OperandLemmas.{by_operands, expressions_in-operands, folded-operands}
-use Rattle.go_model.specs.declared.outcome.Spot.{Spot}
-use Rattle.go_model.specs.Outcomes.Judged.{Broken, Found, Nothing, OutcomeData, Waits, outcome_at}
-use Rattle.go_model.specs.Outcomes.Exactly.{HasNothing}
-use Rattle.go_model.specs.Outcomes.Records.{RecData}
-use Rattle.go_model.specs.Outcomes.Stays.{HasFailed}
-use Rattle.go_model.specs.Outcomes.Walk.{Headers, construct, operand_outcomes, outcome}
-use Rattle.go_model.specs.Values.Meaning.{Naming}
-use Rattle.go_model.proofs.ExactWaitLemmas.{outcome_exactly}
+use Rattle.go_judge.specs.declared.outcome.Spot.{Spot}
+use Rattle.go_judge.specs.Judged.{Broken, Found, Nothing, OutcomeData, Waits, outcome_at}
+use Rattle.go_judge.specs.Exactly.{HasNothing, HasFailed}
+use Rattle.go_judge.specs.Records.{RecData}
+use Rattle.go_judge.specs.Headers.{Headers}
+use Rattle.go_model.specs.Outcomes.Walk.{construct, operand_outcomes, outcome}
+use Rattle.go_judge.specs.Naming.{Naming}
+use Rattle.go_model.proofs.OutcomeExactLemmas.{outcome_exactly}
 use Rattle.go_model.proofs.FlatLemmas.{flat_cases, flat_contains, map_cases}
 use Rattle.go_laws.specs.Complete.{asked_in, with_asked}
 use Rattle.go_laws.proofs.Asked.{IsAsked}

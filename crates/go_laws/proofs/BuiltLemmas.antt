@@ -3,15 +3,16 @@ use Rattle.std.proofs.Common.{◌≡◌, ℕ, ◌<◌, Some, List, [], ◌∷◌
 use Rattle.go_tree.specs.declared.node_kind.NodeKind.TheVariants.{AddExpr, ArrayType, ArrowExpr, ChanType, EmbeddedPointer, FuncType, IntLit, InterfaceType, MapType, Name, ParenExpr, SelectorExpr, SliceType, StarExpr, StructType}
 use Rattle.go_tree.specs.Tree.{Tree, Trees, branch, id_of, more_trees, no_trees}
 use Rattle.go_module.proofs.MemberLemmas.{cons_cases, contains_none}
-use Rattle.go_model.specs.declared.meaning.Meaning.{Meaning}
-use Rattle.go_model.specs.declared.meaning.Meaning.TheVariants.{AnyType, BasicType, Declared, DefinedType, Other, Predeclared}
-use Rattle.go_model.specs.Outcomes.Constructs.Name.{name}
-use Rattle.go_model.specs.Outcomes.Constructs.Selector.{selector}
-use Rattle.go_model.specs.Outcomes.Judged.{Asks, Construct}
-use Rattle.go_model.specs.Outcomes.Operands.{leaf, of_all, of_one, of_two}
-use Rattle.go_model.specs.Outcomes.Records.{HeaderData, RecData}
+use Rattle.go_constructs.specs.declared.meaning.Meaning.{Meaning}
+use Rattle.go_constructs.specs.declared.meaning.Meaning.TheVariants.{AnyType, BasicType, Declared, DefinedType, Other, Predeclared}
+use Rattle.go_constructs.specs.Name.{name}
+use Rattle.go_constructs.specs.Selector.{selector}
+use Rattle.go_judge.specs.Judged.{Asks, Construct}
+use Rattle.go_judge.specs.Operands.{leaf, of_all, of_one, of_two}
+use Rattle.go_judge.specs.Records.{HeaderData, RecData}
 use Rattle.go_model.specs.Outcomes.Walk.{construct, many_operands}
-use Rattle.go_model.specs.Values.Meaning.{Naming, meaning_by}
+use Rattle.go_judge.specs.Naming.{Naming}
+use Rattle.go_constructs.specs.Meaning.{meaning_by}
 use Rattle.go_model.proofs.FlatLemmas.{only_is}
 use Rattle.go_laws.specs.BuiltTrees.{HasForm, IsBuilt}
 use Rattle.go_laws.specs.Complete.{asked_in}

@@ -19,23 +19,26 @@ use Rattle.go_module.specs.declared.declaration.Built.TheVariants.{Itself}
 use Rattle.go_module.specs.declared.object.ObjKind.{ObjKind}
 use Rattle.go_module.specs.declared.object.ObjKind.TheVariants.{Alias, Const, Defined, Var}
 use Rattle.go_operands.specs.Operands.{expressions_in}
-use Rattle.go_model.specs.declared.meaning.Meaning.TheVariants.{Declared}
-use Rattle.go_model.specs.declared.outcome.Spot.{Spot}
-use Rattle.go_model.specs.Outcomes.Constructs.Kinds.{no_type, no_value}
-use Rattle.go_model.specs.Outcomes.Judged.{Broken, Found, Waits, OutcomeData}
-use Rattle.go_model.specs.Outcomes.Operands.{is_constant, is_type}
+use Rattle.go_constructs.specs.declared.meaning.Meaning.TheVariants.{Declared}
+use Rattle.go_judge.specs.declared.outcome.Spot.{Spot}
+use Rattle.go_judge.specs.Kinds.{no_type, no_value}
+use Rattle.go_judge.specs.Judged.{Broken, Found, Waits, OutcomeData}
+use Rattle.go_judge.specs.Operands.{is_constant, is_type}
 use Rattle.go_model.specs.Outcomes.Readings.{awaited_in, broken_spots, record_in}
-use Rattle.go_model.specs.Outcomes.Records.{HeaderData, RecData, declared_header}
-use Rattle.go_model.specs.Outcomes.Walk.{Headers, outcome}
+use Rattle.go_judge.specs.Records.{HeaderData, RecData}
+use Rattle.go_model.specs.Values.Records.{declared_header, record_of, tells_by, told_by}
+use Rattle.go_judge.specs.Headers.{Headers}
+use Rattle.go_model.specs.Outcomes.Walk.{outcome}
 use Rattle.go_model.specs.Phases.{HasHeaders, IsVerdict, sound}
 use Rattle.go_model.specs.Report.{LineData, NamedData, accepted}
 use Rattle.go_model.specs.Values.ByValue.{broken_contained}
 use Rattle.go_model.specs.Values.Declared.{declared_as}
-use Rattle.go_model.specs.Values.Meaning.{Naming, meaning_by, names_in}
-use Rattle.go_model.specs.Values.Records.{record_of, tells_by, told_by}
+use Rattle.go_judge.specs.Naming.{Naming}
+use Rattle.go_constructs.specs.Meaning.{meaning_by}
+use Rattle.go_model.specs.Values.Naming.{names_in}
 use Rattle.go_model.specs.Values.Rules.{are_unequal, broken_cycles, broken_in, broken_in_files, broken_node, broken_spec, broken_values, cyclic_at, has_record, others_by, others_by_kind, unequal_at, unequal_by_kind, unequal_sides}
 use Rattle.go_model.specs.Values.Waiting.{Chain, Waits as WaitsFor, awaited_by_nodes, more, one}
-use Rattle.go_model.proofs.ExactWaitLemmas.{outcome_exactly}
+use Rattle.go_model.proofs.OutcomeExactLemmas.{outcome_exactly}
 use Rattle.go_model.proofs.OutcomeLemmas.{outcome_stays}
 use Rattle.go_laws.specs.Complete.{IsComplete, asked_in, parts_in}
 use Rattle.go_laws.proofs.Asked.{AreAsked}

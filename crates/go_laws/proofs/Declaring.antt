@@ -8,8 +8,8 @@ use Rattle.go_module.specs.declared.object.ObjKind.{ObjKind}
 use Rattle.go_module.specs.declared.object.ObjKind.TheVariants.{Alias, Const, Defined, Var}
 use Rattle.go_module.specs.Modules.Module.{ModuleData, PackageData}
 use Rattle.go_module.specs.Names.Declarations.{Spec, by_values, declared_by_kind, declared_in, specs_of}
-use Rattle.go_model.specs.declared.meaning.Meaning.TheVariants.{Declared, DefinedType, Other}
-use Rattle.go_model.specs.Values.Meaning.{kind_meaning}
+use Rattle.go_constructs.specs.declared.meaning.Meaning.TheVariants.{Declared, DefinedType, Other}
+use Rattle.go_constructs.specs.Meaning.{kind_meaning}
 
 -- by what is declared, and by the types behind the names: constants, by their values; and variables, types and aliases
 -- behind whose names a type stands

@@ -35,9 +35,10 @@ use Rattle.go_module.specs.Names.Rules.OccurrenceRules.{blank_at, blank_value, b
 use Rattle.go_module.specs.Names.Tables.{Member, member_of, members_at, occurrences_from, uses_at, uses_of}
 use Rattle.go_module.specs.Scopes.{same_object}
 use Rattle.go_module.proofs.MemberLemmas.{contains_head}
-use Rattle.go_model.specs.declared.meaning.Meaning.TheVariants.{Other}
-use Rattle.go_model.specs.Outline.{is_predeclared}
-use Rattle.go_model.specs.Values.Meaning.{denoted_meaning, kind_meaning, meaning_by, names_in as package_names, objects_table, predeclared_meaning}
+use Rattle.go_constructs.specs.declared.meaning.Meaning.TheVariants.{Other}
+use Rattle.go_judge.specs.Headers.{is_predeclared}
+use Rattle.go_constructs.specs.Meaning.{denoted_meaning, kind_meaning, meaning_by, predeclared_meaning}
+use Rattle.go_model.specs.Values.Naming.{names_in as package_names, objects_table}
 use Rattle.go_laws.specs.BuiltTrees.{IsBuilt}
 use Rattle.go_laws.specs.Complete.{asked_in, parts_in}
 use Rattle.go_laws.specs.NodeNumbers.{NodeNumbersAscend, numbers_in_files}

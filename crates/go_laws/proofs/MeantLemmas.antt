@@ -13,12 +13,12 @@ use Rattle.go_module.specs.declared.object.ObjKind.TheVariants.{Alias, Const, De
 use Rattle.go_module.specs.Modules.Module.{ModuleData, PackageData, first_number}
 use Rattle.go_module.specs.Names.Declarations.{Declaration, declarations_of}
 use Rattle.go_module.specs.Scopes.{same_node}
-use Rattle.go_model.specs.declared.meaning.Meaning.{Meaning}
-use Rattle.go_model.specs.declared.meaning.Meaning.TheVariants.{AnyType, BasicType, Declared, DefinedType, Other, Predeclared}
-use Rattle.go_model.specs.Outcomes.Walk.{Headers}
-use Rattle.go_model.specs.Outline.{is_predeclared}
+use Rattle.go_constructs.specs.declared.meaning.Meaning.{Meaning}
+use Rattle.go_constructs.specs.declared.meaning.Meaning.TheVariants.{AnyType, BasicType, Declared, DefinedType, Other, Predeclared}
+use Rattle.go_judge.specs.Headers.{Headers, is_predeclared}
+use Rattle.go_constructs.specs.Meaning.{denoted_meaning, kind_meaning, meaning_by, predeclared_meaning, predeclared_types}
+use Rattle.go_model.specs.Values.Naming.{names_in, uses_table}
 use Rattle.go_model.specs.Values.Declared.{declared_as}
-use Rattle.go_model.specs.Values.Meaning.{denoted_meaning, kind_meaning, meaning_by, names_in, predeclared_meaning, predeclared_types, uses_table}
 use Rattle.go_laws.proofs.DenotedLemmas.{declared_by_number}
 use Rattle.go_laws.proofs.Denoting.{ImportsHaveHeaders}
 use Rattle.go_laws.proofs.KindLemmas.{Origin, of_block, of_export, of_import, of_universe, table_origin}

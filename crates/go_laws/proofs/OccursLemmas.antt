@@ -9,12 +9,13 @@ use Rattle.go_module.specs.Names.Occurrences.{names_in, occurrence, selecting, w
 use Rattle.go_module.proofs.MemberLemmas.{contains_head, contains_none}
 use Rattle.go_operands.specs.Operands.{operands_of}
 use Rattle.go_operands.proofs.OperandLemmas.{by_operands}
-use Rattle.go_model.specs.declared.meaning.Meaning.{Meaning}
-use Rattle.go_model.specs.declared.meaning.Meaning.TheVariants.{AnyType, BasicType, Declared, DefinedType, Other, Predeclared}
-use Rattle.go_model.specs.Outcomes.Constructs.Name.{name}
-use Rattle.go_model.specs.Outcomes.Constructs.Selector.{selector}
+use Rattle.go_constructs.specs.declared.meaning.Meaning.{Meaning}
+use Rattle.go_constructs.specs.declared.meaning.Meaning.TheVariants.{AnyType, BasicType, Declared, DefinedType, Other, Predeclared}
+use Rattle.go_constructs.specs.Name.{name}
+use Rattle.go_constructs.specs.Selector.{selector}
 use Rattle.go_model.specs.Outcomes.Walk.{many_operands}
-use Rattle.go_model.specs.Values.Meaning.{Naming, meaning_by}
+use Rattle.go_judge.specs.Naming.{Naming}
+use Rattle.go_constructs.specs.Meaning.{meaning_by}
 use Rattle.go_model.proofs.FlatLemmas.{only_is}
 use Rattle.go_laws.specs.BuiltTrees.{HasForm, IsBuilt, IsIdentifier, identifier, is_named}
 use Rattle.go_laws.specs.Complete.{asked_in}

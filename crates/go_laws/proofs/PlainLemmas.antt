@@ -15,30 +15,32 @@ use Rattle.go_tree.specs.Lexical.LiteralValues.{int_lit_value}
 use Rattle.go_tree.specs.declared.node_kind.NodeKind.TheVariants.{AddExpr, ArrayType, ArrowExpr, ChanType, EmbeddedPointer, FuncType, IntLit, InterfaceType, MapType, Name, ParenExpr, SelectorExpr, SliceType, StarExpr, StructType}
 use Rattle.go_tree.specs.Tree.{Tree, branch, id_of, list_of, more_trees, no_trees}
 use Rattle.go_module.proofs.MemberLemmas.{contains_head}
-use Rattle.go_model.specs.declared.meaning.Meaning.{Meaning}
-use Rattle.go_model.specs.declared.meaning.Meaning.TheVariants.{AnyType, BasicType, Declared, DefinedType, Other, Predeclared}
-use Rattle.go_model.specs.Outcomes.Constructs.Array.{array, length_in}
-use Rattle.go_model.specs.Outcomes.Constructs.Channel.{channel}
-use Rattle.go_model.specs.Outcomes.Constructs.Function.{function}
-use Rattle.go_model.specs.Outcomes.Constructs.Interface.{elems_in, interface_of}
-use Rattle.go_model.specs.Outcomes.Constructs.Kinds.{no_length}
-use Rattle.go_model.specs.Outcomes.Constructs.Limits.{makes, makes_of, wide_integer, within_limits}
-use Rattle.go_model.specs.Outcomes.Constructs.Literal.{literal}
-use Rattle.go_model.specs.Outcomes.Constructs.MapType.{map_of}
-use Rattle.go_model.specs.Outcomes.Constructs.Name.{name}
-use Rattle.go_model.specs.Outcomes.Constructs.Parentheses.{parentheses}
-use Rattle.go_model.specs.Outcomes.Constructs.Pointer.{pointer_to}
-use Rattle.go_model.specs.Outcomes.Constructs.Selector.{selector}
-use Rattle.go_model.specs.Outcomes.Constructs.Slice.{slice}
-use Rattle.go_model.specs.Outcomes.Constructs.Struct.{fields_in, struct_of}
-use Rattle.go_model.specs.Outcomes.Constructs.Sum.{sum}
-use Rattle.go_model.specs.Outcomes.Judged.{Asks, Construct, RuleTest, first_lack}
-use Rattle.go_model.specs.Outcomes.Operands.{are_types, at_each, at_whole, integers_ask, is_constant, is_type, leaf, of_all, of_one, of_two, spots_from, type_or_none}
-use Rattle.go_model.specs.Outcomes.Signatures.{is_variadic, types_in}
-use Rattle.go_model.specs.Outcomes.Records.{HeaderData, RecData, alias, constant, definition, func, integer_in, integer_record, named_record, type_record, variable}
-use Rattle.go_model.specs.Outcomes.Walk.{Headers, construct, many_operands}
-use Rattle.go_model.specs.Values.Meaning.{Naming, meaning_by}
-use Rattle.go_model.specs.Values.Quests.{Asked, Decided, Done, Lacks, Need, run}
+use Rattle.go_constructs.specs.declared.meaning.Meaning.{Meaning}
+use Rattle.go_constructs.specs.declared.meaning.Meaning.TheVariants.{AnyType, BasicType, Declared, DefinedType, Other, Predeclared}
+use Rattle.go_constructs.specs.Array.{array, length_in}
+use Rattle.go_constructs.specs.Channel.{channel}
+use Rattle.go_constructs.specs.Function.{function}
+use Rattle.go_constructs.specs.Interface.{elems_in, interface_of}
+use Rattle.go_judge.specs.Kinds.{no_length}
+use Rattle.go_judge.specs.Limits.{makes, makes_of, wide_integer, within_limits}
+use Rattle.go_constructs.specs.Literal.{literal}
+use Rattle.go_constructs.specs.MapType.{map_of}
+use Rattle.go_constructs.specs.Name.{name}
+use Rattle.go_constructs.specs.Parentheses.{parentheses}
+use Rattle.go_constructs.specs.Pointer.{pointer_to}
+use Rattle.go_constructs.specs.Selector.{selector}
+use Rattle.go_constructs.specs.Slice.{slice}
+use Rattle.go_constructs.specs.Struct.{fields_in, struct_of}
+use Rattle.go_constructs.specs.Sum.{sum}
+use Rattle.go_judge.specs.Judged.{Asks, Construct, RuleTest, first_lack}
+use Rattle.go_judge.specs.Operands.{are_types, at_each, at_whole, integers_ask, is_constant, is_type, leaf, of_all, of_one, of_two, spots_from, type_or_none}
+use Rattle.go_constructs.specs.Signatures.{is_variadic, types_in}
+use Rattle.go_judge.specs.Records.{HeaderData, RecData, alias, constant, definition, func, integer_in, integer_record, named_record, type_record, variable}
+use Rattle.go_judge.specs.Headers.{Headers}
+use Rattle.go_model.specs.Outcomes.Walk.{construct, many_operands}
+use Rattle.go_judge.specs.Naming.{Naming}
+use Rattle.go_constructs.specs.Meaning.{meaning_by}
+use Rattle.go_judge.specs.Quests.{Asked, Decided, Done, Lacks, Need, run}
 
 -- a record that has both, where it is that of a constant
 abbrev pub IsWhole : RecData → Type 0

@@ -15,12 +15,12 @@ use Rattle.go_module.specs.Names.Rules.BrokenNames.{broken_names}
 use Rattle.go_mod.specs.Folders.{Folder}
 use Rattle.go_load.specs.Loading.{IsModule}
 use Rattle.go_load.proofs.ModuleLawLemmas.{stand_before}
-use Rattle.go_model.specs.Outcomes.Records.{HeaderData}
-use Rattle.go_model.specs.Outcomes.Walk.{Headers}
+use Rattle.go_judge.specs.Records.{HeaderData}
+use Rattle.go_judge.specs.Headers.{Headers}
 use Rattle.go_model.specs.Phases.{AreReports, BreaksValues, IsVerdict, ReportOf, all_told, by_names, by_shapes, by_values, checks as checks_report, imports_accepted, is_accepted, package_report, skips as skips_report, sound}
 use Rattle.go_model.specs.Report.{LineData, NamedData, PackageReportData, ReportData, VerdictData, accepted, refused, skipped}
-use Rattle.go_model.specs.Values.Meaning.{names_in}
-use Rattle.go_model.specs.Values.Quests.{IsPart}
+use Rattle.go_model.specs.Values.Naming.{names_in}
+use Rattle.go_judge.specs.Quests.{IsPart}
 use Rattle.go_laws.specs.BuiltTrees.{PartsAreBuilt}
 use Rattle.go_laws.specs.Complete.{IsAcceptedAt, IsComplete, IsReached, checks, first, parts_in, skips}
 use Rattle.go_laws.specs.NodeNumbers.{NodeNumbersAscend}

@@ -10,13 +10,15 @@ use Rattle.go_tree.specs.Tree.{Tree}
 use Rattle.go_module.proofs.MemberLemmas.{contains_head}
 use Rattle.go_operands.specs.Operands.{operands_of}
 use Rattle.go_operands.proofs.OperandLemmas.{by_operands}
-use Rattle.go_model.specs.Outcomes.Exactly.{WaitsFor}
-use Rattle.go_model.specs.Outcomes.Judged.{Found, Nothing, OutcomeData, RuleTest, Waits, first_lack, outcome_at}
-use Rattle.go_model.specs.Outcomes.Operands.{is_constant}
-use Rattle.go_model.specs.Outcomes.Records.{HeaderData, RecData, constant, declared_header}
-use Rattle.go_model.specs.Outcomes.Walk.{Headers, construct, operand_outcomes, outcome}
-use Rattle.go_model.specs.Values.Meaning.{Naming}
-use Rattle.go_model.proofs.ExactWaitLemmas.{outcome_exactly}
+use Rattle.go_judge.specs.Exactly.{WaitsFor}
+use Rattle.go_judge.specs.Judged.{Found, Nothing, OutcomeData, RuleTest, Waits, first_lack, outcome_at}
+use Rattle.go_judge.specs.Operands.{is_constant}
+use Rattle.go_judge.specs.Records.{HeaderData, RecData, constant}
+use Rattle.go_model.specs.Values.Records.{declared_header}
+use Rattle.go_judge.specs.Headers.{Headers}
+use Rattle.go_model.specs.Outcomes.Walk.{construct, operand_outcomes, outcome}
+use Rattle.go_judge.specs.Naming.{Naming}
+use Rattle.go_model.proofs.OutcomeExactLemmas.{outcome_exactly}
 use Rattle.go_model.proofs.FlatLemmas.{map_cases, map_contains}
 use Rattle.go_laws.proofs.AskedLemmas.{outcome_cases}
 use Rattle.go_laws.proofs.PlainLemmas.{IsMeant, IsWhole, NoneLack, construct_plain}

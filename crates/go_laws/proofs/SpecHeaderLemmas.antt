@@ -6,10 +6,10 @@ use Rattle.go_module.specs.Names.Declarations.{Declaration, Spec, by_itself, dec
 use Rattle.go_module.specs.declared.declaration.Built.TheVariants.{Itself, Pair}
 use Rattle.go_module.specs.declared.object.ObjKind.{ObjKind}
 use Rattle.go_module.specs.declared.object.ObjKind.TheVariants.{Alias, Defined, Var}
-use Rattle.go_model.specs.Outcomes.Constructs.Kinds.{no_type}
-use Rattle.go_model.specs.Outcomes.Judged.{OutcomeData}
-use Rattle.go_model.specs.Outcomes.Operands.{is_type}
-use Rattle.go_model.specs.Outcomes.Records.{HeaderData, RecData, alias, definition, type_in, variable}
+use Rattle.go_judge.specs.Kinds.{no_type}
+use Rattle.go_judge.specs.Judged.{OutcomeData}
+use Rattle.go_judge.specs.Operands.{is_type}
+use Rattle.go_judge.specs.Records.{HeaderData, RecData, alias, definition, type_in, variable}
 use Rattle.go_model.specs.Values.Records.{tells_by, told_by}
 use Rattle.go_model.specs.Values.Rules.{others_by, others_by_kind}
 use Rattle.go_laws.proofs.RecordLemmas.{type_declared}

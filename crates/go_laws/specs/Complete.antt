@@ -8,8 +8,9 @@ use Rattle.go_tree.specs.Tree.{Tree}
 use Rattle.go_module.specs.Modules.Module.{ModuleData, PackageData}
 use Rattle.go_module.specs.Names.Declarations.{Declaration, declarations_of, number_of, specs_of}
 use Rattle.go_operands.specs.Operands.{folded}
-use Rattle.go_model.specs.Values.Meaning.{Naming}
-use Rattle.go_model.specs.Outcomes.Walk.{Headers, construct}
+use Rattle.go_judge.specs.Naming.{Naming}
+use Rattle.go_judge.specs.Headers.{Headers}
+use Rattle.go_model.specs.Outcomes.Walk.{construct}
 use Rattle.go_model.specs.Phases.{IsVerdict, imports_accepted, is_accepted, no_headers}
 use Rattle.go_model.specs.Report.{LineData, NamedData, VerdictData, accepted}
 use Rattle.go_model.specs.Values.Records.{record_of}

@@ -4,10 +4,10 @@ ghost use Rattle.std.specs.Prelude.{◌≡◌, ℕ, Bool, Some, true, List, slic
 ghost use Rattle.go_mod.specs.Folders.{Folder};
 ghost use Rattle.go_module.specs.Modules.Module.{ModuleData, PackageData};
 ghost use Rattle.go_load.specs.Loading.{IsModule};
-ghost use Rattle.go_model.specs.Outcomes.Walk.{Headers};
+ghost use Rattle.go_judge.specs.Headers.{Headers};
 ghost use Rattle.go_model.specs.Phases.{IsVerdict, ReportOf, imports_accepted, is_accepted};
 ghost use Rattle.go_model.specs.Report.{LineData, NamedData, PackageReportData, ReportData, accepted};
-ghost use Rattle.go_model.specs.Values.Meaning.{names_in};
+ghost use Rattle.go_model.specs.Values.Naming.{names_in};
 ghost use Rattle.go_laws.specs.Complete.{IsAcceptedAt, IsComplete, IsReached};
 
 /// Where the check of a module that is loaded comes to a package whose imports are accepted, and accepts it, each

@@ -3,15 +3,16 @@ use Rattle.std.proofs.Common.{◌≡◌, ℕ, Option, Some, None, List, [], ◌�
 use Rattle.std.specs.Prelude.{option_and_then}
 use Rattle.std.proofs.lemmas.Bool.{cases_eq, eq-eqb, ne_eqb}
 use Rattle.go_tree.specs.Tree.{Tree}
-use Rattle.go_model.specs.Values.Meaning.{Naming}
+use Rattle.go_judge.specs.Naming.{Naming}
 use Rattle.go_module.specs.Names.Declarations.{Declaration}
-use Rattle.go_model.specs.Outcomes.Judged.{Broken, Found, Nothing, OutcomeData, Waits}
+use Rattle.go_judge.specs.Judged.{Broken, Found, Nothing, OutcomeData, Waits}
 use Rattle.go_model.specs.Outcomes.Readings.{record_in}
-use Rattle.go_model.specs.Outcomes.Records.{HeaderData, RecData}
-use Rattle.go_model.specs.Outcomes.Walk.{Headers, outcome}
+use Rattle.go_judge.specs.Records.{HeaderData, RecData}
+use Rattle.go_judge.specs.Headers.{Headers, headers_of}
+use Rattle.go_model.specs.Outcomes.Walk.{outcome}
 use Rattle.go_model.specs.Values.Records.{header_over, record_of, tells_by, told_by}
-use Rattle.go_model.specs.Values.Headers.{headers_of, Follows, Justified, Known}
-use Rattle.go_model.specs.Values.Quests.{IsPart}
+use Rattle.go_model.specs.Values.Headers.{Follows, Justified, Known}
+use Rattle.go_judge.specs.Quests.{IsPart}
 use Rattle.go_model.proofs.OutcomeLemmas.{outcome_stays}
 
 record_in-found : {R : Type 0} (x : OutcomeData R) (r : R) → record_in x ≡ Some r → x ≡ Found r

@@ -7,7 +7,7 @@ use Rattle.std.proofs.lemmas.List.Sorted.{ranks_by}
 use Rattle.go_base.specs.declared.places.LineCol.{LineCol}
 use Rattle.go_model.specs.LineOrder.{AreInOrder, IsInOrder, end_of, is_before, no_file, one_more, place_cmp, start_of_line}
 use Rattle.go_model.specs.Report.{LineData}
-use Rattle.go_model.proofs.StableLemmas.{one_stable}
+use Rattle.go_judge.proofs.StableLemmas.{one_stable}
 
 place_total : IsTotalOrder place_cmp
 place_total = then_total (on_total (λ (p : LineCol). p.line) nat_cmp_total) (on_total (λ (p : LineCol). p.col) nat_cmp_total)

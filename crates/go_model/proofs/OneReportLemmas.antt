@@ -6,11 +6,13 @@ use Rattle.std.proofs.lemmas.List.Elements.{Contains-append_cases, Contains-appe
 use Rattle.go_base.specs.declared.rule.Broken.{Broken}
 use Rattle.go_module.specs.Names.Declarations.{Declaration, declarations_of}
 use Rattle.go_module.specs.Order.{IsListOf}
-use Rattle.go_model.specs.Values.Meaning.{Naming, names_in}
+use Rattle.go_judge.specs.Naming.{Naming}
+use Rattle.go_model.specs.Values.Naming.{names_in}
 use Rattle.go_module.specs.Modules.Module.{ModuleData, PackageData}
 use Rattle.go_module.specs.Places.{placed_by}
 use Rattle.go_model.specs.Obligations.Obliged.{Obliged}
-use Rattle.go_model.specs.Outcomes.Walk.{Headers, outcome}
+use Rattle.go_judge.specs.Headers.{Headers}
+use Rattle.go_model.specs.Outcomes.Walk.{outcome}
 use Rattle.go_model.specs.Outline.{outline_of}
 use Rattle.go_model.specs.PackageLines.{named_in}
 use Rattle.go_model.specs.Report.{LineData, VerdictData, refused, skipped, accepted, PackageReportData, ReportData}

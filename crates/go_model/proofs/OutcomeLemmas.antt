@@ -6,13 +6,16 @@ use Rattle.go_tree.specs.Tree.{Tree}
 use Rattle.go_module.proofs.MemberLemmas.{contains_head, contains_tail}
 use Rattle.go_operands.specs.Operands.{operands_of}
 use Rattle.go_operands.proofs.OperandLemmas.{by_operands, folded-operands}
-use Rattle.go_model.specs.Values.Meaning.{Naming}
-use Rattle.go_model.specs.Outcomes.Judged.{All, Asks, Broken, First, Found, Gone, Lacking, No, Nothing, Operands, OutcomeData, Construct, RuleTest, RuleEnd, Waits, Yes, asked, joined, judged, made, outcome_at, ruled, tested, together, end_on, with_records}
-use Rattle.go_model.specs.Outcomes.Stays.{HasFailed, OutcomeStays, StillBroken}
-use Rattle.go_model.specs.Values.Quests.{Asked, Decided, IsPart, Lacks, Quest, Stays, run}
-use Rattle.go_model.specs.Outcomes.Walk.{Headers, construct, operand_outcomes, outcome}
-use Rattle.go_model.proofs.QuestLemmas.{run-Lacks, run-stays}
-use Rattle.go_model.proofs.EndLemmas.{EndStays, end_on-Lacking, end_on-stays}
+use Rattle.go_judge.specs.Naming.{Naming}
+use Rattle.go_judge.specs.Exactly.{HasFailed}
+use Rattle.go_judge.specs.Judged.{All, Asks, Broken, First, Found, Gone, Lacking, No, Nothing, Operands, OutcomeData, Construct, RuleTest, RuleEnd, Waits, Yes, asked, joined, judged, made, outcome_at, ruled, tested, together, end_on, with_records}
+use Rattle.go_model.specs.Outcomes.Stays.{OutcomeStays, StillBroken}
+use Rattle.go_judge.specs.Quests.{Asked, Decided, IsPart, Lacks, Quest, Stays, run}
+use Rattle.go_judge.specs.Headers.{Headers}
+use Rattle.go_model.specs.Outcomes.Walk.{construct, operand_outcomes, outcome}
+use Rattle.go_judge.proofs.QuestLemmas.{run-Lacks, run-stays}
+use Rattle.go_judge.proofs.ExactWaitLemmas.{joined_gone}
+use Rattle.go_judge.proofs.EndLemmas.{EndStays, end_on-Lacking, end_on-stays}
 
 -- while the header of d is missing: it waits for d as before, or has failed
 abbrev WaitsOrFailed : {R : Type 0} → ℕ → OutcomeData R → Type 0
@@ -46,12 +49,6 @@ AllLast more (x ∷ xs) (y ∷ ys) = Lasts more x y × AllLast more xs ys
 AllLast more xs ys = ⊥
 
 -- OPERANDS
-
-pub joined_gone : {R : Type 0} (x : OutcomeData R) → joined x Gone ≡ Gone
-joined_gone (Found r) = refl
-joined_gone (Broken rule spots) = refl
-joined_gone (Waits d) = refl
-joined_gone Nothing = refl
 
 joined_found : {R : Type 0} (d : ℕ) (r : R) (y : Operands R) → FirstOrGone d y → FirstOrGone d (joined (Found r) y)
 joined_found d r (All rs) s = s

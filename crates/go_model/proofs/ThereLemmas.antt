@@ -21,7 +21,8 @@ use Rattle.go_module.specs.Names.Universe.{universe}
 use Rattle.go_module.specs.Scopes.{same_node, same_object}
 use Rattle.go_module.proofs.MemberLemmas.{contains_none}
 use Rattle.go_module.proofs.TableLemmas.{node_denotes, present_in}
-use Rattle.go_model.specs.Values.Meaning.{AreThere, names_by, names_in, uses_table}
+use Rattle.go_judge.specs.Naming.{AreThere}
+use Rattle.go_model.specs.Values.Naming.{names_by, names_in, uses_table}
 use Rattle.go_model.proofs.FlatLemmas.{filter_within, find_within, flat_cases, flat_contains, map_cases, map_contains, only_is}
 
 -- an object has its own number

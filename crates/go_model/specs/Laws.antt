@@ -9,11 +9,11 @@ use Rattle.go_module.specs.Modules.Module.{ModuleData, PackageData}
 use Rattle.go_module.specs.Names.Imports.{known_in}
 use Rattle.go_module.specs.Names.Tables.{uses_of}
 use Rattle.go_module.specs.Scopes.{same_object}
-use Rattle.go_model.specs.Outline.{is_predeclared, outline_of}
-use Rattle.go_model.specs.Values.Meaning.{Naming}
+use Rattle.go_judge.specs.Headers.{is_predeclared, Headers}
+use Rattle.go_judge.specs.Naming.{Naming}
+use Rattle.go_model.specs.Outline.{outline_of}
 use Rattle.go_module.specs.Names.Declarations.{Declaration}
-use Rattle.go_model.specs.Outcomes.Records.{HeaderData}
-use Rattle.go_model.specs.Outcomes.Walk.{Headers}
+use Rattle.go_judge.specs.Records.{HeaderData}
 use Rattle.go_model.specs.Values.Headers.{Known}
 
 -- a declaration has at most one header

@@ -10,11 +10,8 @@ pub mod Text
 -- the values of a package's declarations, and the rules on them
 pub mod Values
 pub mod Outcomes
-pub mod Types
 pub mod Laws
 pub mod Obligations
--- how tables by numbers are hashed
-pub mod NumberHasher
 -- what these rest on
 pub use Rattle.go_module.specs.Modules
 pub use Rattle.go_module.specs.Names

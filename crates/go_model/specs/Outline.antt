@@ -1,6 +1,6 @@
 -- Declarations and scope (Go specification).
 -- Decides where the objects of a module are declared, as a report has it, and what types name them by.
-use Rattle.std.specs.Prelude.{ℕ, ◌+◌, Bool, false, nat_lt, if◌then◌else◌, List, [], ◌∷◌, ◌++◌, map, Option, Some, None, slice_get, unwrap_or}
+use Rattle.std.specs.Prelude.{ℕ, ◌+◌, Bool, false, if◌then◌else◌, List, [], ◌∷◌, ◌++◌, map, Option, Some, None, slice_get, unwrap_or}
 use Rattle.std.specs.Map.{lookup}
 use Rattle.std.specs.Option.{option_map_or}
 use Rattle.go_base.specs.declared.ids.ObjId.{ObjId}
@@ -8,18 +8,15 @@ use Rattle.go_module.specs.IndexMap.{insert_all}
 use Rattle.go_tree.specs.Tree.{Tree, id_of, start_of}
 use Rattle.go_module.specs.declared.places.At.{At}
 use Rattle.go_module.specs.Modules.Heads.{import_specs}
-use Rattle.go_module.specs.Modules.Module.{FileData, PackageData, ModuleData, first_number}
+use Rattle.go_module.specs.Modules.Module.{FileData, PackageData, ModuleData}
 use Rattle.go_module.specs.Names.Declarations.{declarations_in, name_text, specs_in_file}
 use Rattle.go_module.specs.Names.Universe.{universe}
 use Rattle.go_module.specs.NodeParts.{first_part}
 use Rattle.go_module.specs.Places.{at_offset}
 use Rattle.go_module.specs.Scopes.{same_object}
+use Rattle.go_judge.specs.Headers.{is_predeclared}
 use Rattle.go_model.specs.declared.declared_object.DeclaredObject.{DeclaredObject}
 use Rattle.go_model.specs.Report.{NamedData}
-
--- a universe name has a number that no node has
-abbrev pub is_predeclared : ObjId → Bool
-is_predeclared d = nat_lt d.0 first_number
 
 -- the nodes of a file that can declare objects, by their texts: of an import its name or, if it is omitted, its string;
 -- the names of the file's declarations

@@ -21,15 +21,16 @@ use Rattle.go_module.specs.Names.Occurrences.{names_in_parts}
 use Rattle.go_operands.specs.Operands.{expressions_in_parts}
 use Rattle.go_module.specs.Places.{at_offset}
 use Rattle.go_module.specs.Scopes.{same_object}
-use Rattle.go_model.specs.Values.Meaning.{Naming}
+use Rattle.go_judge.specs.Naming.{Naming}
 use Rattle.go_model.specs.Outline.{Outline, declared_at, named_by, path_at}
 use Rattle.go_model.specs.LineOrder.{AreInOrder}
 use Rattle.go_model.specs.Members.{Member, members_of}
 use Rattle.go_model.specs.Report.{DefinedData, alias, constant, definition, field, function, imported, variable, WhatData, defined, used, expression, LineData, NamedData}
-use Rattle.go_model.specs.Outcomes.Records as headers
-use Rattle.go_model.specs.Outcomes.Records.{HeaderData, RecData}
-use Rattle.go_model.specs.Outcomes.Judged.{OutcomeData}
-use Rattle.go_model.specs.Outcomes.Walk.{Headers, outcome}
+use Rattle.go_judge.specs.Records as headers
+use Rattle.go_judge.specs.Records.{HeaderData, RecData}
+use Rattle.go_judge.specs.Judged.{OutcomeData}
+use Rattle.go_judge.specs.Headers.{Headers}
+use Rattle.go_model.specs.Outcomes.Walk.{outcome}
 use Rattle.go_model.specs.Values.Records.{header_by, record_by}
 
 -- the specs that are written, and no copies

@@ -13,15 +13,17 @@ use Rattle.go_tree.specs.declared.node.NodeId.{NodeId}
 use Rattle.go_module.specs.Names.Declarations.{Declaration, declarations_of}
 use Rattle.go_module.specs.Order.{IsListOf}
 use Rattle.go_model.specs.Values.Headers.{Known}
-use Rattle.go_model.specs.Values.Meaning.{Naming, names_in, uses_table}
+use Rattle.go_judge.specs.Naming.{Naming}
+use Rattle.go_model.specs.Values.Naming.{names_in, uses_table}
 use Rattle.go_module.specs.Modules.Module.{ModuleData, PackageData}
 use Rattle.go_model.specs.Outline.{outline_of}
 use Rattle.go_model.specs.PackageLines.{AreLines, named_in}
 use Rattle.go_module.specs.Graph.{is_marked}
 use Rattle.go_module.specs.Places.{placed_by}
-use Rattle.go_model.specs.Outcomes.Records.{HeaderData}
+use Rattle.go_judge.specs.Records.{HeaderData}
 use Rattle.go_model.specs.Obligations.Obliged.{Obliged}
-use Rattle.go_model.specs.Outcomes.Walk.{Headers, outcome}
+use Rattle.go_judge.specs.Headers.{Headers}
+use Rattle.go_model.specs.Outcomes.Walk.{outcome}
 use Rattle.go_model.specs.Report.{LineData, VerdictData, accepted, refused, skipped, PackageReportData, ReportData}
 use Rattle.go_model.specs.Values.ByValue.{Contained, broken_contained}
 use Rattle.go_model.specs.Values.Rules.{broken_values}

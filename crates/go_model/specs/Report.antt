@@ -16,7 +16,7 @@ use Rattle.go_model.specs.declared.lines.Line.{Line}
 use Rattle.go_model.specs.declared.lines.NamedObject.{NamedObject}
 use Rattle.go_model.specs.declared.lines.What.{What}
 use Rattle.go_model.specs.declared.lines.What.TheVariants.{Def, Used, Expr}
-use Rattle.go_model.specs.declared.rec.Mode.{Mode}
+use Rattle.go_judge.specs.declared.rec.Mode.{Mode}
 use Rattle.go_model.specs.declared.report.PackageReport.{PackageReport}
 use Rattle.go_model.specs.declared.report.Report.{Report}
 use Rattle.go_model.specs.declared.report.Verdict.{Verdict}

@@ -3,15 +3,14 @@ ghost use Rattle.std.specs.Prelude.{◌≡◌, ℕ, false, IfOk, IfSome, OnErr, 
 ghost use Rattle.std.specs.Option.{option_map};
 ghost use Rattle.go_tree.specs.Tree.{tree_of};
 ghost use Rattle.go_operands.specs.Operands.{expressions_in};
-ghost use Rattle.go_model.specs.Outcomes.View.{outcome_as};
+ghost use Rattle.go_judge.specs.View.{outcome_as};
 ghost use Rattle.go_model.specs.Outcomes.Walk as walk;
 ghost use Rattle.go_model.specs.Outcomes.Walked.{ArePartly, walked_over};
-ghost use Rattle.go_model.specs.Types.Own.{IsOwnOutcome, KeepsTypes};
-ghost use Rattle.go_model.specs.Values.Meaning.{AreThere};
+ghost use Rattle.go_judge.specs.Types.Own.{IsOwnOutcome, KeepsTypes};
+ghost use Rattle.go_judge.specs.Naming.{AreThere};
 
-use crate::ask::Ask;
-use crate::outcome::Outcome;
 use go_base::NoMemory;
+use go_judge::{Ask, Outcome};
 use go_term::Ty;
 use go_tree::{Node, NodeId};
 use std::alloc::Global;

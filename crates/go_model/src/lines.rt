@@ -1,6 +1,6 @@
 // The lines of an accepted package.
-use crate::rec::Mode;
 use go_base::{LineCol, Name};
+use go_judge::Mode;
 use go_module::{At, ObjId};
 use go_num::Value;
 use go_term::Term;

@@ -1,39 +1,31 @@
-// The rules on expressions and types by themselves that several constructs can break. U0, which they break too, stands in
-// go_module.
-use go_base::{Family, Rule};
+// Who judges expressions, walks over them, and is told headers.
+ghost use Rattle.std.specs.Prelude.{◌≡◌, ℕ, [], ◌∷◌, true, false, None, OnErr, OnOk};
+ghost use Rattle.go_judge.specs.Headers.{headers_of};
+ghost use Rattle.go_judge.specs.Records.{header_as};
+ghost use Rattle.go_judge.specs.Types.Own.{IsOwnHeader, KeepsTypes};
 
-/// An integer constant outside -2^127 to 2^127-1 (Go specification, "Constants").
-pub const WIDE_INTEGER: Rule = Rule {
-    family: Family::L,
-    number: 2,
-};
+use crate::expr_walk::ExprWalk;
+use go_base::NoMemory;
+use go_judge::{Header, Judge};
+use go_module::ObjId;
 
-/// A length of an array that is no constant from 0 on that an `int` represents (Go specification, "Array types").
-pub const NO_LENGTH: Rule = Rule {
-    family: Family::C,
-    number: 12,
-};
-
-/// Something other than a type, where a type is needed (Go specification, "Types").
-pub const NO_TYPE: Rule = Rule {
-    family: Family::C,
-    number: 13,
-};
-
-/// No value, or no constant, where one is needed (Go specification, "Expressions").
-pub const NO_VALUE: Rule = Rule {
-    family: Family::R,
-    number: 1,
-};
-
-/// A type deeper than 256 types (own).
-pub const DEEP_TYPE: Rule = Rule {
-    family: Family::L,
-    number: 4,
-};
-
-/// A type of more than 65,536 nodes (own).
-pub const LARGE_TYPE: Rule = Rule {
-    family: Family::L,
-    number: 5,
-};
+/// A judge that walks over expressions and is told headers.
+pub trait Rules: Judge + ExprWalk {
+    /// Adds the header of a declaration that has none; its types must be of its own. The names, the outcomes, its types, and
+    /// what else stays are as before. An error is want of memory, and leaves the headers as they were; behind it each call
+    /// that can answer it does.
+    fn learn(&mut self, d: ObjId, header: &Header) -> Result<(), NoMemory>
+        requires vacant { Self.headers self.old d.0 ≡ None }
+        requires own { IsOwnHeader (Self.is_type self.old) header.now }
+        ensures learned { OnOk result ((e : ℕ) → Self.headers self.new e
+            ≡ headers_of (Self.headers self.old) ((d.0, header_as (Self.tree self.old) header.now) ∷ []) e) }
+        ensures err { OnErr result ((e : ℕ) → Self.headers self.new e ≡ Self.headers self.old e) }
+        ensures names { Self.names self.new ≡ Self.names self.old }
+        ensures unspent { OnOk result (Self.is_spent self.old ≡ false) }
+        ensures kept { OnOk result (Self.is_spent self.new ≡ false) }
+        ensures spent { OnErr result (Self.is_spent self.new ≡ true) }
+        ensures outcomes { Self.outcomes self.new ≡ Self.outcomes self.old }
+        ensures world { Self.world self.new ≡ Self.world self.old }
+        ensures types { KeepsTypes (Self.is_type self.old) (Self.is_type self.new)
+            (Self.tree self.old) (Self.tree self.new) };
+}

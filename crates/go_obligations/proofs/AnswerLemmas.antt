@@ -10,8 +10,8 @@ use Rattle.go_term.specs.Types.{TypeData, of_one, pointer}
 use Rattle.go_term.specs.declared.shape.Shape.{Shape}
 use Rattle.go_term.specs.declared.shape.Shape.TheVariants as S
 use Rattle.go_term.specs.declared.term.Term.{Term}
-use Rattle.go_model.specs.Outcomes.Walk.{Headers}
-use Rattle.go_model.proofs.EntryLemmas.{same_is}
+use Rattle.go_judge.specs.Headers.{Headers}
+use Rattle.go_judge.proofs.EntryLemmas.{same_is}
 use Rattle.go_obligations.specs.contracts.answers.NamedDemand.{the_type}
 use Rattle.go_obligations.specs.declared.answers.Answers.{Answers}
 use Rattle.go_obligations.specs.declared.answers.NamedDemand.{NamedDemand}

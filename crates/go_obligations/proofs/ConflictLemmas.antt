@@ -12,10 +12,10 @@ use Rattle.go_term.specs.Types.{TypeData}
 use Rattle.go_term.specs.declared.term.Term.{Term}
 use Rattle.go_module.specs.Modules.Paths.{same_text}
 use Rattle.go_model.specs.Obligations.Methods.{Gets, GetsTwo, OwnMethod, same_name, signature_of}
-use Rattle.go_model.specs.Outcomes.Walk.{Headers}
-use Rattle.go_model.specs.Types.Own.{KeepsTypes}
-use Rattle.go_model.specs.Types.TypeIdentity.{identical}
-use Rattle.go_model.specs.Values.Quests.{Asked, Decided, Lacks, run}
+use Rattle.go_judge.specs.Headers.{Headers}
+use Rattle.go_judge.specs.Types.Own.{KeepsTypes}
+use Rattle.go_judge.specs.Types.TypeIdentity.{identical}
+use Rattle.go_judge.specs.Quests.{Asked, Decided, Lacks, run}
 use Rattle.go_obligations.specs.Conflicts.{AreInConflict, ConflictsAt, conflicts, differ, differs_from_any, is_further, is_no}
 use Rattle.go_obligations.specs.Firsts.{AreFirsts, IsFirst, IsFirstOf, Key, first_by, is_declared_before, key_of, same_key}
 use Rattle.go_obligations.specs.Methods.{AreOwnMethods, IsOwnMethod, method_view}

@@ -6,13 +6,13 @@ use Rattle.go_term.specs.Types.{TypeData}
 use Rattle.go_term.specs.declared.term.Term.{Term}
 use Rattle.go_model.specs.Obligations.Constraints.{IsConstraint, adds_terms, is_parameter}
 use Rattle.go_model.specs.Obligations.Embedded.{Embeds}
-use Rattle.go_model.specs.Outcomes.Walk.{Headers}
-use Rattle.go_model.specs.Types.Forms.{form_as, form_asked, underlying_over}
-use Rattle.go_model.specs.Types.TypeSets.{is_interface}
-use Rattle.go_model.specs.Types.UnderlyingType.{Reach, Reaches, Returns, Exceeds, under}
-use Rattle.go_model.specs.Values.Quests.{Asked, Decided, Lacks, run}
-use Rattle.go_model.specs.declared.form.Form.{Form}
-use Rattle.go_model.specs.declared.form.Form.TheVariants as F
+use Rattle.go_judge.specs.Headers.{Headers}
+use Rattle.go_judge.specs.Types.Forms.{form_as, form_asked, underlying_over}
+use Rattle.go_judge.specs.Types.TypeSets.{is_interface}
+use Rattle.go_judge.specs.Types.UnderlyingType.{Reach, Reaches, Returns, Exceeds, under}
+use Rattle.go_judge.specs.Quests.{Asked, Decided, Lacks, run}
+use Rattle.go_judge.specs.declared.form.Form.{Form}
+use Rattle.go_judge.specs.declared.form.Form.TheVariants as F
 use Rattle.go_obligations.specs.ConstraintParts.{IsGeneral, IsGeneralForm}
 use Rattle.go_obligations.proofs.ListLemmas.{any-contains, contains-any}
 

@@ -4,12 +4,12 @@ use Rattle.std.specs.Option.{option_map_or}
 use Rattle.go_term.specs.Types.{Head, basic, pointer, slice, array, map_type, channel, function, struct_type, interface_type, tuple, named, param, bound, list, field, method, union, union_term, TypeData, Parts, made}
 use Rattle.go_model.specs.Obligations.Constraints.{is_parameter}
 use Rattle.go_model.specs.Obligations.Embedding.{embeds_as, may_embed}
-use Rattle.go_model.specs.Outcomes.Records.{HeaderData}
-use Rattle.go_model.specs.Outcomes.Walk.{Headers}
-use Rattle.go_model.specs.Types.Forms.{answer_as, form_asked, found_in, underlying_over}
-use Rattle.go_model.specs.Types.TypeIdentity.{Test}
-use Rattle.go_model.specs.Types.UnderlyingType.{Reach, Reaches, Returns, Exceeds, under}
-use Rattle.go_model.specs.Values.Quests.{Asked, Decided, Lacks, Quest, Done, Need, run, then_ask}
+use Rattle.go_judge.specs.Records.{HeaderData}
+use Rattle.go_judge.specs.Headers.{Headers}
+use Rattle.go_judge.specs.Types.Forms.{answer_as, form_asked, found_in, underlying_over}
+use Rattle.go_judge.specs.Types.TypeIdentity.{Test}
+use Rattle.go_judge.specs.Types.UnderlyingType.{Reach, Reaches, Returns, Exceeds, under}
+use Rattle.go_judge.specs.Quests.{Asked, Decided, Lacks, Quest, Done, Need, run, then_ask}
 use Rattle.go_obligations.specs.EmbeddingParts.{answer_of, embeds_asked}
 
 pub answer-told : (yes : Bool) → answer_as (answer_of yes) ≡ Decided yes

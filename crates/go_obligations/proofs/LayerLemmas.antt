@@ -18,8 +18,8 @@ use Rattle.go_term.specs.declared.term.Term.{Term}
 use Rattle.go_model.specs.Obligations.Constraints.{adds_terms, has_terms, is_parameter}
 use Rattle.go_model.specs.Obligations.Embedded.{embedded_in, embedded_type}
 use Rattle.go_model.specs.Obligations.Embedding.{embeds_as}
-use Rattle.go_model.specs.Types.Own.{AreOwn, IsOwnElem}
-use Rattle.go_model.specs.Types.TypeSets.{is_interface}
+use Rattle.go_judge.specs.Types.Own.{AreOwn, IsOwnElem}
+use Rattle.go_judge.specs.Types.TypeSets.{is_interface}
 use Rattle.go_obligations.proofs.ListLemmas.{all-joined}
 use Rattle.go_obligations.specs.EmbeddedShapes.{adds_shape, embeds_shape, is_interface_basic, is_interface_shape, is_parameter_shape, is_terms, name_alone, name_in, only_type, type_embedded, types_embedded, types_in}
 

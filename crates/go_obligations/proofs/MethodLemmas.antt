@@ -16,8 +16,8 @@ use Rattle.go_term.specs.declared.term.Term.{Term}
 use Rattle.go_module.proofs.MemberLemmas.{cons_cases, contains_head, contains_none, contains_tail}
 use Rattle.go_model.specs.Obligations.Embedded.{Embeds}
 use Rattle.go_model.specs.Obligations.Methods.{Gets, OwnMethod, method_in, methods_in, signature_of}
-use Rattle.go_model.specs.Outcomes.Walk.{Headers}
-use Rattle.go_model.specs.Types.Own.{AreOwn, AreOwnFunc, IsOwnElem, KeepsTypes}
+use Rattle.go_judge.specs.Headers.{Headers}
+use Rattle.go_judge.specs.Types.Own.{AreOwn, AreOwnFunc, IsOwnElem, KeepsTypes}
 use Rattle.go_obligations.specs.Methods.{AreOwnMethods, IsOwnMethod, elements_in, method_view}
 use Rattle.go_obligations.specs.declared.methods.Method.{Method}
 

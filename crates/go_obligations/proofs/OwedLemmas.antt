@@ -11,10 +11,10 @@ use Rattle.go_module.specs.Broken.{told_if}
 use Rattle.go_module.proofs.MemberLemmas.{cons_cases, contains_head, contains_none, contains_tail}
 use Rattle.go_term.specs.Types.{TypeData}
 use Rattle.go_term.specs.declared.term.Term.{Term}
-use Rattle.go_model.specs.Outcomes.Judged.{OutcomeData}
-use Rattle.go_model.specs.Outcomes.Records.{RecData}
-use Rattle.go_model.specs.Outcomes.Walk.{Headers}
-use Rattle.go_model.specs.Types.Own.{KeepsTypes}
+use Rattle.go_judge.specs.Judged.{OutcomeData}
+use Rattle.go_judge.specs.Records.{RecData}
+use Rattle.go_judge.specs.Headers.{Headers}
+use Rattle.go_judge.specs.Types.Own.{KeepsTypes}
 use Rattle.go_model.proofs.FlatLemmas.{only_is}
 use Rattle.go_obligations.specs.declared.obligation.Obligation.{Obligation}
 use Rattle.go_obligations.specs.Owed.{AreOwnObligations, Fails, IsTold, Owed, owed_as, owed_by_field, owed_by_fields, owed_view, told_of}

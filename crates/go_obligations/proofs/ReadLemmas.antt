@@ -15,12 +15,13 @@ use Rattle.go_names.specs.Views.{all_specs, specs_by_file}
 use Rattle.go_operands.specs.Operands.{expressions_in, expressions_in_parts, operands_of}
 use Rattle.go_term.specs.Types.{TypeData}
 use Rattle.go_model.specs.Obligations.Obliged.{components_of, variable_types}
-use Rattle.go_model.specs.Outcomes.Judged.{Nothing, OutcomeData}
+use Rattle.go_judge.specs.Judged.{Nothing, OutcomeData}
 use Rattle.go_model.specs.Outcomes.Readings.{record_in}
-use Rattle.go_model.specs.Outcomes.Records.{RecData, type_in}
-use Rattle.go_model.specs.Outcomes.Walk.{Headers, outcome}
-use Rattle.go_model.specs.Outcomes.Walked.{AreWalked, Outcomes, nodes_of}
-use Rattle.go_model.specs.Values.Meaning.{Naming}
+use Rattle.go_judge.specs.Records.{RecData, type_in}
+use Rattle.go_judge.specs.Headers.{Headers, Outcomes}
+use Rattle.go_model.specs.Outcomes.Walk.{outcome}
+use Rattle.go_model.specs.Outcomes.Walked.{AreWalked, nodes_of}
+use Rattle.go_judge.specs.Naming.{Naming}
 use Rattle.go_model.proofs.FlatLemmas.{flat_cases, flat_contains, flat_map-same}
 use Rattle.go_obligations.specs.declared.obligation.Demand.{Demand}
 use Rattle.go_obligations.specs.declared.obligation.Demand.TheVariants.{Embeddable, NoConstraint, OneTypeEach}

@@ -11,14 +11,14 @@ use Rattle.go_module.proofs.MemberLemmas.{cons_cases, contains_head, contains_no
 use Rattle.go_term.specs.Types.{TypeData, made, named, no_parts}
 use Rattle.go_term.specs.declared.term.Term.{Term}
 use Rattle.go_model.specs.Obligations.Embedded.{Embeds, itself, further, IsUnderlying, embedded_in}
-use Rattle.go_model.specs.Outcomes.Walk.{Headers}
-use Rattle.go_model.specs.Types.Forms.{IsOwnForm, form_as, form_asked, underlying_over}
-use Rattle.go_model.specs.Types.Own.{KeepsTypes}
-use Rattle.go_model.specs.Types.UnderlyingType.{Reach, Reaches, Returns, Exceeds, under}
-use Rattle.go_model.specs.Values.Quests.{Asked, Decided, Lacks, run}
-use Rattle.go_model.specs.declared.form.Form.{Form}
-use Rattle.go_model.specs.declared.form.Form.TheVariants as F
-use Rattle.go_model.proofs.EntryLemmas.{same_is}
+use Rattle.go_judge.specs.Headers.{Headers}
+use Rattle.go_judge.specs.Types.Forms.{IsOwnForm, form_as, form_asked, underlying_over}
+use Rattle.go_judge.specs.Types.Own.{KeepsTypes}
+use Rattle.go_judge.specs.Types.UnderlyingType.{Reach, Reaches, Returns, Exceeds, under}
+use Rattle.go_judge.specs.Quests.{Asked, Decided, Lacks, run}
+use Rattle.go_judge.specs.declared.form.Form.{Form}
+use Rattle.go_judge.specs.declared.form.Form.TheVariants as F
+use Rattle.go_judge.proofs.EntryLemmas.{same_is}
 use Rattle.go_obligations.specs.EmbeddedSearch.{AreOpened, IsSearch, IsSearched, IsUnderlyingOf, Opens, types_asked, types_of_form, underlying_types}
 use Rattle.go_obligations.proofs.ListLemmas.{all-weaker, at-before, at-contains, contains-at, map-agrees}
 

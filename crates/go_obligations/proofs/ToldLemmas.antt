@@ -17,10 +17,10 @@ use Rattle.go_operands.specs.Operands.{expressions_in_parts, operands_of}
 use Rattle.go_term.specs.Types.{TypeData}
 use Rattle.go_model.specs.Obligations.Embedding.{may_be_embedded}
 use Rattle.go_model.specs.Obligations.Obliged.{IsMisused, NodeBreaks, Obliged, SpecBreaks, component, components_of, embedding, methods, of_spec, variable, variable_types, within}
-use Rattle.go_model.specs.Outcomes.Judged.{OutcomeData}
-use Rattle.go_model.specs.Outcomes.Records.{RecData}
-use Rattle.go_model.specs.Outcomes.Walk.{Headers}
-use Rattle.go_model.specs.Values.Quests.{Decided, run}
+use Rattle.go_judge.specs.Judged.{OutcomeData}
+use Rattle.go_judge.specs.Records.{RecData}
+use Rattle.go_judge.specs.Headers.{Headers}
+use Rattle.go_judge.specs.Quests.{Decided, run}
 use Rattle.go_model.proofs.FlatLemmas.{flat_cases, flat_contains, map_cases, map_contains, only_is}
 use Rattle.go_obligations.specs.declared.obligation.Demand.{Demand}
 use Rattle.go_obligations.specs.declared.obligation.Demand.TheVariants.{Embeddable, NoConstraint, OneTypeEach}

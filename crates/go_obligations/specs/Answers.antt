@@ -8,7 +8,7 @@ use Rattle.go_base.specs.declared.ids.ObjId.{ObjId}
 use Rattle.go_tree.specs.declared.node_kind.NodeKind.TheVariants.{EmbeddedField, EmbeddedPointer}
 use Rattle.go_module.specs.Scopes.{same_object}
 use Rattle.go_term.specs.Types.{TypeData, made, named, no_parts, of_one, pointer}
-use Rattle.go_model.specs.Outcomes.Walk.{Headers}
+use Rattle.go_judge.specs.Headers.{Headers}
 use Rattle.go_obligations.specs.contracts.answers.NamedDemand.{the_type}
 use Rattle.go_obligations.specs.declared.answers.Answers.{Answers}
 use Rattle.go_obligations.specs.declared.answers.NamedDemand.{NamedDemand}

@@ -3,9 +3,9 @@ use Rattle.std.specs.Prelude.{◌≡◌, ℕ, ◌≤◌, ◌==◌, ◌&&◌, ◌
 use Rattle.std.specs.List.{list_any}
 use Rattle.go_term.specs.Types.{TypeData}
 use Rattle.go_term.specs.declared.term.Term.{Term}
-use Rattle.go_model.specs.Outcomes.Walk.{Headers}
-use Rattle.go_model.specs.Types.TypeIdentity.{identical}
-use Rattle.go_model.specs.Values.Quests.{Asked, Decided, run}
+use Rattle.go_judge.specs.Headers.{Headers}
+use Rattle.go_judge.specs.Types.TypeIdentity.{identical}
+use Rattle.go_judge.specs.Quests.{Asked, Decided, run}
 use Rattle.go_obligations.specs.Firsts.{Key, first_by, key_of, same_key}
 use Rattle.go_obligations.specs.declared.methods.Method.{Method}
 

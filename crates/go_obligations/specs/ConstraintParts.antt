@@ -4,10 +4,10 @@ use Rattle.go_term.specs.Types.{TypeData}
 use Rattle.go_term.specs.declared.term.Term.{Term}
 use Rattle.go_model.specs.Obligations.Constraints.{adds_terms}
 use Rattle.go_model.specs.Obligations.Embedded.{Embeds}
-use Rattle.go_model.specs.Outcomes.Walk.{Headers}
-use Rattle.go_model.specs.Types.TypeSets.{is_interface}
-use Rattle.go_model.specs.declared.form.Form.{Form}
-use Rattle.go_model.specs.declared.form.Form.TheVariants as F
+use Rattle.go_judge.specs.Headers.{Headers}
+use Rattle.go_judge.specs.Types.TypeSets.{is_interface}
+use Rattle.go_judge.specs.declared.form.Form.{Form}
+use Rattle.go_judge.specs.declared.form.Form.TheVariants as F
 
 -- over these headers an underlying type is an interface that is not basic
 pub record IsGeneral (headers : Headers) (literal : TypeData) : Type 0 where

@@ -8,11 +8,11 @@ use Rattle.go_module.specs.Scopes.{same_object}
 use Rattle.go_term.specs.Types.{TypeData, made, named, no_parts}
 use Rattle.go_term.specs.declared.term.Term.{Term}
 use Rattle.go_model.specs.Obligations.Embedded.{Embeds, IsUnderlying, embedded_in}
-use Rattle.go_model.specs.Outcomes.Walk.{Headers}
-use Rattle.go_model.specs.Types.Forms.{underlying_over}
-use Rattle.go_model.specs.Values.Quests.{Asked, Decided, Lacks}
-use Rattle.go_model.specs.declared.form.Form.{Form}
-use Rattle.go_model.specs.declared.form.Form.TheVariants as F
+use Rattle.go_judge.specs.Headers.{Headers}
+use Rattle.go_judge.specs.Types.Forms.{underlying_over}
+use Rattle.go_judge.specs.Quests.{Asked, Decided, Lacks}
+use Rattle.go_judge.specs.declared.form.Form.{Form}
+use Rattle.go_judge.specs.declared.form.Form.TheVariants as F
 use Rattle.go_obligations.specs.declared.opened.Opened.{Opened}
 
 -- an object is among those that were opened

@@ -3,9 +3,9 @@ use Rattle.std.specs.Prelude.{Bool, true, false, Option}
 use Rattle.std.specs.Option.{option_map_or}
 use Rattle.go_term.specs.Types.{TypeData}
 use Rattle.go_model.specs.Obligations.Embedding.{embeds_as}
-use Rattle.go_model.specs.Values.Quests.{Asked, Decided, Lacks}
-use Rattle.go_model.specs.declared.outcome.Answer.{Answer}
-use Rattle.go_model.specs.declared.outcome.Answer.TheVariants.{Yes, No}
+use Rattle.go_judge.specs.Quests.{Asked, Decided, Lacks}
+use Rattle.go_judge.specs.declared.outcome.Answer.{Answer}
+use Rattle.go_judge.specs.declared.outcome.Answer.TheVariants.{Yes, No}
 
 -- an answer by a test
 abbrev pub answer_of : Bool → Answer

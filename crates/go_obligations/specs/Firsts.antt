@@ -3,7 +3,7 @@ use Rattle.std.specs.Prelude.{◌≡◌, ℕ, ◌<◌, ◌≤◌, ◌&&◌, Bool
 use Rattle.std.specs.Map.{lookup}
 use Rattle.std.specs.Option.{option_map_or}
 use Rattle.go_module.specs.Modules.Paths.{same_text}
-use Rattle.go_model.specs.Types.TypeSets.{home_of}
+use Rattle.go_judge.specs.Types.TypeSets.{home_of}
 use Rattle.go_obligations.specs.declared.methods.Method.{Method}
 
 -- a name, and the path of the package where it is not exported

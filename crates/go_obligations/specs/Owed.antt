@@ -17,10 +17,10 @@ use Rattle.go_model.specs.Obligations.Constraints.{IsConstraint, misused_constra
 use Rattle.go_model.specs.Obligations.Embedding.{invalid_embedding, may_be_embedded}
 use Rattle.go_model.specs.Obligations.Methods.{GetsTwo, differing_methods}
 use Rattle.go_model.specs.Obligations.Obliged.{components_of, variable_types}
-use Rattle.go_model.specs.Outcomes.Judged.{OutcomeData}
-use Rattle.go_model.specs.Outcomes.Records.{RecData, type_in}
-use Rattle.go_model.specs.Outcomes.Walk.{Headers}
-use Rattle.go_model.specs.Values.Quests.{Decided, run}
+use Rattle.go_judge.specs.Judged.{OutcomeData}
+use Rattle.go_judge.specs.Records.{RecData, type_in}
+use Rattle.go_judge.specs.Headers.{Headers}
+use Rattle.go_judge.specs.Quests.{Decided, run}
 use Rattle.go_model.specs.Values.Records.{record_by}
 use Rattle.go_obligations.specs.declared.obligation.Demand.{Demand}
 use Rattle.go_obligations.specs.declared.obligation.Demand.TheVariants.{Embeddable, NoConstraint, OneTypeEach}

@@ -2,7 +2,7 @@
 ghost use Rattle.std.specs.Prelude.{◌≡◌, ◌↔◌, ◌<◌, ◌&&◌, IfOk, length, true};
 ghost use Rattle.std.specs.List.{AllByRecursion};
 ghost use Rattle.go_model.specs.Obligations.Methods.{GetsTwo};
-ghost use Rattle.go_model.specs.Types.Own.{Keeps};
+ghost use Rattle.go_judge.specs.Types.Own.{Keeps};
 ghost use Rattle.go_obligations.specs.Conflicts.{AreInConflict, ConflictsAt, conflicts, differ, differs_from_any, is_further};
 ghost use Rattle.go_obligations.specs.Firsts.{AreFirsts, key_of, same_key};
 ghost use Rattle.go_obligations.specs.Methods.{AreOwnMethods, IsOwnMethod};

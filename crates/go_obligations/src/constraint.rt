@@ -3,9 +3,9 @@ ghost use Rattle.std.specs.Prelude.{◌≡◌, ◌↔◌, true, IfOk, map};
 ghost use Rattle.std.specs.List.{AllByRecursion, list_any};
 ghost use Rattle.go_model.specs.Obligations.Constraints as spec;
 ghost use Rattle.go_model.specs.Obligations.Constraints.{IsConstraint};
-ghost use Rattle.go_model.specs.Types.Forms.{IsOwnForm};
-ghost use Rattle.go_model.specs.Types.Own.{Keeps};
-ghost use Rattle.go_model.specs.Types.TypeSets as sets;
+ghost use Rattle.go_judge.specs.Types.Forms.{IsOwnForm};
+ghost use Rattle.go_judge.specs.Types.Own.{Keeps};
+ghost use Rattle.go_judge.specs.Types.TypeSets as sets;
 ghost use Rattle.go_obligations.specs.ConstraintParts.{IsGeneral, IsGeneralForm};
 
 use crate::elements::adds_terms;

@@ -3,7 +3,7 @@ ghost use Rattle.std.specs.Prelude.{◌≡◌, ◌↔◌, ◌<◌, ◌∷◌, �
 ghost use Rattle.std.specs.List.{AllByRecursion};
 ghost use Rattle.go_term.specs.Types.{TypeData, made, named, no_parts};
 ghost use Rattle.go_model.specs.Obligations.Embedded.{Embeds, embedded_in};
-ghost use Rattle.go_model.specs.Types.Own.{Keeps};
+ghost use Rattle.go_judge.specs.Types.Own.{Keeps};
 ghost use Rattle.go_obligations.specs.EmbeddedSearch.{IsSearch, Opens, is_opened, types_of_form, underlying_types};
 
 use crate::elements::types_in;

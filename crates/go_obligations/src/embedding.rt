@@ -4,9 +4,9 @@ ghost use Rattle.go_term.specs.Shapes.{shape_tree};
 ghost use Rattle.go_tree.specs.declared.node_kind.NodeKind.TheVariants as kinds;
 ghost use Rattle.go_model.specs.Obligations.Constraints as constraints;
 ghost use Rattle.go_model.specs.Obligations.Embedding as spec;
-ghost use Rattle.go_model.specs.Types.Forms.{IsOwnForm, answer_as, form_as};
-ghost use Rattle.go_model.specs.Types.Own.{AreOwn, Keeps};
-ghost use Rattle.go_model.specs.Values.Quests.{run};
+ghost use Rattle.go_judge.specs.Types.Forms.{IsOwnForm, answer_as, form_as};
+ghost use Rattle.go_judge.specs.Types.Own.{AreOwn, Keeps};
+ghost use Rattle.go_judge.specs.Quests.{run};
 ghost use Rattle.go_obligations.specs.EmbeddingParts.{answer_of, embeds_asked};
 
 use crate::layer::{embeds, is_parameter};

@@ -1,6 +1,6 @@
 // Methods by their names (Go specification, "Uniqueness of identifiers", "Interface types").
 ghost use Rattle.std.specs.Prelude.{◌≡◌, ◌+◌, ◌<◌, IfOk, IfSome, OnOk, Some, length, slice_get};
-ghost use Rattle.go_model.specs.Types.TypeSets.{home_of};
+ghost use Rattle.go_judge.specs.Types.TypeSets.{home_of};
 ghost use Rattle.go_obligations.specs.Firsts.{AreFirsts, first_by, is_declared_before, key_of, same_key};
 ghost use Rattle.go_obligations.specs.declared.methods.Method.{Method};
 

@@ -4,7 +4,7 @@ ghost use Rattle.std.specs.List.{AllByRecursion, flat_map};
 ghost use Rattle.go_term.specs.Shapes.{elem_tree, func_parts, shape_tree};
 ghost use Rattle.go_term.specs.Types.{method, made};
 ghost use Rattle.go_model.specs.Obligations.Methods.{Gets, OwnMethod, method_in, methods_in};
-ghost use Rattle.go_model.specs.Types.Own.{AreOwn, AreOwnFunc, IsOwnElem, Keeps};
+ghost use Rattle.go_judge.specs.Types.Own.{AreOwn, AreOwnFunc, IsOwnElem, Keeps};
 ghost use Rattle.go_obligations.specs.Methods.{AreOwnMethods, elements_in, method_view};
 
 use crate::embedded::embedded_types;

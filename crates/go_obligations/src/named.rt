@@ -1,7 +1,7 @@
 // Demands on types that are names alone (Go specification, "Struct types", "General interfaces").
 ghost use Rattle.std.specs.Prelude.{◌≡◌, IfOk, IfSome};
 ghost use Rattle.go_term.specs.Shapes.{shape_tree};
-ghost use Rattle.go_model.specs.Types.Own.{AreOwn, Keeps};
+ghost use Rattle.go_judge.specs.Types.Own.{AreOwn, Keeps};
 ghost use Rattle.go_obligations.specs.Answers.{IsKeyOf, demand_of, named_type, type_by};
 ghost use Rattle.go_obligations.specs.declared.obligation.Demand.TheVariants as demands;
 ghost use Rattle.go_obligations.specs.declared.answers.NamedDemand.TheVariants as named_demands;

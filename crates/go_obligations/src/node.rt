@@ -3,9 +3,9 @@ ghost use Rattle.std.specs.Prelude.{◌≡◌, ◌++◌, IfOk, IfSome, OnOk, map
 ghost use Rattle.std.specs.Option.{option_map};
 ghost use Rattle.go_tree.specs.Tree.{kind_of, tree_of};
 ghost use Rattle.go_names.specs.Views.{trees_at};
-ghost use Rattle.go_model.specs.Outcomes.Records as parts;
-ghost use Rattle.go_model.specs.Outcomes.Records.{rec_as};
-ghost use Rattle.go_model.specs.Types.Own.{IsOwnRec};
+ghost use Rattle.go_judge.specs.Records as parts;
+ghost use Rattle.go_judge.specs.Records.{rec_as};
+ghost use Rattle.go_judge.specs.Types.Own.{IsOwnRec};
 ghost use Rattle.go_obligations.specs.Owed.{AreOwnObligations, owed_at, owed_by_field, owed_by_fields, owed_by_literal, owed_by_node, owed_by_types, owed_view, written_by};
 ghost use Rattle.go_obligations.specs.Read.{outcome_read};
 

@@ -4,9 +4,9 @@ ghost use Rattle.std.specs.Prelude.{◌≡◌, ◌↔◌, IfOk, IfSome, OnOk, Co
 ghost use Rattle.go_base.specs.declared.rule.Broken.{Broken};
 ghost use Rattle.go_module.specs.Broken.{broken_at};
 ghost use Rattle.go_model.specs.Obligations.Embedding as embedding;
-ghost use Rattle.go_model.specs.Types.Forms.{answer_as};
-ghost use Rattle.go_model.specs.Types.Own.{Keeps};
-ghost use Rattle.go_model.specs.Values.Quests.{Decided, run};
+ghost use Rattle.go_judge.specs.Types.Forms.{answer_as};
+ghost use Rattle.go_judge.specs.Types.Own.{Keeps};
+ghost use Rattle.go_judge.specs.Quests.{Decided, run};
 ghost use Rattle.go_obligations.specs.Answers.{AreAnswers, IsKeyOf};
 ghost use Rattle.go_obligations.specs.Owed as spec;
 

@@ -6,7 +6,7 @@ ghost use Rattle.go_module.specs.Modules.Module.{PackageData, module_view, packa
 ghost use Rattle.go_model.specs.Obligations.Obliged.{Obliged};
 ghost use Rattle.go_model.specs.Outcomes.Walk.{outcome};
 ghost use Rattle.go_model.specs.Outcomes.Walked.{AreWalked, nodes_of};
-ghost use Rattle.go_model.specs.Types.Own.{Keeps};
+ghost use Rattle.go_judge.specs.Types.Own.{Keeps};
 
 use crate::obligation::broken_of;
 use crate::spec::owed_by;

@@ -1,10 +1,10 @@
 -- What follows of answers to questions, by what the questions come to.
 use Rattle.std.proofs.Common.{◌≡◌, ℕ, Option, Some, None, refl, ◌∙◌}
 use Rattle.go_term.specs.Types.{TypeData}
-use Rattle.go_model.specs.Outcomes.Walk.{Headers}
-use Rattle.go_model.specs.Types.Forms.{form_asked, found_in, underlying_over}
-use Rattle.go_model.specs.Types.UnderlyingType.{Reach, under}
-use Rattle.go_model.specs.Values.Quests.{Asked, Decided, Done, Lacks, Need, Quest, run, then_ask}
+use Rattle.go_judge.specs.Headers.{Headers}
+use Rattle.go_judge.specs.Types.Forms.{form_asked, found_in, underlying_over}
+use Rattle.go_judge.specs.Types.UnderlyingType.{Reach, under}
+use Rattle.go_judge.specs.Quests.{Asked, Decided, Done, Lacks, Need, Quest, run, then_ask}
 use Rattle.go_ops.specs.AskedSorts.{asked_map}
 
 -- a question that ends by the answer to another

@@ -10,22 +10,22 @@ use Rattle.go_num.specs.declared.value.NumKind.TheVariants as K
 use Rattle.go_num.specs.declared.value.Value.{Value}
 use Rattle.go_num.specs.declared.value.Value.TheVariants as V
 use Rattle.go_term.specs.Types.{TypeData}
-use Rattle.go_model.specs.declared.rec.Mode.{Mode}
-use Rattle.go_model.specs.declared.rec.Mode.TheVariants as M
-use Rattle.go_model.specs.Outcomes.Operands.{is_constant_mode}
-use Rattle.go_model.specs.Outcomes.Records.{RecData}
-use Rattle.go_ops.specs.Constants.{constant_in}
+use Rattle.go_judge.specs.declared.rec.Mode.{Mode}
+use Rattle.go_judge.specs.declared.rec.Mode.TheVariants as M
+use Rattle.go_judge.specs.Operands.{is_constant_mode}
+use Rattle.go_judge.specs.Records.{RecData}
+use Rattle.go_constructs.specs.Operators.Constants.{constant_in}
 use Rattle.go_ops.specs.Limited.{IsGiven, IsGivenNothing}
-use Rattle.go_ops.specs.Matching.{common_sort, later}
-use Rattle.go_ops.specs.Operators.{fit_found, has_no_quotient, is_boolean, is_by_zero, is_integer, is_numeric, is_text, of_values}
-use Rattle.go_ops.specs.Representable.{fit_of, fit_of_integer, fit_of_text, fit_of_truth}
+use Rattle.go_constructs.specs.Operators.Matching.{common_sort, later}
+use Rattle.go_constructs.specs.Operators.Operations.{fit_found, has_no_quotient, is_boolean, is_by_zero, is_integer, is_numeric, is_text, of_values}
+use Rattle.go_constructs.specs.Operators.Representable.{fit_of, fit_of_integer, fit_of_text, fit_of_truth}
 use Rattle.go_ops.specs.Stages.{are_of, both_divide, both_of}
-use Rattle.go_ops.specs.declared.fit.Fit.TheVariants.{Differs, Fits, Long}
+use Rattle.go_constructs.specs.declared.fit.Fit.TheVariants.{Differs, Fits, Long}
 use Rattle.go_ops.specs.declared.limits.Given.{Given}
-use Rattle.go_ops.specs.declared.operator.Operation.{Operation}
-use Rattle.go_ops.specs.declared.operator.Operation.TheVariants.{Arithmetic}
-use Rattle.go_ops.specs.declared.sort.Sort.{Sort}
-use Rattle.go_ops.specs.declared.sort.Sort.TheVariants as S
+use Rattle.go_constructs.specs.declared.operator.Operation.{Operation}
+use Rattle.go_constructs.specs.declared.operator.Operation.TheVariants.{Arithmetic}
+use Rattle.go_constructs.specs.declared.sort.Sort.{Sort}
+use Rattle.go_constructs.specs.declared.sort.Sort.TheVariants as S
 use Rattle.go_ops.proofs.MatchingLemmas.{common-of}
 
 -- FITS BY KINDS

@@ -2,21 +2,21 @@
 use Rattle.std.proofs.Common.{◌≡◌, ◌&&◌, Bool, true, Some, List, [], ◌∷◌, refl, sym, ap, ◌∙◌}
 use Rattle.go_module.specs.Rules.{unbuilt_form}
 use Rattle.go_num.specs.declared.comparisons.CmpOp.{CmpOp}
-use Rattle.go_model.specs.Outcomes.Judged.{OutcomeData, RuleTest, asked, tested}
-use Rattle.go_model.specs.Outcomes.Operands.{are_values, at_whole}
-use Rattle.go_model.specs.Outcomes.Records.{HeaderData, RecData}
-use Rattle.go_model.specs.Outcomes.Walk.{Headers}
-use Rattle.go_model.specs.Values.Quests.{Asked, Decided, Done, Lacks, Quest, run, then_ask}
-use Rattle.go_model.proofs.QuestLemmas.{run-then-Lacks}
+use Rattle.go_judge.specs.Judged.{OutcomeData, RuleTest, asked, tested}
+use Rattle.go_judge.specs.Operands.{are_values, at_whole}
+use Rattle.go_judge.specs.Records.{HeaderData, RecData}
+use Rattle.go_judge.specs.Headers.{Headers}
+use Rattle.go_judge.specs.Quests.{Asked, Decided, Done, Lacks, Quest, run, then_ask}
+use Rattle.go_judge.proofs.QuestLemmas.{run-then-Lacks}
 use Rattle.go_ops.specs.ComparisonStages.{built_comparison, fitting_comparison, kept_comparison, matched_comparison, sorts_comparison, values_comparison, whole_comparison}
-use Rattle.go_ops.specs.Comparisons.{compares, comparison, is_constant_or_no_value}
-use Rattle.go_ops.specs.Matching.{are_kept, are_matched, are_single, common_sort, given_fit, match_by, not_overflowing}
+use Rattle.go_constructs.specs.Operators.Comparisons.{compares, comparison, is_constant_or_no_value}
+use Rattle.go_constructs.specs.Operators.Matching.{are_kept, are_matched, are_single, common_sort, given_fit, match_by, not_overflowing}
 use Rattle.go_ops.specs.Refusals.{by_two, by_whole, or_later, two_refused}
-use Rattle.go_ops.specs.Representable.{not_overflows, not_unkept}
-use Rattle.go_ops.specs.Rules.{constant_overflow, incomparable_operands, mismatched_operands, unkept_float}
-use Rattle.go_ops.specs.Sorts.{by_sorts, sorts_of}
+use Rattle.go_constructs.specs.Operators.Representable.{not_overflows, not_unkept}
+use Rattle.go_constructs.specs.Operators.Rules.{constant_overflow, incomparable_operands, mismatched_operands, unkept_float}
+use Rattle.go_constructs.specs.Operators.Sorts.{by_sorts, sorts_of}
 use Rattle.go_ops.specs.Stages.{by_answer}
-use Rattle.go_ops.specs.declared.sort.Sort.{Sort}
+use Rattle.go_constructs.specs.declared.sort.Sort.{Sort}
 use Rattle.go_ops.proofs.EndLemmas.{two-refused, whole-by, whole-lacks}
 use Rattle.go_ops.proofs.StageLemmas.{given-by, matched-by, sorts-told}
 

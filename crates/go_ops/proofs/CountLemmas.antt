@@ -7,15 +7,15 @@ use Rattle.go_num.specs.declared.ranges.IntType.{IntType}
 use Rattle.go_num.specs.declared.ranges.IntType.TheVariants as I
 use Rattle.go_num.specs.declared.value.Value.{Value}
 use Rattle.go_num.specs.declared.value.Value.TheVariants as V
-use Rattle.go_model.specs.Outcomes.Records.{RecData}
-use Rattle.go_ops.specs.Constants.{constant_in}
+use Rattle.go_judge.specs.Records.{RecData}
+use Rattle.go_constructs.specs.Operators.Constants.{constant_in}
 use Rattle.go_ops.specs.Limited.{FitsSort}
-use Rattle.go_ops.specs.Matching.{is_number}
+use Rattle.go_constructs.specs.Operators.Matching.{is_number}
 use Rattle.go_ops.specs.Shifted.{IsUint}
-use Rattle.go_ops.specs.Shifts.{is_count, is_not_negative, represents_count}
-use Rattle.go_ops.specs.declared.fit.Fit.TheVariants.{Fits, Overflows}
-use Rattle.go_ops.specs.declared.sort.Sort.{Sort}
-use Rattle.go_ops.specs.declared.sort.Sort.TheVariants as S
+use Rattle.go_constructs.specs.Operators.Shifts.{is_count, is_not_negative, represents_count}
+use Rattle.go_constructs.specs.declared.fit.Fit.TheVariants.{Fits, Overflows}
+use Rattle.go_constructs.specs.declared.sort.Sort.{Sort}
+use Rattle.go_constructs.specs.declared.sort.Sort.TheVariants as S
 
 and_second : (a b : Bool) → (a && b) ≡ true → b ≡ true
 and_second true b e = e

@@ -1,17 +1,17 @@
 -- How a node ends by the first of its tests: what is asked at the node as a whole, at one operand, and at two.
 use Rattle.std.proofs.Common.{◌≡◌, ℕ, Bool, true, false, Option, None, List, [], ◌∷◌, ◌++◌, refl, sym, ap, ◌∙◌}
 use Rattle.go_base.specs.declared.rule.Rule.{Rule}
-use Rattle.go_model.specs.declared.outcome.Spot.{Spot}
-use Rattle.go_model.specs.declared.outcome.Spot.TheVariants.{Part, Whole}
-use Rattle.go_model.specs.Outcomes.Constructs.Kinds.{no_value}
-use Rattle.go_model.specs.Outcomes.Judged.{OutcomeData, Broken, RuleTest, Waits, lack_or, rule_end, ruled, spot_if_no, tested}
-use Rattle.go_model.specs.Outcomes.Operands.{are_values, at_whole, is_value}
-use Rattle.go_model.specs.Outcomes.Records.{HeaderData, RecData}
-use Rattle.go_model.specs.Outcomes.Walk.{Headers}
-use Rattle.go_model.specs.Values.Quests.{Asked, Decided, Done, Lacks, Quest, run}
-use Rattle.go_ops.specs.Matching.{are_single, is_single_type}
+use Rattle.go_judge.specs.declared.outcome.Spot.{Spot}
+use Rattle.go_judge.specs.declared.outcome.Spot.TheVariants.{Part, Whole}
+use Rattle.go_judge.specs.Kinds.{no_value}
+use Rattle.go_judge.specs.Judged.{OutcomeData, Broken, RuleTest, Waits, lack_or, rule_end, ruled, spot_if_no, tested}
+use Rattle.go_judge.specs.Operands.{are_values, at_whole, is_value}
+use Rattle.go_judge.specs.Records.{HeaderData, RecData}
+use Rattle.go_judge.specs.Headers.{Headers}
+use Rattle.go_judge.specs.Quests.{Asked, Decided, Done, Lacks, Quest, run}
+use Rattle.go_constructs.specs.Operators.Matching.{are_single, is_single_type}
 use Rattle.go_ops.specs.Refusals.{by_part, by_two, by_whole, one_refused, or_later, refused_one, refused_two, several_refused, two_refused}
-use Rattle.go_ops.specs.Rules.{several_values}
+use Rattle.go_constructs.specs.Operators.Rules.{several_values}
 
 -- AT ONE PLACE
 

@@ -2,11 +2,11 @@
 use Rattle.std.proofs.Common.{◌≡◌, ℕ, Bool, true, false, Option, None, List, [], ◌∷◌, ◌++◌, refl, sym, ◌∙◌}
 use Rattle.std.specs.List.{AllByRecursion}
 use Rattle.go_base.specs.declared.rule.Rule.{Rule}
-use Rattle.go_model.specs.declared.outcome.Spot.TheVariants.{Whole}
-use Rattle.go_model.specs.Outcomes.Judged.{Broken, Found, Lacking, No, OutcomeData, RuleEnd, RuleTest, Waits, Yes, end_on, lack_or, made, rule_end, ruled, spot_if_no, tested}
-use Rattle.go_model.specs.Outcomes.Operands.{at_whole}
-use Rattle.go_model.specs.Values.Quests.{Asked, Decided, Lacks, Quest, run, then_ask}
-use Rattle.go_model.proofs.QuestLemmas.{run-then, run-then-Lacks}
+use Rattle.go_judge.specs.declared.outcome.Spot.TheVariants.{Whole}
+use Rattle.go_judge.specs.Judged.{Broken, Found, Lacking, No, OutcomeData, RuleEnd, RuleTest, Waits, Yes, end_on, lack_or, made, rule_end, ruled, spot_if_no, tested}
+use Rattle.go_judge.specs.Operands.{at_whole}
+use Rattle.go_judge.specs.Quests.{Asked, Decided, Lacks, Quest, run, then_ask}
+use Rattle.go_judge.proofs.QuestLemmas.{run-then, run-then-Lacks}
 
 -- a test that holds
 abbrev pub Holds : {H : Type 0} → (ℕ → Option H) → RuleTest H → Type 0

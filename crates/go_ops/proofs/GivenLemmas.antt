@@ -8,29 +8,29 @@ use Rattle.go_num.specs.declared.value.NumKind.{NumKind}
 use Rattle.go_num.specs.declared.value.NumKind.TheVariants as K
 use Rattle.go_num.specs.declared.value.Value.{Value}
 use Rattle.go_term.specs.Types.{TypeData, basic_type, list, of_list}
-use Rattle.go_model.specs.declared.rec.Mode.{Mode}
-use Rattle.go_model.specs.declared.rec.Mode.TheVariants as M
-use Rattle.go_model.specs.Outcomes.Constructs.Limits.{wide_integer}
-use Rattle.go_model.specs.Outcomes.Judged.{Yes, end_on}
-use Rattle.go_model.specs.Outcomes.Operands.{at_whole, is_constant_mode, type_or_none}
-use Rattle.go_model.specs.Outcomes.Records.{HeaderData, RecData}
-use Rattle.go_model.specs.Outcomes.Walk.{Headers}
-use Rattle.go_model.specs.Types.Forms.{found_in}
-use Rattle.go_model.specs.Types.UnderlyingType.{most_steps, under_from}
-use Rattle.go_model.specs.Values.Quests.{Decided, Done, Quest, run, then_ask}
-use Rattle.go_model.proofs.QuestLemmas.{run-then}
-use Rattle.go_ops.specs.Constants.{constant_in, constant_record, long_test, overflow_test, record_of, unkept_test, value_record, wide_test}
-use Rattle.go_ops.specs.Honest.{IsHonest}
-use Rattle.go_ops.specs.Matching.{untyped_basic}
-use Rattle.go_ops.specs.Operators.{fit_found, given_values}
-use Rattle.go_ops.specs.Representable.{fit_of, not_long, not_overflows, not_unkept, not_wide, representable}
-use Rattle.go_ops.specs.Rules.{constant_overflow, long_text, unkept_float}
-use Rattle.go_ops.specs.Sorts.{sort_by, sort_found, sort_in, sort_of, sorts_of}
-use Rattle.go_ops.specs.Unary.{of_value}
-use Rattle.go_ops.specs.declared.fit.Fit.{Fit}
-use Rattle.go_ops.specs.declared.fit.Fit.TheVariants.{Differs, Fits, Long, Overflows, Unkept, Wide}
-use Rattle.go_ops.specs.declared.sort.Sort.{Sort}
-use Rattle.go_ops.specs.declared.sort.Sort.TheVariants as S
+use Rattle.go_judge.specs.declared.rec.Mode.{Mode}
+use Rattle.go_judge.specs.declared.rec.Mode.TheVariants as M
+use Rattle.go_judge.specs.Limits.{wide_integer}
+use Rattle.go_judge.specs.Judged.{Yes, end_on}
+use Rattle.go_judge.specs.Operands.{at_whole, is_constant_mode, type_or_none}
+use Rattle.go_judge.specs.Records.{HeaderData, RecData}
+use Rattle.go_judge.specs.Headers.{Headers}
+use Rattle.go_judge.specs.Types.Forms.{found_in}
+use Rattle.go_judge.specs.Types.UnderlyingType.{most_steps, under_from}
+use Rattle.go_judge.specs.Quests.{Decided, Done, Quest, run, then_ask}
+use Rattle.go_judge.proofs.QuestLemmas.{run-then}
+use Rattle.go_constructs.specs.Operators.Constants.{constant_in, constant_record, long_test, overflow_test, record_of, unkept_test, value_record, wide_test}
+use Rattle.go_constructs.specs.Operators.Honest.{IsHonest}
+use Rattle.go_constructs.specs.Operators.Matching.{untyped_basic}
+use Rattle.go_constructs.specs.Operators.Operations.{fit_found, given_values}
+use Rattle.go_constructs.specs.Operators.Representable.{fit_of, not_long, not_overflows, not_unkept, not_wide, representable}
+use Rattle.go_constructs.specs.Operators.Rules.{constant_overflow, long_text, unkept_float}
+use Rattle.go_constructs.specs.Operators.Sorts.{sort_by, sort_found, sort_in, sort_of, sorts_of}
+use Rattle.go_constructs.specs.Operators.Unary.{of_value}
+use Rattle.go_constructs.specs.declared.fit.Fit.{Fit}
+use Rattle.go_constructs.specs.declared.fit.Fit.TheVariants.{Differs, Fits, Long, Overflows, Unkept, Wide}
+use Rattle.go_constructs.specs.declared.sort.Sort.{Sort}
+use Rattle.go_constructs.specs.declared.sort.Sort.TheVariants as S
 use Rattle.go_ops.proofs.FoundLemmas.{behind, whole-holds}
 use Rattle.go_ops.proofs.KindLemmas.{all-fits}
 

@@ -7,38 +7,38 @@ use Rattle.go_num.specs.declared.value.Value.{Value}
 use Rattle.go_num.specs.declared.value.Value.TheVariants as V
 use Rattle.go_term.specs.Types.{TypeData, basic_type}
 use Rattle.go_term.specs.declared.basic.Basic.TheVariants.{UntypedBool}
-use Rattle.go_model.specs.declared.rec.Mode.{Mode}
-use Rattle.go_model.specs.declared.rec.Mode.TheVariants as M
-use Rattle.go_model.specs.Outcomes.Constructs.Limits.{makes}
-use Rattle.go_model.specs.Outcomes.Judged.{asked}
-use Rattle.go_model.specs.Outcomes.Operands.{is_constant_mode, is_type, type_or_none}
-use Rattle.go_model.specs.Outcomes.Records.{RecData}
-use Rattle.go_model.specs.Outcomes.Walk.{Headers}
-use Rattle.go_model.specs.Types.Forms.{found_in}
-use Rattle.go_model.specs.Types.UnderlyingType.{under}
-use Rattle.go_model.specs.Values.Quests.{Decided, Done, run}
-use Rattle.go_model.proofs.QuestLemmas.{run-then}
-use Rattle.go_ops.specs.Binary.{binary}
-use Rattle.go_ops.specs.Channels.{receive, received_from}
-use Rattle.go_ops.specs.Comparisons.{compared_values, comparison}
-use Rattle.go_ops.specs.Constants.{constant_in, record_of, value_record}
-use Rattle.go_ops.specs.Honest.{GivesHonest, IsHonest}
-use Rattle.go_ops.specs.Matching.{common_sort, common_type, later}
-use Rattle.go_ops.specs.Operators.{fit, fit_found, fit_of_both, given_values, of_values, operation, value_of}
-use Rattle.go_ops.specs.Pointers.{address, base_of, indirected, indirection, pointer_to, under_operand}
-use Rattle.go_ops.specs.Representable.{fit_of}
-use Rattle.go_ops.specs.Shifts.{shift, shift_fit, shifted_value, span_of}
-use Rattle.go_ops.specs.Sorts.{sort_in, sort_of, sorts_of}
-use Rattle.go_ops.specs.Unary.{of_value, sign, sign_fit, signed_value, unary}
-use Rattle.go_ops.specs.declared.fit.Fit.TheVariants.{Differs, Fits}
-use Rattle.go_ops.specs.declared.operator.BinaryOp.{BinaryOp}
-use Rattle.go_ops.specs.declared.operator.BinaryOp.TheVariants.{Compares, Operates, Shifts}
-use Rattle.go_ops.specs.declared.operator.Operation.{Operation}
-use Rattle.go_ops.specs.declared.operator.Sign.{Sign}
-use Rattle.go_ops.specs.declared.operator.UnaryOp.{UnaryOp}
-use Rattle.go_ops.specs.declared.operator.UnaryOp.TheVariants.{Address, Indirects, Receives, Signs}
-use Rattle.go_ops.specs.declared.sort.Sort.{Sort}
-use Rattle.go_ops.specs.declared.sort.Sort.TheVariants as S
+use Rattle.go_judge.specs.declared.rec.Mode.{Mode}
+use Rattle.go_judge.specs.declared.rec.Mode.TheVariants as M
+use Rattle.go_judge.specs.Limits.{makes}
+use Rattle.go_judge.specs.Judged.{asked}
+use Rattle.go_judge.specs.Operands.{is_constant_mode, is_type, type_or_none}
+use Rattle.go_judge.specs.Records.{RecData}
+use Rattle.go_judge.specs.Headers.{Headers}
+use Rattle.go_judge.specs.Types.Forms.{found_in}
+use Rattle.go_judge.specs.Types.UnderlyingType.{under}
+use Rattle.go_judge.specs.Quests.{Decided, Done, run}
+use Rattle.go_judge.proofs.QuestLemmas.{run-then}
+use Rattle.go_constructs.specs.Operators.Binary.{binary}
+use Rattle.go_constructs.specs.Operators.Channels.{receive, received_from}
+use Rattle.go_constructs.specs.Operators.Comparisons.{compared_values, comparison}
+use Rattle.go_constructs.specs.Operators.Constants.{constant_in, record_of, value_record}
+use Rattle.go_constructs.specs.Operators.Honest.{GivesHonest, IsHonest}
+use Rattle.go_constructs.specs.Operators.Matching.{common_sort, common_type, later}
+use Rattle.go_constructs.specs.Operators.Operations.{fit, fit_found, fit_of_both, given_values, of_values, operation, value_of}
+use Rattle.go_constructs.specs.Operators.Pointers.{address, base_of, indirected, indirection, pointer_to, under_operand}
+use Rattle.go_constructs.specs.Operators.Representable.{fit_of}
+use Rattle.go_constructs.specs.Operators.Shifts.{shift, shift_fit, shifted_value, span_of}
+use Rattle.go_constructs.specs.Operators.Sorts.{sort_in, sort_of, sorts_of}
+use Rattle.go_constructs.specs.Operators.Unary.{of_value, sign, sign_fit, signed_value, unary}
+use Rattle.go_constructs.specs.declared.fit.Fit.TheVariants.{Differs, Fits}
+use Rattle.go_constructs.specs.declared.operator.BinaryOp.{BinaryOp}
+use Rattle.go_constructs.specs.declared.operator.BinaryOp.TheVariants.{Compares, Operates, Shifts}
+use Rattle.go_constructs.specs.declared.operator.Operation.{Operation}
+use Rattle.go_constructs.specs.declared.operator.Sign.{Sign}
+use Rattle.go_constructs.specs.declared.operator.UnaryOp.{UnaryOp}
+use Rattle.go_constructs.specs.declared.operator.UnaryOp.TheVariants.{Address, Indirects, Receives, Signs}
+use Rattle.go_constructs.specs.declared.sort.Sort.{Sort}
+use Rattle.go_constructs.specs.declared.sort.Sort.TheVariants as S
 use Rattle.go_ops.proofs.FoundLemmas.{all-hold, behind, gives-record}
 use Rattle.go_ops.proofs.GivenLemmas.{basic_sort, constant, constant_sort, fits_type, given, given_one, limits_fit, plain, sorted}
 use Rattle.go_ops.proofs.KindLemmas.{Alike, compared-truth, fits-alike, fits-later, shifted-alike, signed-alike, values-alike}

@@ -12,20 +12,20 @@ use Rattle.go_num.specs.declared.value.NumKind.{NumKind}
 use Rattle.go_num.specs.declared.value.NumKind.TheVariants as K
 use Rattle.go_num.specs.declared.value.Value.{Value}
 use Rattle.go_num.specs.declared.value.Value.TheVariants as V
-use Rattle.go_ops.specs.Comparisons.{compared_values, truths_compared}
-use Rattle.go_ops.specs.Matching.{later}
-use Rattle.go_ops.specs.Operators.{of_numbers, of_values}
-use Rattle.go_ops.specs.Representable.{fit_of, fit_of_integer, is_kept}
-use Rattle.go_ops.specs.Shifts.{shifted_by, shifted_value}
-use Rattle.go_ops.specs.Unary.{integer_type, signed_value}
-use Rattle.go_ops.specs.declared.fit.Fit.{Fit}
-use Rattle.go_ops.specs.declared.fit.Fit.TheVariants.{Differs, Fits, Long, Overflows, Unkept, Wide}
-use Rattle.go_ops.specs.declared.operator.Operation.{Operation}
-use Rattle.go_ops.specs.declared.operator.Operation.TheVariants.{And, Arithmetic, Or}
-use Rattle.go_ops.specs.declared.operator.Sign.{Sign}
-use Rattle.go_ops.specs.declared.operator.Sign.TheVariants.{Not, Number}
-use Rattle.go_ops.specs.declared.sort.Sort.{Sort}
-use Rattle.go_ops.specs.declared.sort.Sort.TheVariants as S
+use Rattle.go_constructs.specs.Operators.Comparisons.{compared_values, truths_compared}
+use Rattle.go_constructs.specs.Operators.Matching.{later}
+use Rattle.go_constructs.specs.Operators.Operations.{of_numbers, of_values}
+use Rattle.go_constructs.specs.Operators.Representable.{fit_of, fit_of_integer, is_kept}
+use Rattle.go_constructs.specs.Operators.Shifts.{shifted_by, shifted_value}
+use Rattle.go_constructs.specs.Operators.Unary.{integer_type, signed_value}
+use Rattle.go_constructs.specs.declared.fit.Fit.{Fit}
+use Rattle.go_constructs.specs.declared.fit.Fit.TheVariants.{Differs, Fits, Long, Overflows, Unkept, Wide}
+use Rattle.go_constructs.specs.declared.operator.Operation.{Operation}
+use Rattle.go_constructs.specs.declared.operator.Operation.TheVariants.{And, Arithmetic, Or}
+use Rattle.go_constructs.specs.declared.operator.Sign.{Sign}
+use Rattle.go_constructs.specs.declared.operator.Sign.TheVariants.{Not, Number}
+use Rattle.go_constructs.specs.declared.sort.Sort.{Sort}
+use Rattle.go_constructs.specs.declared.sort.Sort.TheVariants as S
 
 abbrev pub Alike : Value → Value → Type 0
 Alike (V.Bool p) (V.Bool q) = Unit {0}

@@ -1,20 +1,20 @@
 -- What the tests of R8, U9, L2 and L3 come to, by how the constant fits; and how integers outside 128 bits fit.
 use Rattle.std.proofs.Common.{◌≡◌, Bool, true, false, List, [], ◌∷◌, refl, ap, ◌∙◌}
 use Rattle.go_base.specs.declared.rule.Rule.{Rule}
-use Rattle.go_model.specs.Outcomes.Constructs.Limits.{wide_integer}
-use Rattle.go_model.specs.Outcomes.Judged.{Found, RuleTest, made, tested}
-use Rattle.go_model.specs.Outcomes.Operands.{at_whole}
-use Rattle.go_model.specs.Outcomes.Records.{HeaderData, RecData}
-use Rattle.go_model.specs.Outcomes.Walk.{Headers}
-use Rattle.go_model.specs.Values.Quests.{Asked, Decided, Done, Quest, run, then_ask}
-use Rattle.go_model.proofs.QuestLemmas.{run-then}
-use Rattle.go_ops.specs.Constants.{limit_tests, long_test, wide_test}
+use Rattle.go_judge.specs.Limits.{wide_integer}
+use Rattle.go_judge.specs.Judged.{Found, RuleTest, made, tested}
+use Rattle.go_judge.specs.Operands.{at_whole}
+use Rattle.go_judge.specs.Records.{HeaderData, RecData}
+use Rattle.go_judge.specs.Headers.{Headers}
+use Rattle.go_judge.specs.Quests.{Asked, Decided, Done, Quest, run, then_ask}
+use Rattle.go_judge.proofs.QuestLemmas.{run-then}
+use Rattle.go_constructs.specs.Operators.Constants.{limit_tests, long_test, wide_test}
 use Rattle.go_ops.specs.Limited.{kept_tests, limited_by}
 use Rattle.go_ops.specs.Refusals.{by_whole}
-use Rattle.go_ops.specs.Representable.{not_long, not_overflows, not_unkept, not_wide}
-use Rattle.go_ops.specs.Rules.{constant_overflow, long_text, unkept_float}
-use Rattle.go_ops.specs.declared.fit.Fit.{Fit}
-use Rattle.go_ops.specs.declared.fit.Fit.TheVariants.{Differs, Fits, Long, Overflows, Unkept, Wide}
+use Rattle.go_constructs.specs.Operators.Representable.{not_long, not_overflows, not_unkept, not_wide}
+use Rattle.go_constructs.specs.Operators.Rules.{constant_overflow, long_text, unkept_float}
+use Rattle.go_constructs.specs.declared.fit.Fit.{Fit}
+use Rattle.go_constructs.specs.declared.fit.Fit.TheVariants.{Differs, Fits, Long, Overflows, Unkept, Wide}
 use Rattle.go_ops.proofs.EndLemmas.{whole-by}
 
 module _ (headers : Headers) (q : Quest HeaderData Fit) (gives : Quest HeaderData RecData) where

@@ -1,13 +1,13 @@
 -- Operands that match, by the kinds of those that are untyped.
 use Rattle.std.proofs.Common.{◌≡◌, Bool, true, Option, Some, None, refl, sym, ◌∙◌}
 use Rattle.go_num.specs.declared.value.NumKind.{NumKind}
-use Rattle.go_model.specs.Outcomes.Operands.{type_or_none}
-use Rattle.go_model.specs.Outcomes.Records.{RecData}
+use Rattle.go_judge.specs.Operands.{type_or_none}
+use Rattle.go_judge.specs.Records.{RecData}
 use Rattle.go_term.specs.Types.{basic_type}
-use Rattle.go_ops.specs.Matching.{common_sort, common_type, later, untyped_basic}
+use Rattle.go_constructs.specs.Operators.Matching.{common_sort, common_type, later, untyped_basic}
 use Rattle.go_ops.specs.MatchingParts.{kind_of}
-use Rattle.go_ops.specs.declared.sort.Sort.{Sort}
-use Rattle.go_ops.specs.declared.sort.Sort.TheVariants as S
+use Rattle.go_constructs.specs.declared.sort.Sort.{Sort}
+use Rattle.go_constructs.specs.declared.sort.Sort.TheVariants as S
 
 -- a choice by the kinds of two sorts
 abbrev pub by_kinds : {A : Type 0} → (NumKind → NumKind → A) → (NumKind → A) → (NumKind → A) → A → Option NumKind → Option NumKind → A

@@ -5,10 +5,10 @@ use Rattle.go_term.specs.View.{SignatureData, elem_step, field_step, func_step, 
 use Rattle.go_term.specs.declared.term.Term.{Term}
 use Rattle.go_term.specs.declared.term.ElemTerm.TheFolds.{fold_out-Term}
 use Rattle.go_term.specs.declared.term.ElemTerm.TheOpen as Open
-use Rattle.go_model.specs.Outcomes.Walk.{Headers}
-use Rattle.go_model.specs.Types.TypeIdentity.{identical, most_levels, most_opened, same}
-use Rattle.go_model.specs.Types.TypeSets.{plain}
-use Rattle.go_model.specs.Values.Quests.{Decided, run}
+use Rattle.go_judge.specs.Headers.{Headers}
+use Rattle.go_judge.specs.Types.TypeIdentity.{identical, most_levels, most_opened, same}
+use Rattle.go_judge.specs.Types.TypeSets.{plain}
+use Rattle.go_judge.specs.Quests.{Decided, run}
 
 abbrev none : TypeData
 none = of_list list []

@@ -1,10 +1,10 @@
 -- What is asked of a node behind R1 and R2 of its operands, and what they are refused by.
 use Rattle.std.proofs.Common.{◌≡◌, Some, None, [], ◌∷◌, ap, ◌∙◌}
-use Rattle.go_model.specs.Outcomes.Judged.{Asks, OutcomeData, asked}
-use Rattle.go_model.specs.Outcomes.Operands.{are_values}
-use Rattle.go_model.specs.Outcomes.Records.{HeaderData, RecData}
-use Rattle.go_model.specs.Outcomes.Walk.{Headers}
-use Rattle.go_ops.specs.Matching.{are_single}
+use Rattle.go_judge.specs.Judged.{Asks, OutcomeData, asked}
+use Rattle.go_judge.specs.Operands.{are_values}
+use Rattle.go_judge.specs.Records.{HeaderData, RecData}
+use Rattle.go_judge.specs.Headers.{Headers}
+use Rattle.go_constructs.specs.Operators.Matching.{are_single}
 use Rattle.go_ops.specs.Refusals.{one_refused, or_later, two_refused}
 use Rattle.go_ops.proofs.EndLemmas.{one-refused, two-refused}
 

@@ -2,26 +2,26 @@
 use Rattle.std.proofs.Common.{◌≡◌, ℕ, Bool, true, false, Some, None, List, [], ◌∷◌, if◌then◌else◌, refl, sym, ap, ◌∙◌}
 use Rattle.std.specs.Prelude.{not}
 use Rattle.go_module.specs.Rules.{unbuilt_form}
-use Rattle.go_model.specs.declared.outcome.Spot.TheVariants.{Part}
-use Rattle.go_model.specs.Outcomes.Judged.{OutcomeData, RuleTest, Waits, asked, tested}
-use Rattle.go_model.specs.Outcomes.Operands.{are_values, at_whole}
-use Rattle.go_model.specs.Outcomes.Records.{HeaderData, RecData}
-use Rattle.go_model.specs.Outcomes.Walk.{Headers}
-use Rattle.go_model.specs.Types.TypeIdentity.{Test, and_ask}
-use Rattle.go_model.specs.Values.Quests.{Asked, Decided, Done, Lacks, Quest, run, then_ask}
-use Rattle.go_model.proofs.QuestLemmas.{run-then, run-then-Lacks}
-use Rattle.go_ops.specs.Constants.{overflow_test, record_of}
+use Rattle.go_judge.specs.declared.outcome.Spot.TheVariants.{Part}
+use Rattle.go_judge.specs.Judged.{OutcomeData, RuleTest, Waits, asked, tested}
+use Rattle.go_judge.specs.Operands.{are_values, at_whole}
+use Rattle.go_judge.specs.Records.{HeaderData, RecData}
+use Rattle.go_judge.specs.Headers.{Headers}
+use Rattle.go_judge.specs.Types.TypeIdentity.{Test, and_ask}
+use Rattle.go_judge.specs.Quests.{Asked, Decided, Done, Lacks, Quest, run, then_ask}
+use Rattle.go_judge.proofs.QuestLemmas.{run-then, run-then-Lacks}
+use Rattle.go_constructs.specs.Operators.Constants.{overflow_test, record_of}
 use Rattle.go_ops.specs.Limited.{kept_tests}
-use Rattle.go_ops.specs.Matching.{are_kept, are_matched, are_single, common_sort, common_type, given_fit, match_by, not_overflowing}
-use Rattle.go_ops.specs.Operators.{fit, fit_of_both, is_built, is_by_zero, is_defined_on, operation, value_of}
+use Rattle.go_constructs.specs.Operators.Matching.{are_kept, are_matched, are_single, common_sort, common_type, given_fit, match_by, not_overflowing}
+use Rattle.go_constructs.specs.Operators.Operations.{fit, fit_of_both, is_built, is_by_zero, is_defined_on, operation, value_of}
 use Rattle.go_ops.specs.Refusals.{by_part, by_two, by_whole, or_later, two_refused}
-use Rattle.go_ops.specs.Representable.{not_overflows, not_unkept}
-use Rattle.go_ops.specs.Rules.{constant_overflow, division_by_zero, mismatched_operands, undefined_binary, unkept_float}
-use Rattle.go_ops.specs.Sorts.{by_sort, by_sorts, sort_in, sorts_of}
+use Rattle.go_constructs.specs.Operators.Representable.{not_overflows, not_unkept}
+use Rattle.go_constructs.specs.Operators.Rules.{constant_overflow, division_by_zero, mismatched_operands, undefined_binary, unkept_float}
+use Rattle.go_constructs.specs.Operators.Sorts.{by_sort, by_sorts, sort_in, sorts_of}
 use Rattle.go_ops.specs.Stages.{built_outcome, by_answer, defined_outcome, divided_outcome, first_outcome, fitting_outcome, kept_outcome, matched_outcome, second_outcome, values_outcome}
-use Rattle.go_ops.specs.declared.fit.Fit.{Fit}
-use Rattle.go_ops.specs.declared.operator.Operation.{Operation}
-use Rattle.go_ops.specs.declared.sort.Sort.{Sort}
+use Rattle.go_constructs.specs.declared.fit.Fit.{Fit}
+use Rattle.go_constructs.specs.declared.operator.Operation.{Operation}
+use Rattle.go_constructs.specs.declared.sort.Sort.{Sort}
 use Rattle.go_ops.proofs.EndLemmas.{part-by, two-refused, whole-by, whole-lacks, whole-no}
 use Rattle.go_ops.proofs.LimitLemmas.{kept-limited}
 use Rattle.go_ops.proofs.StageLemmas.{both-decided, given-by, matched-by, sorts-told, where-holds}

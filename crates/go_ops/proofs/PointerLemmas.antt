@@ -5,20 +5,20 @@ use Rattle.std.specs.Option.{option_map}
 use Rattle.go_term.specs.Types as types
 use Rattle.go_term.specs.Types.{TypeData, list, of_list}
 use Rattle.go_term.specs.declared.term.Term.{Term}
-use Rattle.go_model.specs.declared.outcome.Spot.TheVariants.{Whole}
-use Rattle.go_model.specs.declared.rec.Mode.{Mode}
-use Rattle.go_model.specs.declared.rec.Mode.TheVariants as M
-use Rattle.go_model.specs.declared.rec.Rec.{Rec}
-use Rattle.go_model.specs.Outcomes.Constructs.Limits.{makes, within_limits}
-use Rattle.go_model.specs.Outcomes.Judged.{Broken, OutcomeData, asked, tested}
-use Rattle.go_model.specs.Outcomes.Operands.{at_whole}
-use Rattle.go_model.specs.Outcomes.Records.{RecData, rec_as, type_by, type_in}
-use Rattle.go_model.specs.Outcomes.Walk.{Headers}
-use Rattle.go_model.specs.Values.Quests.{Done}
-use Rattle.go_ops.specs.Constants.{value_record}
+use Rattle.go_judge.specs.declared.outcome.Spot.TheVariants.{Whole}
+use Rattle.go_judge.specs.declared.rec.Mode.{Mode}
+use Rattle.go_judge.specs.declared.rec.Mode.TheVariants as M
+use Rattle.go_judge.specs.declared.rec.Rec.{Rec}
+use Rattle.go_judge.specs.Limits.{makes, within_limits}
+use Rattle.go_judge.specs.Judged.{Broken, OutcomeData, asked, tested}
+use Rattle.go_judge.specs.Operands.{at_whole}
+use Rattle.go_judge.specs.Records.{RecData, rec_as, type_by, type_in}
+use Rattle.go_judge.specs.Headers.{Headers}
+use Rattle.go_judge.specs.Quests.{Done}
+use Rattle.go_constructs.specs.Operators.Constants.{value_record}
 use Rattle.go_ops.specs.PointerTypes.{address_asks, term_by, term_in, typed_address, typed_outcome}
-use Rattle.go_ops.specs.Pointers.{indirected, indirection, is_addressable, pointer_to}
-use Rattle.go_ops.specs.Rules.{no_address}
+use Rattle.go_constructs.specs.Operators.Pointers.{indirected, indirection, is_addressable, pointer_to}
+use Rattle.go_constructs.specs.Operators.Rules.{no_address}
 use Rattle.go_ops.proofs.EndLemmas.{whole-by}
 
 -- ADDRESSES

@@ -3,16 +3,16 @@ use Rattle.std.proofs.Common.{◌≡◌, Bool, true, false, Option, None, if◌t
 use Rattle.std.specs.Option.{option_map}
 use Rattle.go_term.specs.Types.{TypeData}
 use Rattle.go_term.specs.declared.term.Term.{Term}
-use Rattle.go_model.specs.declared.rec.Rec.{Rec}
-use Rattle.go_model.specs.Outcomes.Operands.{is_value}
-use Rattle.go_model.specs.Outcomes.Records.{RecData, rec_as}
-use Rattle.go_model.specs.Outcomes.Walk.{Headers}
-use Rattle.go_model.specs.Values.Quests.{Decided, Done, run}
-use Rattle.go_ops.specs.Honest.{IsHonest}
-use Rattle.go_ops.specs.Sorts.{sort_by, sort_in}
+use Rattle.go_judge.specs.declared.rec.Rec.{Rec}
+use Rattle.go_judge.specs.Operands.{is_value}
+use Rattle.go_judge.specs.Records.{RecData, rec_as}
+use Rattle.go_judge.specs.Headers.{Headers}
+use Rattle.go_judge.specs.Quests.{Decided, Done, run}
+use Rattle.go_constructs.specs.Operators.Honest.{IsHonest}
+use Rattle.go_constructs.specs.Operators.Sorts.{sort_by, sort_in}
 use Rattle.go_ops.specs.Stages.{AreOf, constant_of}
-use Rattle.go_ops.specs.declared.sort.Sort.{Sort}
-use Rattle.go_ops.specs.declared.sort.Sort.TheVariants as S
+use Rattle.go_constructs.specs.declared.sort.Sort.{Sort}
+use Rattle.go_constructs.specs.declared.sort.Sort.TheVariants as S
 use Rattle.go_ops.proofs.CalculationLemmas.{kinds-agree}
 use Rattle.go_ops.proofs.SortLemmas.{constant-fits}
 

@@ -1,20 +1,20 @@
 -- What the tests of a shift come to, by the sorts of its operands.
 use Rattle.std.proofs.Common.{◌≡◌, Bool, true, false, if◌then◌else◌, refl, ap, sym, ◌∙◌}
-use Rattle.go_model.specs.Outcomes.Judged.{tested}
-use Rattle.go_model.specs.Outcomes.Operands.{type_or_none}
-use Rattle.go_model.specs.Outcomes.Records.{RecData}
-use Rattle.go_model.specs.Outcomes.Walk.{Headers}
-use Rattle.go_model.specs.Types.TypeIdentity.{Test, and_ask}
-use Rattle.go_model.specs.Values.Quests.{Asked, Decided, Done, Lacks, run}
-use Rattle.go_model.proofs.QuestLemmas.{run-then, run-then-Lacks}
-use Rattle.go_ops.specs.Constants.{constant_in, limit_tests, record_of}
-use Rattle.go_ops.specs.Operators.{is_integer}
+use Rattle.go_judge.specs.Judged.{tested}
+use Rattle.go_judge.specs.Operands.{type_or_none}
+use Rattle.go_judge.specs.Records.{RecData}
+use Rattle.go_judge.specs.Headers.{Headers}
+use Rattle.go_judge.specs.Types.TypeIdentity.{Test, and_ask}
+use Rattle.go_judge.specs.Quests.{Asked, Decided, Done, Lacks, run}
+use Rattle.go_judge.proofs.QuestLemmas.{run-then, run-then-Lacks}
+use Rattle.go_constructs.specs.Operators.Constants.{constant_in, limit_tests, record_of}
+use Rattle.go_constructs.specs.Operators.Operations.{is_integer}
 use Rattle.go_ops.specs.Refusals.{by_whole}
-use Rattle.go_ops.specs.Rules.{invalid_shift}
+use Rattle.go_constructs.specs.Operators.Rules.{invalid_shift}
 use Rattle.go_ops.specs.Shifted.{counted_outcome, fit_of_both, outcome_by_first, outcome_by_second, shift_gives, shift_tests, value_of_both}
-use Rattle.go_ops.specs.Shifts.{is_count, shift_fit, span_of}
-use Rattle.go_ops.specs.Sorts.{by_sort, by_sorts, sort_in, sorts_of}
-use Rattle.go_ops.specs.declared.sort.Sort.{Sort}
+use Rattle.go_constructs.specs.Operators.Shifts.{is_count, shift_fit, span_of}
+use Rattle.go_constructs.specs.Operators.Sorts.{by_sort, by_sorts, sort_in, sorts_of}
+use Rattle.go_constructs.specs.declared.sort.Sort.{Sort}
 use Rattle.go_ops.proofs.EndLemmas.{whole-by, whole-lacks, whole-no}
 use Rattle.go_ops.proofs.LimitLemmas.{tests-limited}
 use Rattle.go_ops.proofs.SortLemmas.{both-sorts}

@@ -1,19 +1,19 @@
 -- What the tests of `+x`, `-x`, `^x` and `!x` come to, by the sort of the operand.
 use Rattle.std.proofs.Common.{◌≡◌, refl, ap, sym, ◌∙◌}
-use Rattle.go_model.specs.Outcomes.Judged.{tested}
-use Rattle.go_model.specs.Outcomes.Operands.{type_or_none}
-use Rattle.go_model.specs.Outcomes.Records.{RecData}
-use Rattle.go_model.specs.Outcomes.Walk.{Headers}
-use Rattle.go_model.specs.Values.Quests.{Asked, Decided, Done, Lacks, run}
-use Rattle.go_model.proofs.QuestLemmas.{run-then, run-then-Lacks}
-use Rattle.go_ops.specs.Constants.{constant_in, limit_tests, record_of}
+use Rattle.go_judge.specs.Judged.{tested}
+use Rattle.go_judge.specs.Operands.{type_or_none}
+use Rattle.go_judge.specs.Records.{RecData}
+use Rattle.go_judge.specs.Headers.{Headers}
+use Rattle.go_judge.specs.Quests.{Asked, Decided, Done, Lacks, run}
+use Rattle.go_judge.proofs.QuestLemmas.{run-then, run-then-Lacks}
+use Rattle.go_constructs.specs.Operators.Constants.{constant_in, limit_tests, record_of}
 use Rattle.go_ops.specs.Refusals.{by_whole}
-use Rattle.go_ops.specs.Rules.{undefined_unary}
+use Rattle.go_constructs.specs.Operators.Rules.{undefined_unary}
 use Rattle.go_ops.specs.Signed.{defined_outcome, fit_of_one, outcome_by_operand, sign_gives, sign_tests, value_of_one}
-use Rattle.go_ops.specs.Sorts.{by_sort, sort_in}
-use Rattle.go_ops.specs.Unary.{is_signed_by, sign_fit}
-use Rattle.go_ops.specs.declared.operator.Sign.{Sign}
-use Rattle.go_ops.specs.declared.sort.Sort.{Sort}
+use Rattle.go_constructs.specs.Operators.Sorts.{by_sort, sort_in}
+use Rattle.go_constructs.specs.Operators.Unary.{is_signed_by, sign_fit}
+use Rattle.go_constructs.specs.declared.operator.Sign.{Sign}
+use Rattle.go_constructs.specs.declared.sort.Sort.{Sort}
 use Rattle.go_ops.proofs.EndLemmas.{whole-by, whole-lacks}
 use Rattle.go_ops.proofs.LimitLemmas.{tests-limited}
 

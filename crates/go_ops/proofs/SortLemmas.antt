@@ -3,19 +3,19 @@ use Rattle.std.proofs.Common.{◌≡◌, Option, Some, None, ℤ, refl, ap, sym,
 use Rattle.go_base.specs.declared.ids.ObjId.{ObjId}
 use Rattle.go_num.specs.declared.value.Value.{Value}
 use Rattle.go_term.specs.Types.{TypeData}
-use Rattle.go_model.specs.declared.rec.Mode.{Mode}
-use Rattle.go_model.specs.declared.rec.Mode.TheVariants as M
-use Rattle.go_model.specs.Outcomes.Records.{RecData}
-use Rattle.go_model.specs.Outcomes.Walk.{Headers}
-use Rattle.go_model.specs.Values.Quests.{Decided, Done, run, then_ask}
-use Rattle.go_model.proofs.QuestLemmas.{run-then}
-use Rattle.go_ops.specs.Constants.{constant_in}
-use Rattle.go_ops.specs.Honest.{IsHonest}
+use Rattle.go_judge.specs.declared.rec.Mode.{Mode}
+use Rattle.go_judge.specs.declared.rec.Mode.TheVariants as M
+use Rattle.go_judge.specs.Records.{RecData}
+use Rattle.go_judge.specs.Headers.{Headers}
+use Rattle.go_judge.specs.Quests.{Decided, Done, run, then_ask}
+use Rattle.go_judge.proofs.QuestLemmas.{run-then}
+use Rattle.go_constructs.specs.Operators.Constants.{constant_in}
+use Rattle.go_constructs.specs.Operators.Honest.{IsHonest}
 use Rattle.go_ops.specs.Limited.{FitsSort}
-use Rattle.go_ops.specs.Representable.{fit_of, representable}
-use Rattle.go_ops.specs.Sorts.{sort_by, sort_in, sort_of, sorts_of}
-use Rattle.go_ops.specs.declared.fit.Fit.TheVariants.{Fits}
-use Rattle.go_ops.specs.declared.sort.Sort.{Sort}
+use Rattle.go_constructs.specs.Operators.Representable.{fit_of, representable}
+use Rattle.go_constructs.specs.Operators.Sorts.{sort_by, sort_in, sort_of, sorts_of}
+use Rattle.go_constructs.specs.declared.fit.Fit.TheVariants.{Fits}
+use Rattle.go_constructs.specs.declared.sort.Sort.{Sort}
 
 module _ (headers : Headers) where
   -- both are decided where each is

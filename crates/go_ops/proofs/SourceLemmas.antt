@@ -2,18 +2,18 @@
 use Rattle.std.proofs.Common.{◌≡◌, ℕ, zero, suc, Option, Some, None, [], ◌∷◌, refl, sym, ap, ◌∙◌}
 use Rattle.std.specs.Prelude.{is_some, unwrap_or}
 use Rattle.go_term.specs.Types.{TypeData, list, made, no_parts, of_list}
-use Rattle.go_model.specs.declared.outcome.Spot.TheVariants.{Whole}
-use Rattle.go_model.specs.Outcomes.Judged as outcomes
-use Rattle.go_model.specs.Outcomes.Judged.{Broken, Found, asked}
-use Rattle.go_model.specs.Outcomes.Operands.{type_or_none}
-use Rattle.go_model.specs.Outcomes.Records.{HeaderData, RecData}
-use Rattle.go_model.specs.Outcomes.Walk.{Headers}
-use Rattle.go_model.specs.Types.Forms.{form_asked, underlying_over}
-use Rattle.go_model.specs.Types.UnderlyingType.{most_steps, under_from}
-use Rattle.go_model.specs.Values.Quests.{Asked, Decided, Lacks, Quest, run}
+use Rattle.go_judge.specs.declared.outcome.Spot.TheVariants.{Whole}
+use Rattle.go_judge.specs.Judged as outcomes
+use Rattle.go_judge.specs.Judged.{Broken, Found, asked}
+use Rattle.go_judge.specs.Operands.{type_or_none}
+use Rattle.go_judge.specs.Records.{HeaderData, RecData}
+use Rattle.go_judge.specs.Headers.{Headers}
+use Rattle.go_judge.specs.Types.Forms.{form_asked, underlying_over}
+use Rattle.go_judge.specs.Types.UnderlyingType.{most_steps, under_from}
+use Rattle.go_judge.specs.Quests.{Asked, Decided, Lacks, Quest, run}
 use Rattle.go_ops.specs.AskedSorts.{asked_map}
-use Rattle.go_ops.specs.Constants.{value_record}
-use Rattle.go_ops.specs.Pointers.{under_operand}
+use Rattle.go_constructs.specs.Operators.Constants.{value_record}
+use Rattle.go_constructs.specs.Operators.Pointers.{under_operand}
 use Rattle.go_ops.specs.Sources.{mode_of, read_asked, read_asks, read_of, read_outcome, rule_of}
 use Rattle.go_ops.specs.declared.source.Source.{Source}
 use Rattle.go_ops.specs.declared.source.Source.TheVariants.{Channel, Pointer}

@@ -1,20 +1,20 @@
 -- What tests on the sorts of two operands come to, where these are decided.
 use Rattle.std.proofs.Common.{◌≡◌, ℕ, Bool, true, false, Option, None, List, [], ◌∷◌, ◌++◌, refl, ap, ◌∙◌}
 use Rattle.go_base.specs.declared.rule.Rule.{Rule}
-use Rattle.go_model.specs.declared.outcome.Spot.TheVariants.{Whole}
-use Rattle.go_model.specs.Outcomes.Judged.{OutcomeData, RuleTest, lack_or, rule_end, ruled, spot_if_no, tested}
-use Rattle.go_model.specs.Outcomes.Operands.{at_whole}
-use Rattle.go_model.specs.Outcomes.Records.{HeaderData, RecData}
-use Rattle.go_model.specs.Outcomes.Walk.{Headers}
-use Rattle.go_model.specs.Values.Quests.{Asked, Decided, Done, Lacks, Quest, run, then_ask}
-use Rattle.go_model.proofs.QuestLemmas.{run-then}
-use Rattle.go_ops.specs.Matching.{are_matched, given, given_fit, match_by}
+use Rattle.go_judge.specs.declared.outcome.Spot.TheVariants.{Whole}
+use Rattle.go_judge.specs.Judged.{OutcomeData, RuleTest, lack_or, rule_end, ruled, spot_if_no, tested}
+use Rattle.go_judge.specs.Operands.{at_whole}
+use Rattle.go_judge.specs.Records.{HeaderData, RecData}
+use Rattle.go_judge.specs.Headers.{Headers}
+use Rattle.go_judge.specs.Quests.{Asked, Decided, Done, Lacks, Quest, run, then_ask}
+use Rattle.go_judge.proofs.QuestLemmas.{run-then}
+use Rattle.go_constructs.specs.Operators.Matching.{are_matched, given, given_fit, match_by}
 use Rattle.go_ops.specs.Refusals.{by_two, by_whole}
-use Rattle.go_ops.specs.Rules.{mismatched_operands}
-use Rattle.go_ops.specs.Sorts.{by_sorts, sort_in, sorts_of}
+use Rattle.go_constructs.specs.Operators.Rules.{mismatched_operands}
+use Rattle.go_constructs.specs.Operators.Sorts.{by_sorts, sort_in, sorts_of}
 use Rattle.go_ops.specs.Stages.{by_answer}
-use Rattle.go_ops.specs.declared.fit.Fit.{Fit}
-use Rattle.go_ops.specs.declared.sort.Sort.{Sort}
+use Rattle.go_constructs.specs.declared.fit.Fit.{Fit}
+use Rattle.go_constructs.specs.declared.sort.Sort.{Sort}
 use Rattle.go_ops.proofs.EndLemmas.{two-by}
 
 answer_at : {R : Type 0} (rule : Rule) (later : OutcomeData R) (a : Asked Bool) → ruled rule (rule_end (spot_if_no Whole a ++ []) (lack_or a None)) later ≡ by_answer rule a later

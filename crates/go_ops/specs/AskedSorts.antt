@@ -2,12 +2,12 @@
 -- Says what the answers stand for, and what is asked of a sort by what the underlying type comes to (own).
 use Rattle.std.specs.Prelude.{Option}
 use Rattle.go_term.specs.Types.{TypeData}
-use Rattle.go_model.specs.Values.Quests.{Asked, Decided, Lacks}
-use Rattle.go_ops.specs.Sorts.{sort_found}
+use Rattle.go_judge.specs.Quests.{Asked, Decided, Lacks}
+use Rattle.go_constructs.specs.Operators.Sorts.{sort_found}
 use Rattle.go_ops.specs.declared.representability.Represents.{Represents}
 use Rattle.go_ops.specs.declared.representability.Represents.TheVariants as R
-use Rattle.go_ops.specs.declared.fit.Fit.{Fit}
-use Rattle.go_ops.specs.declared.sort.Sort.{Sort}
+use Rattle.go_constructs.specs.declared.fit.Fit.{Fit}
+use Rattle.go_constructs.specs.declared.sort.Sort.{Sort}
 use Rattle.go_ops.specs.declared.sorts.AskedSort.{AskedSort}
 use Rattle.go_ops.specs.declared.sorts.AskedSort.TheVariants as O
 use Rattle.go_ops.specs.declared.sorts.AskedSorts.{AskedSorts}

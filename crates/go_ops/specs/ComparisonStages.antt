@@ -6,20 +6,20 @@ use Rattle.go_num.specs.declared.comparisons.CmpOp.{CmpOp}
 use Rattle.go_num.specs.declared.value.Value.{Value}
 use Rattle.go_term.specs.Types.{basic_type}
 use Rattle.go_term.specs.declared.basic.Basic.TheVariants.{UntypedBool}
-use Rattle.go_model.specs.Outcomes.Judged.{Found, OutcomeData, Waits}
-use Rattle.go_model.specs.Outcomes.Records.{RecData}
-use Rattle.go_model.specs.Outcomes.Walk.{Headers}
-use Rattle.go_model.specs.Values.Quests.{Asked, Decided, Lacks, run}
-use Rattle.go_ops.specs.Comparisons.{compared_values, compares, is_constant_or_no_value}
-use Rattle.go_ops.specs.Constants.{constant_in, record_of}
-use Rattle.go_ops.specs.Matching.{common_sort, given_fit, match_by}
-use Rattle.go_ops.specs.Operators.{given_values}
+use Rattle.go_judge.specs.Judged.{Found, OutcomeData, Waits}
+use Rattle.go_judge.specs.Records.{RecData}
+use Rattle.go_judge.specs.Headers.{Headers}
+use Rattle.go_judge.specs.Quests.{Asked, Decided, Lacks, run}
+use Rattle.go_constructs.specs.Operators.Comparisons.{compared_values, compares, is_constant_or_no_value}
+use Rattle.go_constructs.specs.Operators.Constants.{constant_in, record_of}
+use Rattle.go_constructs.specs.Operators.Matching.{common_sort, given_fit, match_by}
+use Rattle.go_constructs.specs.Operators.Operations.{given_values}
 use Rattle.go_ops.specs.Refusals.{by_two, by_whole, or_later, two_refused}
-use Rattle.go_ops.specs.Representable.{not_overflows, not_unkept}
-use Rattle.go_ops.specs.Rules.{constant_overflow, incomparable_operands, mismatched_operands, unkept_float}
-use Rattle.go_ops.specs.Sorts.{sorts_of}
+use Rattle.go_constructs.specs.Operators.Representable.{not_overflows, not_unkept}
+use Rattle.go_constructs.specs.Operators.Rules.{constant_overflow, incomparable_operands, mismatched_operands, unkept_float}
+use Rattle.go_constructs.specs.Operators.Sorts.{sorts_of}
 use Rattle.go_ops.specs.Stages.{by_answer}
-use Rattle.go_ops.specs.declared.sort.Sort.{Sort}
+use Rattle.go_constructs.specs.declared.sort.Sort.{Sort}
 
 -- what two operands give
 abbrev pub compared_both : CmpOp → Option Value → Option Value → Option Value

@@ -7,19 +7,19 @@ use Rattle.go_num.specs.declared.value.NumKind.TheVariants as K
 use Rattle.go_num.specs.declared.value.Value.{Value}
 use Rattle.go_num.specs.declared.value.Value.TheVariants as V
 use Rattle.go_term.specs.Types.{TypeData}
-use Rattle.go_model.specs.declared.outcome.Spot.TheVariants.{Whole}
-use Rattle.go_model.specs.Outcomes.Constructs.Limits.{wide_integer}
-use Rattle.go_model.specs.Outcomes.Judged.{Broken, Found, OutcomeData, RuleTest}
-use Rattle.go_model.specs.Outcomes.Records.{HeaderData, RecData}
-use Rattle.go_model.specs.Values.Quests.{Quest}
-use Rattle.go_ops.specs.Constants.{long_test, record_of, unkept_test, wide_test}
-use Rattle.go_ops.specs.Representable.{fit_of, fit_of_integer}
-use Rattle.go_ops.specs.Rules.{constant_overflow, long_text, unkept_float}
-use Rattle.go_ops.specs.declared.fit.Fit.{Fit}
-use Rattle.go_ops.specs.declared.fit.Fit.TheVariants.{Differs, Fits, Long, Overflows, Unkept, Wide}
+use Rattle.go_judge.specs.declared.outcome.Spot.TheVariants.{Whole}
+use Rattle.go_judge.specs.Limits.{wide_integer}
+use Rattle.go_judge.specs.Judged.{Broken, Found, OutcomeData, RuleTest}
+use Rattle.go_judge.specs.Records.{HeaderData, RecData}
+use Rattle.go_judge.specs.Quests.{Quest}
+use Rattle.go_constructs.specs.Operators.Constants.{long_test, record_of, unkept_test, wide_test}
+use Rattle.go_constructs.specs.Operators.Representable.{fit_of, fit_of_integer}
+use Rattle.go_constructs.specs.Operators.Rules.{constant_overflow, long_text, unkept_float}
+use Rattle.go_constructs.specs.declared.fit.Fit.{Fit}
+use Rattle.go_constructs.specs.declared.fit.Fit.TheVariants.{Differs, Fits, Long, Overflows, Unkept, Wide}
 use Rattle.go_ops.specs.declared.limits.Given.{Given}
-use Rattle.go_ops.specs.declared.sort.Sort.{Sort}
-use Rattle.go_ops.specs.declared.sort.Sort.TheVariants as S
+use Rattle.go_constructs.specs.declared.sort.Sort.{Sort}
+use Rattle.go_constructs.specs.declared.sort.Sort.TheVariants as S
 
 -- the rule that it breaks, or what comes later
 abbrev pub limited_by : {R : Type 0} → Fit → OutcomeData R → OutcomeData R

@@ -3,19 +3,19 @@ use Rattle.std.specs.Prelude.{◌&&◌, ◌||◌, Bool, Option, None, ◌∷◌,
 use Rattle.go_term.specs.Types as types
 use Rattle.go_term.specs.Types.{TypeData}
 use Rattle.go_term.specs.declared.term.Term.{Term}
-use Rattle.go_model.specs.declared.rec.Mode.{Mode}
-use Rattle.go_model.specs.declared.rec.Mode.TheVariants as M
-use Rattle.go_model.specs.declared.rec.Rec.{Rec}
-use Rattle.go_model.specs.Outcomes.Constructs.Limits.{within_limits}
-use Rattle.go_model.specs.Outcomes.Judged.{Asks, OutcomeData, tested}
-use Rattle.go_model.specs.Outcomes.Operands.{at_whole}
-use Rattle.go_model.specs.Outcomes.Records.{HeaderData, RecData}
-use Rattle.go_model.specs.Outcomes.Walk.{Headers}
-use Rattle.go_model.specs.Values.Quests.{Done}
-use Rattle.go_ops.specs.Constants.{value_record}
-use Rattle.go_ops.specs.Pointers.{is_addressable, pointer_to}
+use Rattle.go_judge.specs.declared.rec.Mode.{Mode}
+use Rattle.go_judge.specs.declared.rec.Mode.TheVariants as M
+use Rattle.go_judge.specs.declared.rec.Rec.{Rec}
+use Rattle.go_judge.specs.Limits.{within_limits}
+use Rattle.go_judge.specs.Judged.{Asks, OutcomeData, tested}
+use Rattle.go_judge.specs.Operands.{at_whole}
+use Rattle.go_judge.specs.Records.{HeaderData, RecData}
+use Rattle.go_judge.specs.Headers.{Headers}
+use Rattle.go_judge.specs.Quests.{Done}
+use Rattle.go_constructs.specs.Operators.Constants.{value_record}
+use Rattle.go_constructs.specs.Operators.Pointers.{is_addressable, pointer_to}
 use Rattle.go_ops.specs.Refusals.{by_whole}
-use Rattle.go_ops.specs.Rules.{no_address}
+use Rattle.go_constructs.specs.Operators.Rules.{no_address}
 
 -- what is asked of an address behind R1 and R2
 abbrev pub address_asks : Bool → RecData → Asks HeaderData RecData

@@ -5,17 +5,17 @@ use Rattle.std.specs.Option.{option_map}
 use Rattle.go_base.specs.declared.rule.Rule.{Rule}
 use Rattle.go_term.specs.Types.{TypeData}
 use Rattle.go_term.specs.declared.term.Term.{Term}
-use Rattle.go_model.specs.declared.outcome.Outcome.{Outcome}
-use Rattle.go_model.specs.declared.outcome.Spot.{Spot}
-use Rattle.go_model.specs.declared.outcome.Spot.TheVariants.{Part, Whole}
-use Rattle.go_model.specs.Outcomes.Constructs.Kinds.{no_value}
-use Rattle.go_model.specs.Outcomes.Judged.{Broken, OutcomeData}
-use Rattle.go_model.specs.Outcomes.Operands.{is_value}
-use Rattle.go_model.specs.Outcomes.Records.{RecData}
-use Rattle.go_model.specs.Outcomes.View.{outcome_as}
-use Rattle.go_model.specs.Types.Own.{IsOwnOutcome}
-use Rattle.go_ops.specs.Matching.{is_single_type}
-use Rattle.go_ops.specs.Rules.{several_values}
+use Rattle.go_judge.specs.declared.outcome.Outcome.{Outcome}
+use Rattle.go_judge.specs.declared.outcome.Spot.{Spot}
+use Rattle.go_judge.specs.declared.outcome.Spot.TheVariants.{Part, Whole}
+use Rattle.go_judge.specs.Kinds.{no_value}
+use Rattle.go_judge.specs.Judged.{Broken, OutcomeData}
+use Rattle.go_judge.specs.Operands.{is_value}
+use Rattle.go_judge.specs.Records.{RecData}
+use Rattle.go_judge.specs.View.{outcome_as}
+use Rattle.go_judge.specs.Types.Own.{IsOwnOutcome}
+use Rattle.go_constructs.specs.Operators.Matching.{is_single_type}
+use Rattle.go_constructs.specs.Operators.Rules.{several_values}
 
 -- a rule that is asked of the node as a whole, of its operand at a place, and of its first two: what comes later where
 -- it holds

@@ -6,21 +6,21 @@ use Rattle.go_num.specs.Ranges.{fits}
 use Rattle.go_num.specs.declared.ranges.IntType.TheVariants.{Uint}
 use Rattle.go_num.specs.declared.value.Value.{Value}
 use Rattle.go_num.specs.declared.value.Value.TheVariants as V
-use Rattle.go_model.specs.Outcomes.Judged.{Asks, OutcomeData, RuleTest, Waits}
-use Rattle.go_model.specs.Outcomes.Operands.{at_whole, type_or_none}
-use Rattle.go_model.specs.Outcomes.Records.{HeaderData, RecData}
-use Rattle.go_model.specs.Types.TypeIdentity.{and_ask}
-use Rattle.go_model.specs.Values.Quests.{Asked, Decided, Lacks, Quest}
-use Rattle.go_ops.specs.Constants.{constant_in, limit_tests}
+use Rattle.go_judge.specs.Judged.{Asks, OutcomeData, RuleTest, Waits}
+use Rattle.go_judge.specs.Operands.{at_whole, type_or_none}
+use Rattle.go_judge.specs.Records.{HeaderData, RecData}
+use Rattle.go_judge.specs.Types.TypeIdentity.{and_ask}
+use Rattle.go_judge.specs.Quests.{Asked, Decided, Lacks, Quest}
+use Rattle.go_constructs.specs.Operators.Constants.{constant_in, limit_tests}
 use Rattle.go_ops.specs.Limited.{limited_outcome}
-use Rattle.go_ops.specs.Operators.{fit_found, given_values, is_integer}
+use Rattle.go_constructs.specs.Operators.Operations.{fit_found, given_values, is_integer}
 use Rattle.go_ops.specs.Refusals.{by_whole}
-use Rattle.go_ops.specs.Rules.{invalid_shift}
-use Rattle.go_ops.specs.Shifts.{is_count, shift, shift_fit, shifted_value, span_of}
-use Rattle.go_ops.specs.Sorts.{by_sort}
-use Rattle.go_ops.specs.declared.fit.Fit.{Fit}
-use Rattle.go_ops.specs.declared.fit.Fit.TheVariants.{Fits}
-use Rattle.go_ops.specs.declared.sort.Sort.{Sort}
+use Rattle.go_constructs.specs.Operators.Rules.{invalid_shift}
+use Rattle.go_constructs.specs.Operators.Shifts.{is_count, shift, shift_fit, shifted_value, span_of}
+use Rattle.go_constructs.specs.Operators.Sorts.{by_sort}
+use Rattle.go_constructs.specs.declared.fit.Fit.{Fit}
+use Rattle.go_constructs.specs.declared.fit.Fit.TheVariants.{Fits}
+use Rattle.go_constructs.specs.declared.sort.Sort.{Sort}
 
 -- the tests behind those on operands, and the record
 abbrev pub shift_tests : Bool → RecData → RecData → List (RuleTest HeaderData)

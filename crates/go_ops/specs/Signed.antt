@@ -3,21 +3,21 @@
 -- (own). That the tests of the operators come to the same: `SignLemmas`.
 use Rattle.std.specs.Prelude.{Option, None, List, ◌∷◌}
 use Rattle.go_num.specs.declared.value.Value.{Value}
-use Rattle.go_model.specs.Outcomes.Judged.{Asks, OutcomeData, RuleTest, Waits}
-use Rattle.go_model.specs.Outcomes.Operands.{at_whole, type_or_none}
-use Rattle.go_model.specs.Outcomes.Records.{HeaderData, RecData}
-use Rattle.go_model.specs.Values.Quests.{Asked, Decided, Lacks, Quest}
-use Rattle.go_ops.specs.Constants.{constant_in, limit_tests}
+use Rattle.go_judge.specs.Judged.{Asks, OutcomeData, RuleTest, Waits}
+use Rattle.go_judge.specs.Operands.{at_whole, type_or_none}
+use Rattle.go_judge.specs.Records.{HeaderData, RecData}
+use Rattle.go_judge.specs.Quests.{Asked, Decided, Lacks, Quest}
+use Rattle.go_constructs.specs.Operators.Constants.{constant_in, limit_tests}
 use Rattle.go_ops.specs.Limited.{limited_outcome}
-use Rattle.go_ops.specs.Operators.{fit_found}
+use Rattle.go_constructs.specs.Operators.Operations.{fit_found}
 use Rattle.go_ops.specs.Refusals.{by_whole}
-use Rattle.go_ops.specs.Rules.{undefined_unary}
-use Rattle.go_ops.specs.Sorts.{by_sort}
-use Rattle.go_ops.specs.Unary.{is_signed_by, of_value, sign, sign_fit, signed_value}
-use Rattle.go_ops.specs.declared.fit.Fit.{Fit}
-use Rattle.go_ops.specs.declared.fit.Fit.TheVariants.{Fits}
-use Rattle.go_ops.specs.declared.operator.Sign.{Sign}
-use Rattle.go_ops.specs.declared.sort.Sort.{Sort}
+use Rattle.go_constructs.specs.Operators.Rules.{undefined_unary}
+use Rattle.go_constructs.specs.Operators.Sorts.{by_sort}
+use Rattle.go_constructs.specs.Operators.Unary.{is_signed_by, of_value, sign, sign_fit, signed_value}
+use Rattle.go_constructs.specs.declared.fit.Fit.{Fit}
+use Rattle.go_constructs.specs.declared.fit.Fit.TheVariants.{Fits}
+use Rattle.go_constructs.specs.declared.operator.Sign.{Sign}
+use Rattle.go_constructs.specs.declared.sort.Sort.{Sort}
 
 -- the tests behind those on the operand, and the record
 abbrev pub sign_tests : Sign → RecData → List (RuleTest HeaderData)

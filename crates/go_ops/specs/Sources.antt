@@ -2,17 +2,17 @@
 use Rattle.std.specs.Prelude.{is_some, Option, Some, None, [], ◌∷◌, unwrap_or}
 use Rattle.go_base.specs.declared.rule.Rule.{Rule}
 use Rattle.go_term.specs.Types.{TypeData}
-use Rattle.go_model.specs.declared.outcome.Spot.TheVariants.{Whole}
-use Rattle.go_model.specs.declared.rec.Mode.{Mode}
-use Rattle.go_model.specs.declared.rec.Mode.TheVariants as M
-use Rattle.go_model.specs.Outcomes.Judged.{Asks, Broken, Found, OutcomeData, Waits}
-use Rattle.go_model.specs.Outcomes.Operands.{at_whole, type_or_none}
-use Rattle.go_model.specs.Outcomes.Records.{HeaderData, RecData}
-use Rattle.go_model.specs.Values.Quests.{Asked, Decided, Lacks}
-use Rattle.go_ops.specs.Channels.{received_from}
-use Rattle.go_ops.specs.Constants.{value_record}
-use Rattle.go_ops.specs.Pointers.{base_of, under_operand}
-use Rattle.go_ops.specs.Rules.{no_pointer, no_receive}
+use Rattle.go_judge.specs.declared.outcome.Spot.TheVariants.{Whole}
+use Rattle.go_judge.specs.declared.rec.Mode.{Mode}
+use Rattle.go_judge.specs.declared.rec.Mode.TheVariants as M
+use Rattle.go_judge.specs.Judged.{Asks, Broken, Found, OutcomeData, Waits}
+use Rattle.go_judge.specs.Operands.{at_whole, type_or_none}
+use Rattle.go_judge.specs.Records.{HeaderData, RecData}
+use Rattle.go_judge.specs.Quests.{Asked, Decided, Lacks}
+use Rattle.go_constructs.specs.Operators.Channels.{received_from}
+use Rattle.go_constructs.specs.Operators.Constants.{value_record}
+use Rattle.go_constructs.specs.Operators.Pointers.{base_of, under_operand}
+use Rattle.go_constructs.specs.Operators.Rules.{no_pointer, no_receive}
 use Rattle.go_ops.specs.declared.source.Source.{Source}
 use Rattle.go_ops.specs.declared.source.Source.TheVariants.{Channel, Pointer}
 

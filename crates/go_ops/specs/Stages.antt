@@ -6,25 +6,25 @@ use Rattle.go_module.specs.Rules.{unbuilt_form}
 use Rattle.go_num.specs.declared.value.Value.{Value}
 use Rattle.go_num.specs.declared.value.Value.TheVariants as V
 use Rattle.go_term.specs.Types.{TypeData, list, of_list}
-use Rattle.go_model.specs.declared.outcome.Spot.TheVariants.{Part}
-use Rattle.go_model.specs.declared.rec.Rec.{Rec}
-use Rattle.go_model.specs.Outcomes.Judged.{Found, OutcomeData, Waits}
-use Rattle.go_model.specs.Outcomes.Records.{RecData, rec_view}
-use Rattle.go_model.specs.Outcomes.Walk.{Headers}
-use Rattle.go_model.specs.Values.Quests.{Asked, Decided, Lacks, run}
-use Rattle.go_ops.specs.Constants.{constant_in, record_of}
+use Rattle.go_judge.specs.declared.outcome.Spot.TheVariants.{Part}
+use Rattle.go_judge.specs.declared.rec.Rec.{Rec}
+use Rattle.go_judge.specs.Judged.{Found, OutcomeData, Waits}
+use Rattle.go_judge.specs.Records.{RecData, rec_view}
+use Rattle.go_judge.specs.Headers.{Headers}
+use Rattle.go_judge.specs.Quests.{Asked, Decided, Lacks, run}
+use Rattle.go_constructs.specs.Operators.Constants.{constant_in, record_of}
 use Rattle.go_ops.specs.Limited.{limited_by}
-use Rattle.go_ops.specs.Matching.{common_sort, common_type, given_fit, match_by}
-use Rattle.go_ops.specs.Operators.{fit_found, fit_of_both, given_values, has_no_quotient, is_boolean, is_built, is_by_zero, is_defined_on, is_numeric, is_text, of_values, value_of}
+use Rattle.go_constructs.specs.Operators.Matching.{common_sort, common_type, given_fit, match_by}
+use Rattle.go_constructs.specs.Operators.Operations.{fit_found, fit_of_both, given_values, has_no_quotient, is_boolean, is_built, is_by_zero, is_defined_on, is_numeric, is_text, of_values, value_of}
 use Rattle.go_ops.specs.Refusals.{by_part, by_two, by_whole, or_later, two_refused}
-use Rattle.go_ops.specs.Representable.{not_overflows, not_unkept}
-use Rattle.go_ops.specs.Rules.{constant_overflow, division_by_zero, mismatched_operands, undefined_binary, unkept_float}
-use Rattle.go_ops.specs.Sorts.{sort_in}
-use Rattle.go_ops.specs.declared.fit.Fit.{Fit}
-use Rattle.go_ops.specs.declared.fit.Fit.TheVariants.{Fits}
-use Rattle.go_ops.specs.declared.operator.Operation.{Operation}
-use Rattle.go_ops.specs.declared.sort.Sort.{Sort}
-use Rattle.go_ops.specs.declared.sort.Sort.TheVariants as S
+use Rattle.go_constructs.specs.Operators.Representable.{not_overflows, not_unkept}
+use Rattle.go_constructs.specs.Operators.Rules.{constant_overflow, division_by_zero, mismatched_operands, undefined_binary, unkept_float}
+use Rattle.go_constructs.specs.Operators.Sorts.{sort_in}
+use Rattle.go_constructs.specs.declared.fit.Fit.{Fit}
+use Rattle.go_constructs.specs.declared.fit.Fit.TheVariants.{Fits}
+use Rattle.go_constructs.specs.declared.operator.Operation.{Operation}
+use Rattle.go_constructs.specs.declared.sort.Sort.{Sort}
+use Rattle.go_constructs.specs.declared.sort.Sort.TheVariants as S
 
 -- a rule that is asked of the node as a whole, by what its question comes to
 abbrev pub by_answer : {R : Type 0} → Rule → Asked Bool → OutcomeData R → OutcomeData R

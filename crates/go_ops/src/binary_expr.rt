@@ -1,22 +1,22 @@
 // Binary operators (Go specification, "Operators").
 ghost use Rattle.std.specs.Prelude.{◌≡◌, Some, IfOk, IsSome};
-ghost use Rattle.go_model.specs.Outcomes.Judged.{asked};
-ghost use Rattle.go_model.specs.Outcomes.Records.{rec_as};
-ghost use Rattle.go_model.specs.Outcomes.View.{outcome_as};
-ghost use Rattle.go_model.specs.Types.Own.{IsOwnOutcome, IsOwnRec, Keeps};
-ghost use Rattle.go_ops.specs.Binary as spec;
-ghost use Rattle.go_ops.specs.Binary.{binary_op};
-ghost use Rattle.go_ops.specs.Honest.{GivesHonest, IsHonest};
-ghost use Rattle.go_ops.specs.declared.operator.BinaryOp.{BinaryOp as Op};
-ghost use Rattle.go_ops.specs.declared.operator.BinaryOp.TheVariants as ops;
-ghost use Rattle.go_ops.specs.declared.operator.Operation.TheVariants as operations;
+ghost use Rattle.go_judge.specs.Judged.{asked};
+ghost use Rattle.go_judge.specs.Records.{rec_as};
+ghost use Rattle.go_judge.specs.View.{outcome_as};
+ghost use Rattle.go_judge.specs.Types.Own.{IsOwnOutcome, IsOwnRec, Keeps};
+ghost use Rattle.go_constructs.specs.Operators.Binary as spec;
+ghost use Rattle.go_constructs.specs.Operators.Binary.{binary_op};
+ghost use Rattle.go_constructs.specs.Operators.Honest.{GivesHonest, IsHonest};
+ghost use Rattle.go_constructs.specs.declared.operator.BinaryOp.{BinaryOp as Op};
+ghost use Rattle.go_constructs.specs.declared.operator.BinaryOp.TheVariants as ops;
+ghost use Rattle.go_constructs.specs.declared.operator.Operation.TheVariants as operations;
 
 use crate::comparison::comparison;
 use crate::operation::operation;
-use crate::operator::{BinaryOp, Operation};
 use crate::shift::shift;
 use go_base::NoMemory;
-use go_model::{Judge, Outcome, Rec};
+use go_constructs::{BinaryOp, Operation};
+use go_judge::{Judge, Outcome, Rec};
 use go_num::{CmpOp, IntOp};
 use go_tree::TokenKind;
 use std::alloc::Global;

@@ -1,12 +1,12 @@
 // Nodes that break a rule at their operands.
 ghost use Rattle.std.specs.Prelude.{◌≡◌, IfOk};
-ghost use Rattle.go_model.specs.Outcomes.Judged as outcomes;
-ghost use Rattle.go_model.specs.Outcomes.View.{outcome_as};
-ghost use Rattle.go_model.specs.Types.Own.{IsOwnOutcome};
+ghost use Rattle.go_judge.specs.Judged as outcomes;
+ghost use Rattle.go_judge.specs.View.{outcome_as};
+ghost use Rattle.go_judge.specs.Types.Own.{IsOwnOutcome};
 ghost use Rattle.go_ops.specs.Refusals.{spots_of_two};
 
 use go_base::{NoMemory, Rule};
-use go_model::{Judge, Outcome, Spot};
+use go_judge::{Judge, Outcome, Spot};
 use std::alloc::Global;
 
 /// A node that breaks a rule at its first two operands, at each of which the answer is No. An error is want of memory.

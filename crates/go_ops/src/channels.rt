@@ -2,16 +2,16 @@
 ghost use Rattle.std.specs.Prelude.{◌≡◌, Some, IfOk, IfSome, if◌then◌else◌};
 ghost use Rattle.std.specs.Option.{option_map};
 ghost use Rattle.go_term.specs.Shapes.{shape_tree};
-ghost use Rattle.go_model.specs.Outcomes.Judged.{asked};
-ghost use Rattle.go_model.specs.Outcomes.Records.{rec_as};
-ghost use Rattle.go_model.specs.Outcomes.View.{outcome_as};
-ghost use Rattle.go_model.specs.Types.Own.{AreOwn, IsOwnOutcome, IsOwnRec, Keeps};
-ghost use Rattle.go_ops.specs.Channels as spec;
+ghost use Rattle.go_judge.specs.Judged.{asked};
+ghost use Rattle.go_judge.specs.Records.{rec_as};
+ghost use Rattle.go_judge.specs.View.{outcome_as};
+ghost use Rattle.go_judge.specs.Types.Own.{AreOwn, IsOwnOutcome, IsOwnRec, Keeps};
+ghost use Rattle.go_constructs.specs.Operators.Channels as spec;
 
 use crate::operands::refused_one;
 use crate::source::{Source, read};
 use go_base::NoMemory;
-use go_model::{Judge, Outcome, Rec};
+use go_judge::{Judge, Outcome, Rec};
 use go_term::{Dir, Shape, Ty};
 use std::alloc::Global;
 

@@ -3,11 +3,11 @@ ghost use Rattle.std.specs.Prelude.{◌≡◌};
 ghost use Rattle.std.specs.Option.{option_map};
 ghost use Rattle.go_term.specs.Types.{TypeData};
 ghost use Rattle.go_term.specs.declared.term.Term.{Term};
-ghost use Rattle.go_model.specs.Outcomes.Records.{rec_as};
-ghost use Rattle.go_model.specs.Types.Own.{IsOwnRec};
-ghost use Rattle.go_ops.specs.Constants as spec;
+ghost use Rattle.go_judge.specs.Records.{rec_as};
+ghost use Rattle.go_judge.specs.Types.Own.{IsOwnRec};
+ghost use Rattle.go_constructs.specs.Operators.Constants as spec;
 
-use go_model::{Judge, Mode, Rec};
+use go_judge::{Judge, Mode, Rec};
 use go_num::Value;
 use go_term::Ty;
 

@@ -3,18 +3,17 @@
 ghost use Rattle.std.specs.Prelude.{◌≡◌, ◌||◌};
 ghost use Rattle.std.specs.Option.{option_map};
 ghost use Rattle.go_num.specs.Arithmetic.{divides_by_zero};
-ghost use Rattle.go_model.specs.Outcomes.Operands as operands;
-ghost use Rattle.go_model.specs.Outcomes.Records.{rec_view};
-ghost use Rattle.go_ops.specs.Constants as constants;
-ghost use Rattle.go_ops.specs.Operators as spec;
-ghost use Rattle.go_ops.specs.declared.operator.Operation.TheVariants as operations;
+ghost use Rattle.go_judge.specs.Operands as operands;
+ghost use Rattle.go_judge.specs.Records.{rec_view};
+ghost use Rattle.go_constructs.specs.Operators.Constants as constants;
+ghost use Rattle.go_constructs.specs.Operators.Operations as spec;
+ghost use Rattle.go_constructs.specs.declared.operator.Operation.TheVariants as operations;
 
 use crate::constants::constant_in;
 use crate::modes::{is_constant, is_value};
-use crate::operator::Operation;
-use crate::sort::Sort;
 use crate::sort_kinds::{is_boolean, is_integer, is_numeric, is_text};
-use go_model::Rec;
+use go_constructs::{Operation, Sort};
+use go_judge::Rec;
 use go_num::{IntOp, Value};
 
 /// Whether U0 stands at no operation with this operand, which has that sort.

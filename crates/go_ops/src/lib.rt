@@ -2,7 +2,7 @@
 //! "Constant expressions").
 //!
 //! `binary` and `unary` judge one node each over the headers that a judge knows; `representable` says how a constant
-//! fits a type. Each construct has a file of its own and a definition of its name in specs/. Which operands a node has,
+//! fits a type. Each construct has a file of its own and a definition of its name in go_constructs. Which operands a node has,
 //! and when it is judged, is left to go_expr.
 #![tactic(auto)]
 
@@ -10,8 +10,6 @@ mod rules;
 
 // What is seen of operands.
 mod fit;
-mod operator;
-mod sort;
 mod sort_kinds;
 mod sorts;
 
@@ -44,13 +42,11 @@ mod source;
 mod unary_expr;
 
 pub use binary_expr::{binary, binary_op};
-pub use fit::Fit;
-pub use operator::{BinaryOp, Operation, Sign, UnaryOp};
+pub use go_constructs::{BinaryOp, Fit, FloatType, Operation, Sign, Sort, UnaryOp};
 pub use representability::{Represents, fit_of, representable};
 pub use rules::{
     CONSTANT_OVERFLOW, DIVISION_BY_ZERO, INCOMPARABLE_OPERANDS, INVALID_SHIFT, LONG_TEXT,
     MISMATCHED_OPERANDS, NO_ADDRESS, NO_POINTER, NO_RECEIVE, SEVERAL_VALUES, UNDEFINED_BINARY,
     UNDEFINED_UNARY, UNKEPT_FLOAT,
 };
-pub use sort::{FloatType, Sort};
 pub use unary_expr::{unary, unary_op};

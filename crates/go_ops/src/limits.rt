@@ -1,23 +1,22 @@
 // Constants that operations give (Go specification, "Constant expressions", "Representability").
 ghost use Rattle.std.specs.Prelude.{◌≡◌, None, Some, IfOk, true};
 ghost use Rattle.go_num.specs.declared.value.Value.TheVariants as values;
-ghost use Rattle.go_model.specs.Outcomes.Judged as outcomes;
-ghost use Rattle.go_model.specs.Outcomes.View.{outcome_as};
-ghost use Rattle.go_model.specs.Types.Own.{IsOwnOutcome};
-ghost use Rattle.go_ops.specs.Constants as constants;
+ghost use Rattle.go_judge.specs.Judged as outcomes;
+ghost use Rattle.go_judge.specs.View.{outcome_as};
+ghost use Rattle.go_judge.specs.Types.Own.{IsOwnOutcome};
+ghost use Rattle.go_constructs.specs.Operators.Constants as constants;
 ghost use Rattle.go_ops.specs.Limited.{IsGiven, IsGivenInteger, IsGivenNothing, IsLimited, limited_outcome, wide_fit};
-ghost use Rattle.go_ops.specs.Operators.{is_boolean, is_numeric};
-ghost use Rattle.go_ops.specs.Representable as spec;
-ghost use Rattle.go_ops.specs.declared.fit.Fit.TheVariants as fits;
-ghost use Rattle.go_ops.specs.declared.sort.Sort.TheVariants as sorts;
+ghost use Rattle.go_constructs.specs.Operators.Operations.{is_boolean, is_numeric};
+ghost use Rattle.go_constructs.specs.Operators.Representable as spec;
+ghost use Rattle.go_constructs.specs.declared.fit.Fit.TheVariants as fits;
+ghost use Rattle.go_constructs.specs.declared.sort.Sort.TheVariants as sorts;
 
 use crate::constants::record_of;
-use crate::fit::Fit;
 use crate::representability::fit_of;
 use crate::rules::{CONSTANT_OVERFLOW, LONG_TEXT, UNKEPT_FLOAT};
-use crate::sort::Sort;
 use go_base::NoMemory;
-use go_model::{Judge, Outcome, WIDE_INTEGER, broken};
+use go_constructs::{Fit, Sort};
+use go_judge::{Judge, Outcome, WIDE_INTEGER, broken};
 use go_num::{NumKind, Value};
 use go_term::Ty;
 use std::alloc::Global;

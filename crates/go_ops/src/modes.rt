@@ -1,8 +1,8 @@
 // What expressions stand for (Go specification, "Expressions").
 ghost use Rattle.std.specs.Prelude.{◌≡◌};
-ghost use Rattle.go_model.specs.Outcomes.Operands.{is_constant_mode, is_value_mode};
+ghost use Rattle.go_judge.specs.Operands.{is_constant_mode, is_value_mode};
 
-use go_model::Mode;
+use go_judge::Mode;
 
 /// Whether what stands for that is a value.
 pub(crate) fn is_value(mode: Mode) -> bool

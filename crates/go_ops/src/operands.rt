@@ -4,18 +4,18 @@ ghost use Rattle.std.specs.Option.{option_map};
 ghost use Rattle.go_term.specs.Shapes.{shape_tree};
 ghost use Rattle.go_term.specs.Types.{TypeData};
 ghost use Rattle.go_term.specs.declared.term.Term.{Term};
-ghost use Rattle.go_model.specs.declared.outcome.Spot.TheVariants as spots;
-ghost use Rattle.go_model.specs.Outcomes.Judged as outcomes;
-ghost use Rattle.go_model.specs.Outcomes.Records.{rec_as};
-ghost use Rattle.go_model.specs.Types.Own.{IsOwnRec, Keeps};
-ghost use Rattle.go_ops.specs.Matching.{is_single_type};
+ghost use Rattle.go_judge.specs.declared.outcome.Spot.TheVariants as spots;
+ghost use Rattle.go_judge.specs.Judged as outcomes;
+ghost use Rattle.go_judge.specs.Records.{rec_as};
+ghost use Rattle.go_judge.specs.Types.Own.{IsOwnRec, Keeps};
+ghost use Rattle.go_constructs.specs.Operators.Matching.{is_single_type};
 ghost use Rattle.go_ops.specs.Refusals.{IsOwnRefusal, one_refused, refusal_as, several_refused, two_refused};
 
 use crate::broken::broken_at_two;
 use crate::modes::is_value;
 use crate::rules::SEVERAL_VALUES;
 use go_base::{NoMemory, Rule};
-use go_model::{Judge, NO_VALUE, Outcome, Rec, Spot, broken_at};
+use go_judge::{Judge, NO_VALUE, Outcome, Rec, Spot, broken_at};
 use go_term::{Shape, Ty};
 use std::alloc::Global;
 

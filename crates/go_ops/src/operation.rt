@@ -1,26 +1,25 @@
 // Operations that are no comparison and no shift (Go specification, "Arithmetic operators", "Logical operators",
 // "String concatenation", "Constant expressions").
 ghost use Rattle.std.specs.Prelude.{◌≡◌, IfOk, Some};
-ghost use Rattle.go_model.specs.Outcomes.Judged.{asked};
-ghost use Rattle.go_model.specs.Outcomes.Records.{rec_as};
-ghost use Rattle.go_model.specs.Outcomes.View.{outcome_as};
-ghost use Rattle.go_model.specs.Types.Own.{IsOwnOutcome, IsOwnRec, Keeps};
-ghost use Rattle.go_model.specs.Values.Quests.{Decided, run};
-ghost use Rattle.go_ops.specs.Honest.{IsHonest};
-ghost use Rattle.go_ops.specs.Operators as spec;
-ghost use Rattle.go_ops.specs.Sorts as sorts;
+ghost use Rattle.go_judge.specs.Judged.{asked};
+ghost use Rattle.go_judge.specs.Records.{rec_as};
+ghost use Rattle.go_judge.specs.View.{outcome_as};
+ghost use Rattle.go_judge.specs.Types.Own.{IsOwnOutcome, IsOwnRec, Keeps};
+ghost use Rattle.go_judge.specs.Quests.{Decided, run};
+ghost use Rattle.go_constructs.specs.Operators.Honest.{IsHonest};
+ghost use Rattle.go_constructs.specs.Operators.Operations as spec;
+ghost use Rattle.go_constructs.specs.Operators.Sorts as sorts;
 ghost use Rattle.go_ops.specs.Stages.{AreOf, built_outcome, first_outcome, second_outcome, values_outcome};
 
 use crate::definedness::is_built;
 use crate::matched::of_matched;
 use crate::matching::matches;
 use crate::operands::refused_two;
-use crate::operator::Operation;
 use crate::rules::MISMATCHED_OPERANDS;
-use crate::sort::Sort;
 use crate::sorts::{AskedSort, sort_in};
 use go_base::NoMemory;
-use go_model::{Answer, Judge, Outcome, Rec, broken};
+use go_constructs::{Operation, Sort};
+use go_judge::{Answer, Judge, Outcome, Rec, broken};
 use go_module::UNBUILT_FORM;
 use std::alloc::Global;
 

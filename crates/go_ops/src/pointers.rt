@@ -3,12 +3,12 @@ ghost use Rattle.std.specs.Prelude.{◌≡◌, Some, IfOk, IfSome};
 ghost use Rattle.std.specs.Option.{option_map};
 ghost use Rattle.go_term.specs.Shapes.{shape_tree};
 ghost use Rattle.go_term.specs.Types as types;
-ghost use Rattle.go_model.specs.Outcomes.Judged.{asked};
-ghost use Rattle.go_model.specs.Outcomes.Records.{rec_as};
-ghost use Rattle.go_model.specs.Outcomes.View.{outcome_as};
-ghost use Rattle.go_model.specs.Types.Own.{AreOwn, IsOwnOutcome, IsOwnRec, Keeps};
+ghost use Rattle.go_judge.specs.Judged.{asked};
+ghost use Rattle.go_judge.specs.Records.{rec_as};
+ghost use Rattle.go_judge.specs.View.{outcome_as};
+ghost use Rattle.go_judge.specs.Types.Own.{AreOwn, IsOwnOutcome, IsOwnRec, Keeps};
 ghost use Rattle.go_ops.specs.PointerTypes.{address_asks, term_in, typed_address, typed_outcome};
-ghost use Rattle.go_ops.specs.Pointers as spec;
+ghost use Rattle.go_constructs.specs.Operators.Pointers as spec;
 
 use crate::constants::value_record;
 use crate::limits::copy_of;
@@ -16,7 +16,7 @@ use crate::operands::refused_one;
 use crate::rules::NO_ADDRESS;
 use crate::source::{Source, read};
 use go_base::NoMemory;
-use go_model::{DEEP_TYPE, Judge, LARGE_TYPE, Mode, Outcome, Rec, broken};
+use go_judge::{DEEP_TYPE, Judge, LARGE_TYPE, Mode, Outcome, Rec, broken};
 use go_term::{Shape, TermFault, Ty};
 use std::alloc::Global;
 

@@ -1,16 +1,15 @@
 // Whether types represent constants (Go specification, "Representability", "Numeric types").
 ghost use Rattle.std.specs.Prelude.{◌≡◌, IfOk};
-ghost use Rattle.go_model.specs.Types.Own.{Keeps};
-ghost use Rattle.go_model.specs.Values.Quests.{run};
+ghost use Rattle.go_judge.specs.Types.Own.{Keeps};
+ghost use Rattle.go_judge.specs.Quests.{run};
 ghost use Rattle.go_ops.specs.AskedSorts.{represents_as};
-ghost use Rattle.go_ops.specs.Representable as spec;
-ghost use Rattle.go_ops.specs.declared.sort.Sort.TheVariants as sorts;
+ghost use Rattle.go_constructs.specs.Operators.Representable as spec;
+ghost use Rattle.go_constructs.specs.declared.sort.Sort.TheVariants as sorts;
 
-use crate::fit::Fit;
-use crate::sort::{FloatType, Sort};
 use crate::sorts::{AskedSort, sort_of};
 use go_base::NoMemory;
-use go_model::Forms;
+use go_constructs::{Fit, FloatType, Sort};
+use go_judge::Forms;
 use go_module::ObjId;
 use go_num::{IntType, MOST_TEXT, NumKind, Value, fits};
 use go_term::Ty;

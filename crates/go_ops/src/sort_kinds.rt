@@ -1,10 +1,10 @@
 // What operators are defined on, by what they see of types (Go specification, "Arithmetic operators", "Logical
 // operators", "Constants").
 ghost use Rattle.std.specs.Prelude.{◌≡◌};
-ghost use Rattle.go_ops.specs.Matching as matching;
-ghost use Rattle.go_ops.specs.Operators as operators;
+ghost use Rattle.go_constructs.specs.Operators.Matching as matching;
+ghost use Rattle.go_constructs.specs.Operators.Operations as operators;
 
-use crate::sort::Sort;
+use go_constructs::Sort;
 use go_num::NumKind;
 
 /// Whether it is the kind of an untyped number.

@@ -2,11 +2,11 @@
 ghost use Rattle.std.specs.Prelude.{◌≡◌, Some, IfOk, IfSome};
 ghost use Rattle.std.specs.Option.{option_map};
 ghost use Rattle.go_term.specs.Shapes.{shape_tree};
-ghost use Rattle.go_model.specs.Outcomes.Judged.{asked};
-ghost use Rattle.go_model.specs.Outcomes.Records.{rec_as};
-ghost use Rattle.go_model.specs.Outcomes.View.{outcome_as};
-ghost use Rattle.go_model.specs.Types.Forms.{IsOwnForm, form_as, underlying_over};
-ghost use Rattle.go_model.specs.Types.Own.{AreOwn, IsOwnOutcome, IsOwnRec, Keeps};
+ghost use Rattle.go_judge.specs.Judged.{asked};
+ghost use Rattle.go_judge.specs.Records.{rec_as};
+ghost use Rattle.go_judge.specs.View.{outcome_as};
+ghost use Rattle.go_judge.specs.Types.Forms.{IsOwnForm, form_as, underlying_over};
+ghost use Rattle.go_judge.specs.Types.Own.{AreOwn, IsOwnOutcome, IsOwnRec, Keeps};
 ghost use Rattle.go_ops.specs.Sources as spec;
 ghost use Rattle.go_ops.specs.Sources.{read_asked, read_asks, read_outcome};
 
@@ -15,7 +15,7 @@ use crate::constants::value_record;
 use crate::pointers::base_of;
 use crate::rules::{NO_POINTER, NO_RECEIVE};
 use go_base::{NoMemory, Rule};
-use go_model::{Form, Judge, Mode, Outcome, Rec, broken};
+use go_judge::{Form, Judge, Mode, Outcome, Rec, broken};
 use go_term::{Shape, Ty};
 use std::alloc::Global;
 

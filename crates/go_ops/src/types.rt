@@ -1,10 +1,10 @@
 // Types that operations give (Go specification, "Types", "Constants").
 ghost use Rattle.std.specs.Prelude.{◌≡◌, IfOk};
 ghost use Rattle.go_term.specs.Types.{basic_type};
-ghost use Rattle.go_model.specs.Types.Own.{Keeps};
+ghost use Rattle.go_judge.specs.Types.Own.{Keeps};
 
 use go_base::NoMemory;
-use go_model::Forms;
+use go_judge::Forms;
 use go_term::{Basic, Shape, TermFault, Ty};
 use std::alloc::Global;
 

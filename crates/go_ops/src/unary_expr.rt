@@ -1,20 +1,20 @@
 // Unary operators (Go specification, "Operators").
 ghost use Rattle.std.specs.Prelude.{◌≡◌, Some, IfOk, IsSome};
-ghost use Rattle.go_model.specs.Outcomes.Judged.{asked};
-ghost use Rattle.go_model.specs.Outcomes.Records.{rec_as};
-ghost use Rattle.go_model.specs.Outcomes.View.{outcome_as};
-ghost use Rattle.go_model.specs.Types.Own.{IsOwnOutcome, IsOwnRec, Keeps};
-ghost use Rattle.go_ops.specs.Honest.{GivesHonest, IsHonest};
-ghost use Rattle.go_ops.specs.Unary as spec;
-ghost use Rattle.go_ops.specs.Unary.{unary_op};
-ghost use Rattle.go_ops.specs.declared.operator.UnaryOp.{UnaryOp as Op};
+ghost use Rattle.go_judge.specs.Judged.{asked};
+ghost use Rattle.go_judge.specs.Records.{rec_as};
+ghost use Rattle.go_judge.specs.View.{outcome_as};
+ghost use Rattle.go_judge.specs.Types.Own.{IsOwnOutcome, IsOwnRec, Keeps};
+ghost use Rattle.go_constructs.specs.Operators.Honest.{GivesHonest, IsHonest};
+ghost use Rattle.go_constructs.specs.Operators.Unary as spec;
+ghost use Rattle.go_constructs.specs.Operators.Unary.{unary_op};
+ghost use Rattle.go_constructs.specs.declared.operator.UnaryOp.{UnaryOp as Op};
 
 use crate::channels::receive;
-use crate::operator::{Sign, UnaryOp};
 use crate::pointers::{address, indirection};
 use crate::sign::sign;
 use go_base::NoMemory;
-use go_model::{Judge, Outcome, Rec};
+use go_constructs::{Sign, UnaryOp};
+use go_judge::{Judge, Outcome, Rec};
 use go_num::UnOp;
 use go_tree::TokenKind;
 use std::alloc::Global;

@@ -8,7 +8,7 @@ use Rattle.indexmap.specs.IndexMap.{insert_entry}
 use Rattle.go_base.specs.declared.ids.ObjId.{ObjId}
 use Rattle.go_module.specs.Scopes.{same_object}
 use Rattle.go_model.specs.declared.lines.NamedObject.{NamedObject}
-use Rattle.go_model.proofs.EntryLemmas.{found_behind}
+use Rattle.go_judge.proofs.EntryLemmas.{found_behind}
 
 -- entries have the places of the first objects of each number among those from a place on
 abbrev pub ArePlacesFrom : List NamedObject → ℕ → List (ObjId × ℕ) → Type 0

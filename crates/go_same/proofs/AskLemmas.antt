@@ -2,12 +2,12 @@
 use Rattle.std.proofs.Common.{◌≡◌, ℕ, ◌+◌, ◌<◌, Bool, true, false, if◌then◌else◌, List, [], ◌∷◌, ◌++◌, map, length, drop, get_or, refl, sym, ap, ◌∙◌}
 use Rattle.std.proofs.lemmas.List.Concat.{flat_map-cons}
 use Rattle.std.specs.List.{flat_map}
-use Rattle.go_model.specs.Outcomes.Walk.{Headers}
-use Rattle.go_model.specs.Types.Forms.{answer_as}
-use Rattle.go_model.specs.Types.TypeIdentity.{Test, and_ask, ask_any, ask_each, implied, or_ask}
-use Rattle.go_model.specs.Values.Quests.{Asked, Decided, Lacks, Done, run}
-use Rattle.go_model.specs.declared.outcome.Answer.{Answer}
-use Rattle.go_model.specs.declared.outcome.Answer.TheVariants.{Yes, No, Unknown}
+use Rattle.go_judge.specs.Headers.{Headers}
+use Rattle.go_judge.specs.Types.Forms.{answer_as}
+use Rattle.go_judge.specs.Types.TypeIdentity.{Test, and_ask, ask_any, ask_each, implied, or_ask}
+use Rattle.go_judge.specs.Quests.{Asked, Decided, Lacks, Done, run}
+use Rattle.go_judge.specs.declared.outcome.Answer.{Answer}
+use Rattle.go_judge.specs.declared.outcome.Answer.TheVariants.{Yes, No, Unknown}
 use Rattle.go_same.specs.Collect.{asked_then}
 use Rattle.go_same.proofs.CollectLemmas.{run-then}
 use Rattle.go_same.proofs.EitherLemmas.{left_map}

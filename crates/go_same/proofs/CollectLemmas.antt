@@ -12,10 +12,10 @@ use Rattle.go_term.specs.declared.basic.Basic.TheVariants as B
 use Rattle.go_term.specs.declared.shape.Shape.{Shape}
 use Rattle.go_term.specs.declared.shape.Shape.TheVariants as S
 use Rattle.go_term.specs.declared.term.Term.{Term}
-use Rattle.go_model.specs.Outcomes.Walk.{Headers}
-use Rattle.go_model.specs.Types.Own.{AreOwn, AreOwnFunc}
-use Rattle.go_model.specs.Types.TypeSets.{SetAsked, SetData, TermData, all_types, both_sets, either_set, either_unions, element_set, elements_set, is_interface, joined, joined_to, plain, set_of, term_set, tilde_set, type_set, union_set, union_term_set}
-use Rattle.go_model.specs.Values.Quests.{Asked, Decided, Lacks, Quest, Done, Need, run, then_ask}
+use Rattle.go_judge.specs.Headers.{Headers}
+use Rattle.go_judge.specs.Types.Own.{AreOwn, AreOwnFunc}
+use Rattle.go_judge.specs.Types.TypeSets.{SetAsked, SetData, TermData, all_types, both_sets, either_set, either_unions, element_set, elements_set, is_interface, joined, joined_to, plain, set_of, term_set, tilde_set, type_set, union_set, union_term_set}
+use Rattle.go_judge.specs.Quests.{Asked, Decided, Lacks, Quest, Done, Need, run, then_ask}
 use Rattle.go_same.specs.Collect.{HasElements, IsKindOf, IsOwnKind, asked_after, asked_joined, asked_joined_to, asked_then, basic_kind, is_interface_kind, is_param, kind_of, kind_set, opening_within}
 use Rattle.go_same.specs.Joins.{IsBoth, IsBothSets}
 use Rattle.go_same.specs.Sets.{IsOwnFound, IsOwnSet, found_as, is_set, method_view, part_view, set_view}

@@ -5,8 +5,8 @@ use Rattle.std.proofs.lemmas.List.Concat.{flat_map-cons}
 use Rattle.std.specs.List.{AllByRecursion, flat_map}
 use Rattle.go_term.specs.Types.{TypeData}
 use Rattle.go_term.specs.declared.term.Term.{Term}
-use Rattle.go_model.specs.Types.Own.{KeepsTypes}
-use Rattle.go_model.specs.Types.TypeSets.{TermData, either_unions}
+use Rattle.go_judge.specs.Types.Own.{KeepsTypes}
+use Rattle.go_judge.specs.Types.TypeSets.{TermData, either_unions}
 use Rattle.go_same.specs.Sets.{part_view}
 use Rattle.go_same.specs.declared.set.UnionPart.{UnionPart}
 use Rattle.go_same.proofs.KeepLemmas.{all-joined, all_parts_kept, all_parts_types, map-agrees, parts_kept, parts_types}

@@ -8,10 +8,9 @@ use Rattle.go_term.specs.declared.shape.ElemShape.{ElemShape}
 use Rattle.go_term.specs.declared.shape.ElemShape.TheVariants as E
 use Rattle.go_term.specs.declared.shape.FuncShape.{FuncShape}
 use Rattle.go_term.specs.declared.shape.UnionShape.{UnionShape}
-use Rattle.go_model.specs.Outcomes.Walk.{Headers}
-use Rattle.go_model.specs.Outcomes.Walked.{Outcomes}
-use Rattle.go_model.specs.Types.Own.{AreOwnFunc, IsOwnElem, Keeps, KeepsTypes}
-use Rattle.go_model.specs.Values.Meaning.{Naming}
+use Rattle.go_judge.specs.Headers.{Headers, Outcomes}
+use Rattle.go_judge.specs.Types.Own.{AreOwnFunc, IsOwnElem, Keeps, KeepsTypes}
+use Rattle.go_judge.specs.Naming.{Naming}
 use Rattle.go_same.specs.Sets.{IsOwnFound, IsOwnSet, found_as, method_view, part_view, set_view}
 use Rattle.go_same.specs.declared.set.FoundSet.{FoundSet}
 use Rattle.go_same.specs.declared.set.FoundSet.TheVariants as F

@@ -11,10 +11,9 @@ use Rattle.go_term.specs.declared.shape.FieldShape.{FieldShape}
 use Rattle.go_term.specs.declared.shape.UnionShape.{UnionShape}
 use Rattle.go_term.specs.declared.shape.ElemShape.{ElemShape}
 use Rattle.go_term.specs.declared.shape.ElemShape.TheVariants as E
-use Rattle.go_model.specs.Outcomes.Walk.{Headers}
-use Rattle.go_model.specs.Outcomes.Walked.{Outcomes}
-use Rattle.go_model.specs.Types.Own.{Keeps, KeepsTypes, AreOwn, AreOwnFunc, IsOwnElem}
-use Rattle.go_model.specs.Values.Meaning.{Naming}
+use Rattle.go_judge.specs.Headers.{Headers, Outcomes}
+use Rattle.go_judge.specs.Types.Own.{Keeps, KeepsTypes, AreOwn, AreOwnFunc, IsOwnElem}
+use Rattle.go_judge.specs.Naming.{Naming}
 use Rattle.go_same.specs.Layers.{types_in, types_in_func, types_in_elem, pair_view, IsOwnPair}
 
 module _ {own own' : Term → Type 0} {tree tree' : Term → TypeData} (kept : KeepsTypes own own' tree tree') where

@@ -7,13 +7,12 @@ use Rattle.go_term.specs.Shapes.{shape_tree}
 use Rattle.go_term.specs.Types.{TypeData}
 use Rattle.go_term.specs.declared.shape.Shape.{Shape}
 use Rattle.go_term.specs.declared.term.Term.{Term}
-use Rattle.go_model.specs.Outcomes.Walk.{Headers}
-use Rattle.go_model.specs.Outcomes.Walked.{Outcomes}
-use Rattle.go_model.specs.Types.Heads.{alike}
-use Rattle.go_model.specs.Types.Own.{AreOwn, Keeps, KeepsTypes}
-use Rattle.go_model.specs.Types.TypeSets.{plain}
-use Rattle.go_model.specs.Values.Meaning.{Naming}
-use Rattle.go_model.specs.Values.Quests.{Decided, run}
+use Rattle.go_judge.specs.Headers.{Headers, Outcomes}
+use Rattle.go_judge.specs.Types.Heads.{alike}
+use Rattle.go_judge.specs.Types.Own.{AreOwn, Keeps, KeepsTypes}
+use Rattle.go_judge.specs.Types.TypeSets.{plain}
+use Rattle.go_judge.specs.Naming.{Naming}
+use Rattle.go_judge.specs.Quests.{Decided, run}
 use Rattle.go_same.specs.Bounded as bounded
 use Rattle.go_same.specs.Kept.{AreKept, IsKept}
 use Rattle.go_same.specs.Layers.{IsOwnPair, pair_view}

@@ -12,9 +12,9 @@ use Rattle.std.specs.declared.cmp.Ordering.TheVariants.{Less, Equal, Greater}
 use Rattle.std.proofs.lemmas.List.{length-map}
 use Rattle.std.proofs.lemmas.List.Sorted.{ranks_by}
 use Rattle.go_module.specs.Modules.Paths.{same_text}
-use Rattle.go_model.specs.Types.Heads.{same_truth}
-use Rattle.go_model.specs.Types.SetsFit.{by_name, has_name, has_names_of, is_all, is_before, method_pairs, put_by_name, sets_fit, text_before}
-use Rattle.go_model.specs.Types.TypeSets.{MethodData, SetData}
+use Rattle.go_judge.specs.Types.Heads.{same_truth}
+use Rattle.go_judge.specs.Types.SetsFit.{by_name, has_name, has_names_of, is_all, is_before, method_pairs, put_by_name, sets_fit, text_before}
+use Rattle.go_judge.specs.Types.TypeSets.{MethodData, SetData}
 use Rattle.go_term.specs.Types.{TypeData, interface_type, made, no_parts}
 use Rattle.go_term.specs.declared.term.Term.{Term}
 use Rattle.go_same.specs.Sets.{method_view}

@@ -10,9 +10,9 @@ use Rattle.go_same.specs.MethodOrder.{AreBefore, AreByName, both_at, fit_besides
 use Rattle.go_same.specs.Sets.{method_view, part_view, set_view}
 use Rattle.go_term.specs.Types.{TypeData}
 use Rattle.go_term.specs.declared.term.Term.{Term}
-use Rattle.go_model.specs.Types.Heads.{same_truth}
-use Rattle.go_model.specs.Types.SetsFit.{has_name, has_names_of, is_all, is_all_by, sets_fit}
-use Rattle.go_model.specs.Types.TypeSets.{MethodData, TermData}
+use Rattle.go_judge.specs.Types.Heads.{same_truth}
+use Rattle.go_judge.specs.Types.SetsFit.{has_name, has_names_of, is_all, is_all_by, sets_fit}
+use Rattle.go_judge.specs.Types.TypeSets.{MethodData, TermData}
 use Rattle.go_names.proofs.InnerLemmas.{map-filter}
 use Rattle.go_same.specs.declared.set.Method.{Method}
 use Rattle.go_same.specs.declared.set.TypeSet.{TypeSet}

@@ -4,15 +4,15 @@ use Rattle.std.specs.Borrow.{Bor}
 use Rattle.std.specs.List.{AllByRecursion}
 use Rattle.std.proofs.lemmas.List.{length-map}
 use Rattle.go_term.specs.Size.{depth}
-use Rattle.go_model.specs.Types.Own.{KeepsTypes}
+use Rattle.go_judge.specs.Types.Own.{KeepsTypes}
 use Rattle.go_same.proofs.DepthLemmas.{deepest, layer_depth}
 use Rattle.go_term.specs.Shapes.{shape_tree}
 use Rattle.go_term.specs.Types.{Head, TypeData, Parts, made, parts_of}
 use Rattle.go_term.specs.declared.term.Term.{Term}
 use Rattle.go_term.specs.declared.shape.Shape.{Shape}
-use Rattle.go_model.specs.Types.Heads.{same_head, alike, all_alike}
-use Rattle.go_model.specs.Types.TypeIdentity.{are_interfaces, fit, all_fit, interfaces_in, interfaces_in_all}
-use Rattle.go_model.specs.Types.TypeSets.{home_of, plain}
+use Rattle.go_judge.specs.Types.Heads.{same_head, alike, all_alike}
+use Rattle.go_judge.specs.Types.TypeIdentity.{are_interfaces, fit, all_fit, interfaces_in, interfaces_in_all}
+use Rattle.go_judge.specs.Types.TypeSets.{home_of, plain}
 use Rattle.go_same.specs.declared.layer.Homes.TheVariants.{Each, Unexported}
 use Rattle.go_same.specs.Layers.{same_layer, types_in, both_interfaces, plain_types, lent}
 use Rattle.go_same.proofs.WalkLemmas.{Walks, all_by, plain_each, pairs_lists}

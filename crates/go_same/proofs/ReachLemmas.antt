@@ -1,13 +1,13 @@
 -- What is asked of the underlying type of a type, by what it comes to.
 use Rattle.std.proofs.Common.{◌≡◌, ℕ, Option, Some, refl, sym, ap, ◌∙◌}
 use Rattle.go_term.specs.Types.{TypeData}
-use Rattle.go_model.specs.Outcomes.Records.{HeaderData}
-use Rattle.go_model.specs.Outcomes.Walk.{Headers}
-use Rattle.go_model.specs.Types.Forms.{form_asked, found_in, underlying_over}
-use Rattle.go_model.specs.Types.TypeIdentity as identity
-use Rattle.go_model.specs.Types.TypeSets.{plain}
-use Rattle.go_model.specs.Types.UnderlyingType.{Reach, Reaches, Returns, Exceeds, under}
-use Rattle.go_model.specs.Values.Quests.{Asked, Decided, Lacks, Quest, run, then_ask}
+use Rattle.go_judge.specs.Records.{HeaderData}
+use Rattle.go_judge.specs.Headers.{Headers}
+use Rattle.go_judge.specs.Types.Forms.{form_asked, found_in, underlying_over}
+use Rattle.go_judge.specs.Types.TypeIdentity as identity
+use Rattle.go_judge.specs.Types.TypeSets.{plain}
+use Rattle.go_judge.specs.Types.UnderlyingType.{Reach, Reaches, Returns, Exceeds, under}
+use Rattle.go_judge.specs.Quests.{Asked, Decided, Lacks, Quest, run, then_ask}
 use Rattle.go_same.specs.Collect.{asked_then}
 use Rattle.go_same.specs.declared.bounds.Bounds.{Bounds}
 use Rattle.go_same.proofs.CollectLemmas.{run-then}

@@ -4,16 +4,16 @@ use Rattle.std.specs.List.{AllByRecursion}
 use Rattle.go_term.specs.Types.{TypeData}
 use Rattle.go_term.specs.declared.shape.Shape.{Shape}
 use Rattle.go_term.specs.declared.term.Term.{Term}
-use Rattle.go_model.specs.Outcomes.Walk.{Headers}
-use Rattle.go_model.specs.Types.Forms.{answer_as}
-use Rattle.go_model.specs.Types.Heads.{alike}
-use Rattle.go_model.specs.Types.Own.{AreOwn, KeepsTypes}
-use Rattle.go_model.specs.Types.TypeIdentity as identity
-use Rattle.go_model.specs.Types.TypeIdentity.{Test, and_ask, ask_each, fit, identical, interfaces_in, most_levels, most_opened}
-use Rattle.go_model.specs.Types.TypeSets.{SetData, plain, set_of}
-use Rattle.go_model.specs.Values.Quests.{Asked, Decided, Done, run, then_ask}
-use Rattle.go_model.specs.declared.outcome.Answer.{Answer}
-use Rattle.go_model.specs.declared.outcome.Answer.TheVariants as A
+use Rattle.go_judge.specs.Headers.{Headers}
+use Rattle.go_judge.specs.Types.Forms.{answer_as}
+use Rattle.go_judge.specs.Types.Heads.{alike}
+use Rattle.go_judge.specs.Types.Own.{AreOwn, KeepsTypes}
+use Rattle.go_judge.specs.Types.TypeIdentity as identity
+use Rattle.go_judge.specs.Types.TypeIdentity.{Test, and_ask, ask_each, fit, identical, interfaces_in, most_levels, most_opened}
+use Rattle.go_judge.specs.Types.TypeSets.{SetData, plain, set_of}
+use Rattle.go_judge.specs.Quests.{Asked, Decided, Done, run, then_ask}
+use Rattle.go_judge.specs.declared.outcome.Answer.{Answer}
+use Rattle.go_judge.specs.declared.outcome.Answer.TheVariants as A
 use Rattle.go_same.specs.Bounded as bounded
 use Rattle.go_same.specs.Collect.{asked_then}
 use Rattle.go_same.specs.Layers.{IsOwnPair, pair_view}

@@ -7,15 +7,15 @@ use Rattle.std.proofs.lemmas.List.Elements.{All-from_recursion, recursion_from_A
 use Rattle.std.proofs.lemmas.List.Sorted.{All-permutation}
 use Rattle.go_term.specs.Types.{TypeData, interface_type, made, no_parts}
 use Rattle.go_term.specs.declared.term.Term.{Term}
-use Rattle.go_model.specs.Outcomes.Walk.{Headers}
-use Rattle.go_model.specs.Types.Forms.{answer_as}
-use Rattle.go_model.specs.Types.Own.{AreOwnFunc, KeepsTypes}
-use Rattle.go_model.specs.Types.SetsFit.{by_name, method_pairs, sets_fit}
-use Rattle.go_model.specs.Types.TypeIdentity.{Test, and_ask, ask_each, fit}
-use Rattle.go_model.specs.Types.TypeSets.{MethodData}
-use Rattle.go_model.specs.Values.Quests.{Asked, Decided, Done, run}
-use Rattle.go_model.specs.declared.outcome.Answer.{Answer}
-use Rattle.go_model.specs.declared.outcome.Answer.TheVariants as A
+use Rattle.go_judge.specs.Headers.{Headers}
+use Rattle.go_judge.specs.Types.Forms.{answer_as}
+use Rattle.go_judge.specs.Types.Own.{AreOwnFunc, KeepsTypes}
+use Rattle.go_judge.specs.Types.SetsFit.{by_name, method_pairs, sets_fit}
+use Rattle.go_judge.specs.Types.TypeIdentity.{Test, and_ask, ask_each, fit}
+use Rattle.go_judge.specs.Types.TypeSets.{MethodData}
+use Rattle.go_judge.specs.Quests.{Asked, Decided, Done, run}
+use Rattle.go_judge.specs.declared.outcome.Answer.{Answer}
+use Rattle.go_judge.specs.declared.outcome.Answer.TheVariants as A
 use Rattle.go_same.specs.Bounded as bounded
 use Rattle.go_same.specs.MethodOrder.{AreInRange, named_pairs, pair_at, views_at}
 use Rattle.go_same.specs.Sets.{IsOwnSet, method_view, set_view}

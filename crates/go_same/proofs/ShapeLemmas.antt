@@ -12,9 +12,9 @@ use Rattle.go_term.specs.declared.shape.FieldShape.{FieldShape}
 use Rattle.go_term.specs.declared.shape.UnionShape.{UnionShape}
 use Rattle.go_term.specs.declared.shape.ElemShape.{ElemShape}
 use Rattle.go_term.specs.declared.shape.ElemShape.TheVariants as E
-use Rattle.go_model.specs.Types.Heads.{same_head}
-use Rattle.go_model.specs.Types.TypeIdentity.{interfaces_in, interfaces_in_all}
-use Rattle.go_model.specs.Types.TypeSets.{plain, plain_all}
+use Rattle.go_judge.specs.Types.Heads.{same_head}
+use Rattle.go_judge.specs.Types.TypeIdentity.{interfaces_in, interfaces_in_all}
+use Rattle.go_judge.specs.Types.TypeSets.{plain, plain_all}
 use Rattle.go_same.specs.declared.layer.Homes.{Homes}
 use Rattle.go_same.specs.Layers.{hole, home_by, same_heads, all_same_heads, same_layer, types_in, types_in_func, types_in_elem, both_interfaces}
 use Rattle.go_same.proofs.WalkLemmas.{Walks, Opens, all_by, all_pairs, plain_each, one_each, pairs_lists, flat_map_map, listed, listed_long, listed_pairs, and_true, and_second}

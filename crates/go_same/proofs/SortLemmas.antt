@@ -2,7 +2,7 @@
 use Rattle.std.proofs.Common.{◌≡◌, ℕ, zero, suc, ◌+◌, ◌<◌, Bool, true, false, cond, not, ◌&&◌, List, [], ◌∷◌, length, get_or, filter, refl, sym, ap, subst, ◌∙◌, arith}
 use Rattle.std.specs.Cmp.{IsStrictWeakOrder}
 use Rattle.std.specs.List.Sorted.{IsSortedBy, IsStableBy, ties}
-use Rattle.go_model.proofs.StableLemmas.{one_stable}
+use Rattle.go_judge.proofs.StableLemmas.{one_stable}
 
 both_false : (s t : Bool) → not s && not t ≡ true → (s ≡ false) × (t ≡ false)
 both_false false false e = (refl, refl)

@@ -1,5 +1,5 @@
 -- One step of collecting, over a judge that has gone on.
-use Rattle.std.proofs.Common.{◌≡◌, ℕ, zero, suc, ◌-◌, ◌≤◌, Bool, true, false, Option, None, Some, List, [], ◌∷◌, map, length, refl, sym, ap, subst, ◌∙◌, arith, codes}
+use Rattle.std.proofs.Common.{◌≡◌, ℕ, zero, suc, ◌-◌, ◌≤◌, Bool, true, false, Option, None, Some, List, [], ◌∷◌, map, length, refl, sym, ap, subst, ◌∙◌, arith, codes, Vec, Global}
 use Rattle.std.specs.List.{AllByRecursion}
 use Rattle.std.specs.Option.{option_map}
 use Rattle.std.specs.Prelude.{IfOk, IfSome, Result, Ok, Err}
@@ -11,11 +11,11 @@ use Rattle.go_term.specs.declared.shape.ElemShape.{ElemShape}
 use Rattle.go_term.specs.declared.shape.Shape.{Shape}
 use Rattle.go_term.specs.declared.shape.UnionShape.{UnionShape}
 use Rattle.go_term.specs.declared.term.Term.{Term}
-use Rattle.go_model.specs.Outcomes.Walk.{Headers}
-use Rattle.go_model.specs.Types.Forms.{underlying_over}
-use Rattle.go_model.specs.Types.Own.{AreOwnFunc, IsOwnElem, KeepsTypes}
-use Rattle.go_model.specs.Types.TypeSets.{SetAsked, SetData, MethodData, TermData, both_sets, either_set, element_set, elements_set, error_set, is_interface, named_set, named_set_by, opened_method, opened_set, opened_term, plain, plain_all, set_of, term_set, tilde_set, union_term_set}
-use Rattle.go_model.specs.Values.Quests.{Asked, Decided, Done, run}
+use Rattle.go_judge.specs.Headers.{Headers}
+use Rattle.go_judge.specs.Types.Forms.{underlying_over}
+use Rattle.go_judge.specs.Types.Own.{AreOwnFunc, IsOwnElem, KeepsTypes}
+use Rattle.go_judge.specs.Types.TypeSets.{SetAsked, SetData, MethodData, TermData, both_sets, either_set, element_set, elements_set, error_set, is_interface, named_set, named_set_by, opened_method, opened_set, opened_term, plain, plain_all, set_of, term_set, tilde_set, union_term_set}
+use Rattle.go_judge.specs.Quests.{Asked, Decided, Done, run}
 use Rattle.go_same.specs.Collect.{IsRaisedFound, asked_after, asked_joined, asked_then, kind_of, kind_set, opening_within}
 use Rattle.go_same.specs.Joins.{IsBoth, IsRaised, raised_method, raised_part}
 use Rattle.go_same.specs.Sets.{IsOwnFound, IsOwnSet, found_as, method_view, part_view, set_view}
@@ -28,7 +28,6 @@ use Rattle.go_same.specs.declared.kind.TypeKind.{TypeKind}
 use Rattle.go_same.proofs.CollectLemmas.{both_viewed, elements-next, joined-last, kind_fits, run-then, set_of-opening, union_rest, union_rest-next}
 use Rattle.go_same.proofs.KeepLemmas.{elem_kept, elem_types, found_kept, found_types, union_kept}
 use Rattle.go_same.proofs.UnderLemmas.{named-over}
-use Rattle.std.proofs.Common.{Vec, Global}
 
 mapped_items : (f : List UnionPart → List TermData) (us : List (Vec UnionPart Global)) → map f (map (λ u. u.items) us) ≡ map (λ u. f u.items) us
 mapped_items f [] = refl

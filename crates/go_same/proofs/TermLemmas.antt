@@ -7,12 +7,12 @@ use Rattle.go_term.specs.Types.{TypeData}
 use Rattle.go_term.specs.declared.shape.Shape.{Shape}
 use Rattle.go_term.specs.declared.shape.Shape.TheVariants as S
 use Rattle.go_term.specs.declared.term.Term.{Term}
-use Rattle.go_model.specs.Outcomes.Walk.{Headers}
-use Rattle.go_model.specs.Types.Own.{KeepsTypes}
-use Rattle.go_model.specs.Types.TypeIdentity as identity
-use Rattle.go_model.specs.Types.TypeIdentity.{ask_any, ask_each, fit, interfaces_in}
-use Rattle.go_model.specs.Types.TypeSets.{TermData, plain}
-use Rattle.go_model.specs.Values.Quests.{Done, run}
+use Rattle.go_judge.specs.Headers.{Headers}
+use Rattle.go_judge.specs.Types.Own.{KeepsTypes}
+use Rattle.go_judge.specs.Types.TypeIdentity as identity
+use Rattle.go_judge.specs.Types.TypeIdentity.{ask_any, ask_each, fit, interfaces_in}
+use Rattle.go_judge.specs.Types.TypeSets.{TermData, plain}
+use Rattle.go_judge.specs.Quests.{Done, run}
 use Rattle.go_same.specs.Bounded as bounded
 use Rattle.go_same.specs.Collect.{is_name_shape}
 use Rattle.go_same.specs.Sets.{IsOwnSet, part_view, set_view}

@@ -12,14 +12,14 @@ use Rattle.go_term.specs.declared.basic.Basic.TheVariants as B
 use Rattle.go_term.specs.declared.fault.TermFault.{TermFault}
 use Rattle.go_term.specs.declared.fault.TermFault.TheVariants.{Deep, Large}
 use Rattle.go_term.specs.declared.term.Term.{Term}
-use Rattle.go_model.specs.Outcomes.Records.{HeaderData, definition}
-use Rattle.go_model.specs.Outcomes.Walk.{Headers}
-use Rattle.go_model.specs.Types.Forms.{form_as, form_asked, found_in, underlying_over}
-use Rattle.go_model.specs.Types.TypeSets.{SetAsked, is_interface, is_interface_head, named_set, named_set_by, plain, plain_all, without_object}
-use Rattle.go_model.specs.Types.UnderlyingType.{Reach, Reaches, Returns, Exceeds, Origin, Reaching, declared_by, literal_of, most_steps, on_with, params_from, refers_to, right_side, same_origin, step_by, under, under_from}
-use Rattle.go_model.specs.Values.Quests.{Asked, Decided, Lacks, Done, Need, run}
-use Rattle.go_model.specs.declared.form.Form.{Form}
-use Rattle.go_model.specs.declared.form.Form.TheVariants as F
+use Rattle.go_judge.specs.Records.{HeaderData, definition}
+use Rattle.go_judge.specs.Headers.{Headers}
+use Rattle.go_judge.specs.Types.Forms.{form_as, form_asked, found_in, underlying_over}
+use Rattle.go_judge.specs.Types.TypeSets.{SetAsked, is_interface, is_interface_head, named_set, named_set_by, plain, plain_all, without_object}
+use Rattle.go_judge.specs.Types.UnderlyingType.{Reach, Reaches, Returns, Exceeds, Origin, Reaching, declared_by, literal_of, most_steps, on_with, params_from, refers_to, right_side, same_origin, step_by, under, under_from}
+use Rattle.go_judge.specs.Quests.{Asked, Decided, Lacks, Done, Need, run}
+use Rattle.go_judge.specs.declared.form.Form.{Form}
+use Rattle.go_judge.specs.declared.form.Form.TheVariants as F
 use Rattle.go_same.specs.Collect.{IsShallowForm, asked_then}
 use Rattle.go_same.proofs.CollectLemmas.{run-then}
 

@@ -4,9 +4,9 @@ use Rattle.std.proofs.lemmas.List.{map-append}
 use Rattle.std.specs.List.{flat_map}
 use Rattle.go_term.specs.Types.{Head, TypeData, Parts, made, more_parts, parts_of}
 use Rattle.go_term.specs.declared.term.Term.{Term}
-use Rattle.go_model.specs.Types.Heads.{same_head}
-use Rattle.go_model.specs.Types.TypeIdentity.{are_interfaces, interfaces_in, interfaces_in_all}
-use Rattle.go_model.specs.Types.TypeSets.{plain, plain_all}
+use Rattle.go_judge.specs.Types.Heads.{same_head}
+use Rattle.go_judge.specs.Types.TypeIdentity.{are_interfaces, interfaces_in, interfaces_in_all}
+use Rattle.go_judge.specs.Types.TypeSets.{plain, plain_all}
 use Rattle.go_same.specs.declared.layer.Homes.{Homes}
 use Rattle.go_same.specs.Layers.{home_by, same_heads, all_same_heads}
 

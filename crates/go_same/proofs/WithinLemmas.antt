@@ -7,11 +7,11 @@ use Rattle.go_term.specs.Types.{Head, interface_type, basic, named, param, metho
 use Rattle.go_term.specs.declared.basic.Basic.{Basic}
 use Rattle.go_term.specs.declared.basic.Basic.TheVariants as B
 use Rattle.go_term.specs.declared.term.Term.{Term}
-use Rattle.go_model.specs.Outcomes.Walk.{Headers}
-use Rattle.go_model.specs.Types.Forms.{found_in}
-use Rattle.go_model.specs.Types.TypeSets.{MethodData, SetAsked, SetData, TermData, basic_set, both_sets, either_set, either_unions, element_set, elements_set, is_interface, named_set, named_set_by, opened_method, opened_set, opened_term, plain, plain_term_by, set_of, term_set, tilde_set, type_set, union_set, union_term_set}
-use Rattle.go_model.specs.Types.UnderlyingType.{Reach, under}
-use Rattle.go_model.specs.Values.Quests.{Asked, Decided, Lacks, Done, run, then_ask}
+use Rattle.go_judge.specs.Headers.{Headers}
+use Rattle.go_judge.specs.Types.Forms.{found_in}
+use Rattle.go_judge.specs.Types.TypeSets.{MethodData, SetAsked, SetData, TermData, basic_set, both_sets, either_set, either_unions, element_set, elements_set, is_interface, named_set, named_set_by, opened_method, opened_set, opened_term, plain, plain_term_by, set_of, term_set, tilde_set, type_set, union_set, union_term_set}
+use Rattle.go_judge.specs.Types.UnderlyingType.{Reach, under}
+use Rattle.go_judge.specs.Quests.{Asked, Decided, Lacks, Done, run, then_ask}
 use Rattle.go_same.specs.Collect.{IsRaisableFound, asked_joined, asked_then}
 use Rattle.go_same.specs.Joins.{IsRaisable}
 use Rattle.go_same.specs.Sets.{found_as, method_view, part_view, set_view}

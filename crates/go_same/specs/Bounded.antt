@@ -1,10 +1,10 @@
 -- Type identity within bounds: each question as the code asks it, in the words of go_model's definitions.
 use Rattle.std.specs.Prelude.{ℕ, true, if◌then◌else◌, List, not}
 use Rattle.go_term.specs.Types.{TypeData}
-use Rattle.go_model.specs.Types.TypeIdentity as identity
-use Rattle.go_model.specs.Types.TypeIdentity.{Test, and_ask, implied, is_declared}
-use Rattle.go_model.specs.Types.TypeSets.{MethodData, SetData, TermData}
-use Rattle.go_model.specs.Values.Quests.{Done}
+use Rattle.go_judge.specs.Types.TypeIdentity as identity
+use Rattle.go_judge.specs.Types.TypeIdentity.{Test, and_ask, implied, is_declared}
+use Rattle.go_judge.specs.Types.TypeSets.{MethodData, SetData, TermData}
+use Rattle.go_judge.specs.Quests.{Done}
 use Rattle.go_same.specs.declared.bounds.Bounds.{Bounds}
 
 module _ (b : Bounds) where

@@ -10,11 +10,11 @@ use Rattle.go_term.specs.declared.basic.Basic.TheVariants as B
 use Rattle.go_term.specs.declared.shape.Shape.{Shape}
 use Rattle.go_term.specs.declared.shape.Shape.TheVariants as S
 use Rattle.go_term.specs.declared.term.Term.{Term}
-use Rattle.go_model.specs.Types.Own.{IsOwnElem}
-use Rattle.go_model.specs.Types.TypeSets.{SetAsked, SetData, all_types, elements_set, error_set, is_interface, named_set, plain_all, set_of, term_set}
-use Rattle.go_model.specs.Values.Quests.{Asked, Decided, Lacks, Done}
-use Rattle.go_model.specs.declared.form.Form.{Form}
-use Rattle.go_model.specs.declared.form.Form.TheVariants as F
+use Rattle.go_judge.specs.Types.Own.{IsOwnElem}
+use Rattle.go_judge.specs.Types.TypeSets.{SetAsked, SetData, all_types, elements_set, error_set, is_interface, named_set, plain_all, set_of, term_set}
+use Rattle.go_judge.specs.Quests.{Asked, Decided, Lacks, Done}
+use Rattle.go_judge.specs.declared.form.Form.{Form}
+use Rattle.go_judge.specs.declared.form.Form.TheVariants as F
 use Rattle.go_same.specs.Joins.{IsRaisable, IsRaised}
 use Rattle.go_same.specs.declared.kind.TypeKind.{TypeKind}
 use Rattle.go_same.specs.declared.kind.TypeKind.TheVariants as K

@@ -10,9 +10,9 @@ use Rattle.go_term.specs.declared.shape.Shape.TheVariants as S
 use Rattle.go_term.specs.declared.shape.FuncShape.{FuncShape}
 use Rattle.go_term.specs.declared.shape.ElemShape.{ElemShape}
 use Rattle.go_term.specs.declared.shape.ElemShape.TheVariants as E
-use Rattle.go_model.specs.Types.Heads.{same_head}
-use Rattle.go_model.specs.Types.TypeSets.{home_of, plain, plain_all}
-use Rattle.go_model.specs.Types.Own.{AreOwn}
+use Rattle.go_judge.specs.Types.Heads.{same_head}
+use Rattle.go_judge.specs.Types.TypeSets.{home_of, plain, plain_all}
+use Rattle.go_judge.specs.Types.Own.{AreOwn}
 use Rattle.go_same.specs.declared.layer.Homes.{Homes}
 use Rattle.go_same.specs.declared.layer.Homes.TheVariants.{Each, Unexported}
 

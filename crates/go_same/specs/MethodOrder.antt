@@ -8,9 +8,9 @@ use Rattle.std.specs.declared.cmp.Ordering.{Ordering}
 use Rattle.go_module.specs.Modules.Paths.{same_text}
 use Rattle.go_term.specs.Types.{TypeData}
 use Rattle.go_term.specs.declared.term.Term.{Term}
-use Rattle.go_model.specs.Types.Heads.{same_truth}
-use Rattle.go_model.specs.Types.SetsFit.{has_name, text_before}
-use Rattle.go_model.specs.Types.TypeSets.{MethodData}
+use Rattle.go_judge.specs.Types.Heads.{same_truth}
+use Rattle.go_judge.specs.Types.SetsFit.{has_name, text_before}
+use Rattle.go_judge.specs.Types.TypeSets.{MethodData}
 use Rattle.go_same.specs.Sets.{method_view}
 use Rattle.go_same.specs.declared.set.Method.{Method}
 use Rattle.go_same.specs.declared.set.TypeSet.{TypeSet}

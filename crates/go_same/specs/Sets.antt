@@ -7,9 +7,9 @@ use Rattle.go_term.specs.Shapes.{func_parts}
 use Rattle.go_term.specs.Types.{TypeData, function, made}
 use Rattle.go_term.specs.declared.term.Term.{Term}
 use Rattle.go_term.specs.declared.shape.FuncShape.{FuncShape}
-use Rattle.go_model.specs.Types.Own.{AreOwnFunc}
-use Rattle.go_model.specs.Types.TypeSets.{MethodData, SetData, TermData, plain}
-use Rattle.go_model.specs.Values.Quests.{Asked, Decided, Lacks}
+use Rattle.go_judge.specs.Types.Own.{AreOwnFunc}
+use Rattle.go_judge.specs.Types.TypeSets.{MethodData, SetData, TermData, plain}
+use Rattle.go_judge.specs.Quests.{Asked, Decided, Lacks}
 use Rattle.go_same.specs.declared.set.FoundSet.{FoundSet}
 use Rattle.go_same.specs.declared.set.FoundSet.TheVariants as F
 use Rattle.go_same.specs.declared.set.Method.{Method}

@@ -2,16 +2,16 @@
 ghost use Rattle.std.specs.Prelude.{◌≡◌, false, IfOk, length};
 ghost use Rattle.std.specs.List.{AllByRecursion};
 ghost use Rattle.go_term.specs.Shapes.{shape_tree};
-ghost use Rattle.go_model.specs.Types.Heads.{alike, all_alike};
-ghost use Rattle.go_model.specs.Types.Own.{AreOwn, Keeps};
-ghost use Rattle.go_model.specs.Types.TypeSets.{plain};
+ghost use Rattle.go_judge.specs.Types.Heads.{alike, all_alike};
+ghost use Rattle.go_judge.specs.Types.Own.{AreOwn, Keeps};
+ghost use Rattle.go_judge.specs.Types.TypeSets.{plain};
 ghost use Rattle.go_same.specs.Layers.{lent, plain_types};
 
 use crate::budget::Budget;
 use crate::layer::{Homes, same_layer, types_in};
 use crate::see::see_both;
 use go_base::NoMemory;
-use go_model::Forms;
+use go_judge::Forms;
 use go_term::{Shape, Ty};
 use std::alloc::Global;
 

@@ -1,6 +1,6 @@
 // Basic types and directions by their places.
 ghost use Rattle.std.specs.Prelude.{◌≡◌};
-ghost use Rattle.go_model.specs.Types.Heads.{basic_number, dir_number};
+ghost use Rattle.go_judge.specs.Types.Heads.{basic_number, dir_number};
 
 use go_term::{Basic, Dir};
 

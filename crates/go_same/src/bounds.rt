@@ -1,9 +1,9 @@
 // How far the question whether two types are identical may go (Go specification, "Type identity").
 ghost use Rattle.std.specs.Prelude.{◌≡◌, ◌+◌, IfNone, IfSome, true, false, nat_le, not};
-ghost use Rattle.go_model.specs.Types.Forms.{answer_as};
-ghost use Rattle.go_model.specs.Values.Quests.{Decided};
+ghost use Rattle.go_judge.specs.Types.Forms.{answer_as};
+ghost use Rattle.go_judge.specs.Quests.{Decided};
 
-use go_model::Answer;
+use go_judge::Answer;
 
 /// How many interfaces may still be met within one another, how many names may still be opened, and whether the question
 /// is a premise. Where these run short the answer is No, and in a premise Yes of types that fit.

@@ -5,10 +5,10 @@ ghost use Rattle.std.specs.List.{AllByRecursion};
 ghost use Rattle.std.specs.Option.{option_map};
 ghost use Rattle.go_term.specs.Shapes.{elem_tree, union_tree};
 ghost use Rattle.go_term.specs.Types.{parts_of};
-ghost use Rattle.go_model.specs.Types.Forms.{IsOwnForm, form_as};
-ghost use Rattle.go_model.specs.Types.Own.{IsOwnElem, Keeps};
-ghost use Rattle.go_model.specs.Types.TypeSets as sets;
-ghost use Rattle.go_model.specs.Values.Quests.{run};
+ghost use Rattle.go_judge.specs.Types.Forms.{IsOwnForm, form_as};
+ghost use Rattle.go_judge.specs.Types.Own.{IsOwnElem, Keeps};
+ghost use Rattle.go_judge.specs.Types.TypeSets as sets;
+ghost use Rattle.go_judge.specs.Quests.{run};
 ghost use Rattle.go_same.specs.Collect as spec;
 ghost use Rattle.go_same.specs.Sets.{IsOwnFound, found_as};
 
@@ -19,7 +19,7 @@ use crate::kind::{TypeKind, is_interface, is_param, kind_of};
 use crate::set::{FoundSet, is_set};
 use crate::terms::{error_types, every_comparable, every_type, one_method, one_term};
 use go_base::NoMemory;
-use go_model::{Form, Forms};
+use go_judge::{Form, Forms};
 use go_term::{ElemShape, Ty, UnionShape};
 use std::alloc::Global;
 

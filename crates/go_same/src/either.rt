@@ -3,15 +3,15 @@ ghost use Rattle.std.specs.Prelude.{◌≡◌, ◌++◌, [], ◌∷◌, IfOk, If
 ghost use Rattle.std.specs.List.{AllByRecursion, flat_map};
 ghost use Rattle.std.specs.Option.{option_map};
 ghost use Rattle.go_term.specs.Shapes.{shape_tree};
-ghost use Rattle.go_model.specs.Types.Own.{AreOwn, Keeps};
-ghost use Rattle.go_model.specs.Types.TypeSets.{either_set, either_unions};
+ghost use Rattle.go_judge.specs.Types.Own.{AreOwn, Keeps};
+ghost use Rattle.go_judge.specs.Types.TypeSets.{either_set, either_unions};
 ghost use Rattle.go_same.specs.Collect.{asked_after, asked_joined};
 ghost use Rattle.go_same.specs.Sets.{IsOwnFound, IsOwnSet, found_as, part_view, set_view};
 
 use crate::budget::Budget;
 use crate::set::{FoundSet, TypeSet, UnionPart};
 use go_base::NoMemory;
-use go_model::Forms;
+use go_judge::Forms;
 use go_term::{Shape, Ty};
 use std::alloc::Global;
 

@@ -1,12 +1,12 @@
 // Whether two types are identical: interfaces by their sets, and these by their methods (Go specification, "Type identity").
 ghost use Rattle.std.specs.Prelude.{◌≡◌, false, IfOk, OnOk, map};
 ghost use Rattle.std.specs.List.{AllByRecursion};
-ghost use Rattle.go_model.specs.Types.Forms.{answer_as};
-ghost use Rattle.go_model.specs.Types.Own.{AreOwnFunc, Keeps};
-ghost use Rattle.go_model.specs.Types.TypeIdentity as identity;
-ghost use Rattle.go_model.specs.Types.TypeIdentity.{and_ask, ask_each};
-ghost use Rattle.go_model.specs.Types.TypeSets.{MethodData, plain};
-ghost use Rattle.go_model.specs.Values.Quests.{Decided, Done, run};
+ghost use Rattle.go_judge.specs.Types.Forms.{answer_as};
+ghost use Rattle.go_judge.specs.Types.Own.{AreOwnFunc, Keeps};
+ghost use Rattle.go_judge.specs.Types.TypeIdentity as identity;
+ghost use Rattle.go_judge.specs.Types.TypeIdentity.{and_ask, ask_each};
+ghost use Rattle.go_judge.specs.Types.TypeSets.{MethodData, plain};
+ghost use Rattle.go_judge.specs.Quests.{Decided, Done, run};
 ghost use Rattle.go_same.specs.Bounded as bounded;
 ghost use Rattle.go_same.specs.Kept.{AreKept};
 ghost use Rattle.go_same.specs.Layers.{IsOwnPair, pair_view};
@@ -23,7 +23,7 @@ use crate::short::funcs_by_form;
 use crate::within::same_terms;
 use crate::work::Work;
 use go_base::NoMemory;
-use go_model::{Answer, Forms};
+use go_judge::{Answer, Forms};
 use go_term::{FuncShape, Shape, Ty};
 use std::alloc::Global;
 

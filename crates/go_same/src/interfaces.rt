@@ -1,12 +1,12 @@
 // Whether two interfaces are identical (Go specification, "Type identity").
 ghost use Rattle.std.specs.Prelude.{◌≡◌, false, IfOk, OnOk};
 ghost use Rattle.go_term.specs.Shapes.{shape_tree};
-ghost use Rattle.go_model.specs.Types.Forms.{answer_as};
-ghost use Rattle.go_model.specs.Types.Heads.{alike};
-ghost use Rattle.go_model.specs.Types.Own.{AreOwn, Keeps};
-ghost use Rattle.go_model.specs.Types.TypeIdentity as identity;
-ghost use Rattle.go_model.specs.Types.TypeSets.{plain};
-ghost use Rattle.go_model.specs.Values.Quests.{run};
+ghost use Rattle.go_judge.specs.Types.Forms.{answer_as};
+ghost use Rattle.go_judge.specs.Types.Heads.{alike};
+ghost use Rattle.go_judge.specs.Types.Own.{AreOwn, Keeps};
+ghost use Rattle.go_judge.specs.Types.TypeIdentity as identity;
+ghost use Rattle.go_judge.specs.Types.TypeSets.{plain};
+ghost use Rattle.go_judge.specs.Quests.{run};
 ghost use Rattle.go_same.specs.Bounded as bounded;
 ghost use Rattle.go_same.specs.Collect.{asked_then};
 ghost use Rattle.go_same.specs.Kept.{AreKept};
@@ -21,7 +21,7 @@ use crate::kept::{KeptPair, both_typed, is_kept};
 use crate::set::{FoundSet, TypeSet};
 use crate::work::Work;
 use go_base::NoMemory;
-use go_model::{Answer, Forms};
+use go_judge::{Answer, Forms};
 use go_term::{Shape, Ty};
 use std::alloc::Global;
 

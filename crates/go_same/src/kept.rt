@@ -1,9 +1,9 @@
 // Pairs of interfaces that were found identical within one question (Go specification, "Type identity").
 ghost use Rattle.std.specs.Prelude.{◌≡◌, true, IfOk};
 ghost use Rattle.go_term.specs.Shapes.{shape_tree};
-ghost use Rattle.go_model.specs.Types.Own.{AreOwn, Keeps};
-ghost use Rattle.go_model.specs.Types.TypeSets.{plain};
-ghost use Rattle.go_model.specs.Values.Quests.{Decided, run};
+ghost use Rattle.go_judge.specs.Types.Own.{AreOwn, Keeps};
+ghost use Rattle.go_judge.specs.Types.TypeSets.{plain};
+ghost use Rattle.go_judge.specs.Quests.{Decided, run};
 ghost use Rattle.go_same.specs.Bounded as bounded;
 ghost use Rattle.go_same.specs.Kept.{AreKept};
 ghost use Rattle.go_same.specs.Layers.{IsOwnPair, pair_view};
@@ -13,7 +13,7 @@ use crate::bounds::Bounds;
 use crate::budget::Budget;
 use crate::either::type_of_shape;
 use go_base::NoMemory;
-use go_model::Forms;
+use go_judge::Forms;
 use go_term::{Shape, Ty};
 use std::alloc::Global;
 

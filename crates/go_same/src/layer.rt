@@ -3,8 +3,8 @@ ghost use Rattle.std.specs.Prelude.{◌≡◌, ◌++◌, ◌&&◌, [], ◌∷◌
 ghost use Rattle.std.specs.List.{flat_map, list_all, zip};
 ghost use Rattle.go_term.specs.Shapes.{elem_tree, field_tree, func_parts, union_tree};
 ghost use Rattle.go_term.specs.Types.{parts_of};
-ghost use Rattle.go_model.specs.Types.Heads.{same_name, same_truth};
-ghost use Rattle.go_model.specs.Types.TypeSets.{home_of};
+ghost use Rattle.go_judge.specs.Types.Heads.{same_name, same_truth};
+ghost use Rattle.go_judge.specs.Types.TypeSets.{home_of};
 ghost use Rattle.go_same.specs.Layers as spec;
 
 use crate::basics::{basic_number, dir_number};

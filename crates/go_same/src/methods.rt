@@ -4,7 +4,7 @@ ghost use Rattle.std.specs.List.{AllWithin, HoldsAt};
 ghost use Rattle.std.specs.List.Sorted.{IsPermutation};
 ghost use Rattle.go_term.specs.Types.{TypeData};
 ghost use Rattle.go_term.specs.declared.term.Term.{Term};
-ghost use Rattle.go_model.specs.Types.SetsFit.{by_name, sets_fit};
+ghost use Rattle.go_judge.specs.Types.SetsFit.{by_name, sets_fit};
 ghost use Rattle.go_same.specs.MethodOrder as spec;
 ghost use Rattle.go_same.specs.Sets.{method_view, set_view};
 

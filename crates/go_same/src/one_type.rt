@@ -1,10 +1,10 @@
 // Whether two terms without `~` are of one type (Go specification, "General interfaces", "Type identity").
 ghost use Rattle.std.specs.Prelude.{◌≡◌, ◌+◌, IfOk, OnOk};
-ghost use Rattle.go_model.specs.Types.Forms.{answer_as};
-ghost use Rattle.go_model.specs.Types.Own.{Keeps};
-ghost use Rattle.go_model.specs.Types.TypeIdentity.{and_ask};
-ghost use Rattle.go_model.specs.Types.TypeSets.{plain};
-ghost use Rattle.go_model.specs.Values.Quests.{run};
+ghost use Rattle.go_judge.specs.Types.Forms.{answer_as};
+ghost use Rattle.go_judge.specs.Types.Own.{Keeps};
+ghost use Rattle.go_judge.specs.Types.TypeIdentity.{and_ask};
+ghost use Rattle.go_judge.specs.Types.TypeSets.{plain};
+ghost use Rattle.go_judge.specs.Quests.{run};
 ghost use Rattle.go_same.specs.Bounded as bounded;
 ghost use Rattle.go_same.specs.Kept.{AreKept};
 
@@ -15,7 +15,7 @@ use crate::set::UnionPart;
 use crate::within::{has_underlying, same_behind};
 use crate::work::Work;
 use go_base::NoMemory;
-use go_model::{Answer, Form, Forms};
+use go_judge::{Answer, Form, Forms};
 use go_term::Ty;
 use std::alloc::Global;
 

@@ -2,9 +2,9 @@
 ghost use Rattle.std.specs.Prelude.{◌≡◌, ◌++◌, true, false, IfOk, length, map};
 ghost use Rattle.std.specs.List.{AllByRecursion};
 ghost use Rattle.go_term.specs.Shapes.{shape_tree};
-ghost use Rattle.go_model.specs.Types.Own.{AreOwn, AreOwnFunc, Keeps};
-ghost use Rattle.go_model.specs.Types.TypeIdentity.{all_fit, fit, interfaces_in, interfaces_in_all};
-ghost use Rattle.go_model.specs.Types.TypeSets.{plain};
+ghost use Rattle.go_judge.specs.Types.Own.{AreOwn, AreOwnFunc, Keeps};
+ghost use Rattle.go_judge.specs.Types.TypeIdentity.{all_fit, fit, interfaces_in, interfaces_in_all};
+ghost use Rattle.go_judge.specs.Types.TypeSets.{plain};
 ghost use Rattle.go_same.specs.Layers.{IsOwnPair, lent, pair_view, plain_types};
 ghost use Rattle.go_same.specs.Layers as layers;
 ghost use Rattle.go_same.specs.Sets.{func_type};
@@ -13,7 +13,7 @@ use crate::budget::Budget;
 use crate::layer::{Homes, both_interfaces, same_func, same_layer, types_in, types_in_func};
 use crate::see::see_both;
 use go_base::NoMemory;
-use go_model::Forms;
+use go_judge::Forms;
 use go_term::{FuncShape, Shape, Ty};
 use std::alloc::Global;
 

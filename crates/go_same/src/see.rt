@@ -1,13 +1,13 @@
 // The layers of two types, and whether one is declared.
 ghost use Rattle.std.specs.Prelude.{◌≡◌, false, IfOk};
 ghost use Rattle.go_term.specs.Shapes.{shape_tree};
-ghost use Rattle.go_model.specs.Types.Own.{AreOwn, Keeps};
-ghost use Rattle.go_model.specs.Types.TypeIdentity.{is_declared};
-ghost use Rattle.go_model.specs.Types.TypeSets.{plain};
+ghost use Rattle.go_judge.specs.Types.Own.{AreOwn, Keeps};
+ghost use Rattle.go_judge.specs.Types.TypeIdentity.{is_declared};
+ghost use Rattle.go_judge.specs.Types.TypeSets.{plain};
 
 use crate::kind::is_name;
 use go_base::NoMemory;
-use go_model::Forms;
+use go_judge::Forms;
 use go_term::{Shape, Ty};
 use std::alloc::Global;
 

@@ -1,17 +1,17 @@
 // What is answered of two types where names run short (Go specification, "Type identity").
 ghost use Rattle.std.specs.Prelude.{◌≡◌, IfOk};
-ghost use Rattle.go_model.specs.Types.Forms.{answer_as};
-ghost use Rattle.go_model.specs.Types.Own.{AreOwnFunc, Keeps};
-ghost use Rattle.go_model.specs.Types.TypeIdentity.{by_form};
-ghost use Rattle.go_model.specs.Types.TypeSets.{plain};
-ghost use Rattle.go_model.specs.Values.Quests.{run};
+ghost use Rattle.go_judge.specs.Types.Forms.{answer_as};
+ghost use Rattle.go_judge.specs.Types.Own.{AreOwnFunc, Keeps};
+ghost use Rattle.go_judge.specs.Types.TypeIdentity.{by_form};
+ghost use Rattle.go_judge.specs.Types.TypeSets.{plain};
+ghost use Rattle.go_judge.specs.Quests.{run};
 ghost use Rattle.go_same.specs.Sets.{func_type};
 
 use crate::bounds::{Bounds, answer};
 use crate::budget::Budget;
 use crate::outline::{outline, outline_funcs};
 use go_base::NoMemory;
-use go_model::{Answer, Forms};
+use go_judge::{Answer, Forms};
 use go_term::{FuncShape, Ty};
 use std::alloc::Global;
 

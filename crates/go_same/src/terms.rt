@@ -4,14 +4,14 @@ ghost use Rattle.std.specs.List.{AllByRecursion};
 ghost use Rattle.go_term.specs.Shapes.{func_parts};
 ghost use Rattle.go_term.specs.Types.{basic_type};
 ghost use Rattle.go_term.specs.declared.basic.Basic.TheVariants as B;
-ghost use Rattle.go_model.specs.Types.Own.{AreOwnFunc, Keeps};
-ghost use Rattle.go_model.specs.Types.TypeSets.{all_types, error_set, home_of, method_set, plain, plain_all, term_set};
-ghost use Rattle.go_model.specs.Values.Quests.{Decided};
+ghost use Rattle.go_judge.specs.Types.Own.{AreOwnFunc, Keeps};
+ghost use Rattle.go_judge.specs.Types.TypeSets.{all_types, error_set, home_of, method_set, plain, plain_all, term_set};
+ghost use Rattle.go_judge.specs.Quests.{Decided};
 ghost use Rattle.go_same.specs.Sets.{IsOwnFound, IsOwnSet, found_as, set_view};
 
 use crate::set::{FoundSet, Method, TypeSet, UnionPart};
 use go_base::{Name, NoMemory};
-use go_model::Forms;
+use go_judge::Forms;
 use go_names::is_exported;
 use go_term::{Basic, FuncShape, Shape, Ty};
 use std::alloc::Global;

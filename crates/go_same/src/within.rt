@@ -1,11 +1,11 @@
 // Whether the terms of two type sets are the same (Go specification, "General interfaces", "Type identity").
 ghost use Rattle.std.specs.Prelude.{◌≡◌, IfOk, OnOk, map};
 ghost use Rattle.std.specs.List.{AllByRecursion};
-ghost use Rattle.go_model.specs.Types.Forms.{answer_as};
-ghost use Rattle.go_model.specs.Types.Own.{Keeps};
-ghost use Rattle.go_model.specs.Types.TypeIdentity.{ask_any, ask_each};
-ghost use Rattle.go_model.specs.Types.TypeSets.{plain};
-ghost use Rattle.go_model.specs.Values.Quests.{run};
+ghost use Rattle.go_judge.specs.Types.Forms.{answer_as};
+ghost use Rattle.go_judge.specs.Types.Own.{Keeps};
+ghost use Rattle.go_judge.specs.Types.TypeIdentity.{ask_any, ask_each};
+ghost use Rattle.go_judge.specs.Types.TypeSets.{plain};
+ghost use Rattle.go_judge.specs.Quests.{run};
 ghost use Rattle.go_same.specs.Bounded as bounded;
 ghost use Rattle.go_same.specs.Kept.{AreKept};
 ghost use Rattle.go_same.specs.Sets.{IsOwnSet, part_view, set_view};
@@ -18,7 +18,7 @@ use crate::set::{TypeSet, UnionPart};
 use crate::short::types_by_form;
 use crate::work::Work;
 use go_base::NoMemory;
-use go_model::{Answer, Form, Forms};
+use go_judge::{Answer, Form, Forms};
 use go_term::Ty;
 use std::alloc::Global;
 

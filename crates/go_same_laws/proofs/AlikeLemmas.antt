@@ -4,9 +4,9 @@ use Rattle.std.proofs.Common.{◌≡◌, ℕ, Bool, true, false, ◌&&◌, if◌
 use Rattle.std.proofs.lemmas.Cmp.{nat_eq_equiv, nat_list_eq_equiv}
 use Rattle.std.proofs.lemmas.List.{map-append}
 use Rattle.go_term.specs.Types.{Head, basic, pointer, slice, array, map_type, channel, function, struct_type, interface_type, tuple, named, param, bound, list, field, method, union, union_term, FieldHead, MethodHead, TypeData, Parts, made, no_parts, more_parts}
-use Rattle.go_model.specs.Types.Heads.{alike, all_alike, basic_number, dir_number, same_field, same_head, same_method, same_name, same_truth}
-use Rattle.go_model.specs.Types.TypeIdentity.{all_fit, are_interfaces, fit, interfaces_in, interfaces_in_all}
-use Rattle.go_model.specs.Types.TypeSets.{home_of}
+use Rattle.go_judge.specs.Types.Heads.{alike, all_alike, basic_number, dir_number, same_field, same_head, same_method, same_name, same_truth}
+use Rattle.go_judge.specs.Types.TypeIdentity.{all_fit, are_interfaces, fit, interfaces_in, interfaces_in_all}
+use Rattle.go_judge.specs.Types.TypeSets.{home_of}
 
 -- HEADS
 

@@ -3,12 +3,12 @@ use Rattle.std.proofs.Common.{◌≡◌, ℕ, zero, suc, ◌+◌, ◌-◌, ◌�
 use Rattle.std.specs.Prelude.{nat_le}
 use Rattle.std.specs.List.{AllByRecursion}
 use Rattle.go_term.specs.Types.{TypeData}
-use Rattle.go_model.specs.Outcomes.Walk.{Headers}
-use Rattle.go_model.specs.Types.Heads.{alike}
-use Rattle.go_model.specs.Types.SetsFit.{is_all}
-use Rattle.go_model.specs.Types.TypeIdentity.{Test, ask_each, fit, interfaces_in, same, same_interfaces, same_methods, same_sets}
-use Rattle.go_model.specs.Types.TypeSets.{MethodData, SetData, set_of}
-use Rattle.go_model.specs.Values.Quests.{Decided, run}
+use Rattle.go_judge.specs.Headers.{Headers}
+use Rattle.go_judge.specs.Types.Heads.{alike}
+use Rattle.go_judge.specs.Types.SetsFit.{is_all}
+use Rattle.go_judge.specs.Types.TypeIdentity.{Test, ask_each, fit, interfaces_in, same, same_interfaces, same_methods, same_sets}
+use Rattle.go_judge.specs.Types.TypeSets.{MethodData, SetData, set_of}
+use Rattle.go_judge.specs.Quests.{Decided, run}
 use Rattle.go_same_laws.specs.Laws.{HasNoUnions}
 use Rattle.go_same_laws.proofs.AlikeLemmas.{fit_itself}
 use Rattle.go_same_laws.proofs.EveryLemmas.{every_with}

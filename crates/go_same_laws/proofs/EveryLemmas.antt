@@ -1,8 +1,8 @@
 -- What holds of each element of lists that are joined, kept in part, put in order or paired.
 use Rattle.std.proofs.Common.{◌≡◌, Bool, true, false, cond, List, [], ◌∷◌, ◌++◌, map, filter, refl, sym, ◌∙◌}
 use Rattle.std.specs.List.{AllByRecursion, flat_map}
-use Rattle.go_model.specs.Types.SetsFit.{by_name, is_before, put_by_name}
-use Rattle.go_model.specs.Types.TypeSets.{MethodData}
+use Rattle.go_judge.specs.Types.SetsFit.{by_name, is_before, put_by_name}
+use Rattle.go_judge.specs.Types.TypeSets.{MethodData}
 
 module _ {X : Type 0} (P : X → Type 0) where
   pub every_both : (xs ys : List X) → AllByRecursion P xs → AllByRecursion P ys → AllByRecursion P (xs ++ ys)

@@ -6,12 +6,12 @@ use Rattle.std.proofs.lemmas.Bool.Decides.{nat_tests}
 use Rattle.std.proofs.lemmas.Cmp.{nat_list_eq_equiv}
 use Rattle.go_module.specs.Modules.Paths.{same_text}
 use Rattle.go_term.specs.Types.{TypeData}
-use Rattle.go_model.specs.Outcomes.Walk.{Headers}
-use Rattle.go_model.specs.Types.Heads.{same_truth}
-use Rattle.go_model.specs.Types.SetsFit.{has_name, has_names_of, is_all, is_all_by, method_pairs, sets_fit}
-use Rattle.go_model.specs.Types.TypeIdentity.{Test, and_ask, ask_each, fit, methods_fit, same_methods, same_sets, terms_lie}
-use Rattle.go_model.specs.Types.TypeSets.{MethodData, SetData, TermData}
-use Rattle.go_model.specs.Values.Quests.{Decided, Done}
+use Rattle.go_judge.specs.Headers.{Headers}
+use Rattle.go_judge.specs.Types.Heads.{same_truth}
+use Rattle.go_judge.specs.Types.SetsFit.{has_name, has_names_of, is_all, is_all_by, method_pairs, sets_fit}
+use Rattle.go_judge.specs.Types.TypeIdentity.{Test, and_ask, ask_each, fit, methods_fit, same_methods, same_sets, terms_lie}
+use Rattle.go_judge.specs.Types.TypeSets.{MethodData, SetData, TermData}
+use Rattle.go_judge.specs.Quests.{Decided, Done}
 use Rattle.go_same_laws.proofs.EveryLemmas.{every_so, every_with}
 use Rattle.go_same_laws.proofs.NormLemmas.{both_true, fit_chain, true_both, truths}
 use Rattle.go_same_laws.proofs.SwapLemmas.{if_yes, of_pairs, to_pairs, yes_if}

@@ -2,12 +2,12 @@
 use Rattle.std.proofs.Common.{◌≡◌, ℕ, suc, ◌+◌, Bool, true, false, Option, Some, None, refl, sym, subst, ◌∙◌}
 use Rattle.go_term.specs.declared.basic.Basic.TheVariants as B
 use Rattle.go_term.specs.Types.{TypeData, basic_type}
-use Rattle.go_model.specs.Outcomes.Records.{HeaderData, alias}
-use Rattle.go_model.specs.Outcomes.Walk.{Headers}
-use Rattle.go_model.specs.Types.TypeIdentity.{identical, most_levels, most_opened, same}
-use Rattle.go_model.specs.Types.TypeSets.{plain}
-use Rattle.go_model.specs.Values.Quests.{Decided, IsPart, Stays, run}
-use Rattle.go_model.proofs.QuestLemmas.{run-stays}
+use Rattle.go_judge.specs.Records.{HeaderData, alias}
+use Rattle.go_judge.specs.Headers.{Headers}
+use Rattle.go_judge.specs.Types.TypeIdentity.{identical, most_levels, most_opened, same}
+use Rattle.go_judge.specs.Types.TypeSets.{plain}
+use Rattle.go_judge.specs.Quests.{Decided, IsPart, Stays, run}
+use Rattle.go_judge.proofs.QuestLemmas.{run-stays}
 use Rattle.go_same_laws.specs.Laws.{Chains, ChainsThrough}
 use Rattle.go_same_laws.proofs.ChainLemmas.{same_chain}
 use Rattle.go_same_laws.proofs.NormLemmas.{plain_twice}

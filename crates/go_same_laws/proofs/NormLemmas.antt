@@ -10,9 +10,9 @@ use Rattle.go_term.specs.declared.basic.Basic.TheVariants as B
 use Rattle.go_term.specs.declared.term.Dir.{Dir}
 use Rattle.go_term.specs.declared.term.Dir.TheVariants as D
 use Rattle.go_term.specs.Types.{Head, basic, pointer, slice, array, map_type, channel, function, struct_type, interface_type, tuple, named, param, bound, list, field, method, union, union_term, FieldHead, MethodHead, TypeData, Parts, made, no_parts, more_parts}
-use Rattle.go_model.specs.Types.Heads.{alike, all_alike, basic_number, dir_number, same_field, same_head, same_method, same_name, same_truth}
-use Rattle.go_model.specs.Types.TypeIdentity.{all_fit, are_interfaces, fit}
-use Rattle.go_model.specs.Types.TypeSets.{home_of, no_object, plain, plain_all, without_object}
+use Rattle.go_judge.specs.Types.Heads.{alike, all_alike, basic_number, dir_number, same_field, same_head, same_method, same_name, same_truth}
+use Rattle.go_judge.specs.Types.TypeIdentity.{all_fit, are_interfaces, fit}
+use Rattle.go_judge.specs.Types.TypeSets.{home_of, no_object, plain, plain_all, without_object}
 use Rattle.go_same_laws.proofs.AlikeLemmas.{head_itself, near}
 
 -- TESTS

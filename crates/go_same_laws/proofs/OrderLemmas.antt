@@ -4,13 +4,13 @@ use Rattle.std.proofs.Common.{◌≡◌, ℕ, ◌+◌, ◌-◌, ◌≤◌, ◌&&
 use Rattle.std.specs.Prelude.{nat_le}
 use Rattle.std.proofs.lemmas.Bool.Decides.{nat_tests}
 use Rattle.go_term.specs.Types.{TypeData}
-use Rattle.go_model.specs.Outcomes.Walk.{Headers}
-use Rattle.go_model.specs.Types.Forms.{found_in}
-use Rattle.go_model.specs.Types.Heads.{alike}
-use Rattle.go_model.specs.Types.TypeIdentity.{Test, and_ask, ask_any, behind, both_found, by_form, fit, has_underlying, is_declared, lies_in, lies_within, lies_within_by, same_found, same_term, same_underlying}
-use Rattle.go_model.specs.Types.TypeSets.{TermData, plain}
-use Rattle.go_model.specs.Types.UnderlyingType.{under}
-use Rattle.go_model.specs.Values.Quests.{Decided, Done}
+use Rattle.go_judge.specs.Headers.{Headers}
+use Rattle.go_judge.specs.Types.Forms.{found_in}
+use Rattle.go_judge.specs.Types.Heads.{alike}
+use Rattle.go_judge.specs.Types.TypeIdentity.{Test, and_ask, ask_any, behind, both_found, by_form, fit, has_underlying, is_declared, lies_in, lies_within, lies_within_by, same_found, same_term, same_underlying}
+use Rattle.go_judge.specs.Types.TypeSets.{TermData, plain}
+use Rattle.go_judge.specs.Types.UnderlyingType.{under}
+use Rattle.go_judge.specs.Quests.{Decided, Done}
 use Rattle.go_same_laws.proofs.EveryLemmas.{every_so}
 use Rattle.go_same_laws.proofs.FitLemmas.{done_yes, le_is}
 use Rattle.go_same_laws.proofs.NormLemmas.{both_true, true_both}

@@ -2,7 +2,7 @@
 use Rattle.std.proofs.Common.{◌≡◌, Bool, true, false, ◌&&◌, if◌then◌else◌, List, [], ◌∷◌, refl, sym, subst, ◌∙◌}
 use Rattle.std.specs.List.{AllByRecursion}
 use Rattle.go_term.specs.Types.{Head, TypeData, Parts, made, no_parts, more_parts}
-use Rattle.go_model.specs.Types.TypeIdentity.{all_fit, are_interfaces, fit, interfaces_in, interfaces_in_all}
+use Rattle.go_judge.specs.Types.TypeIdentity.{all_fit, are_interfaces, fit, interfaces_in, interfaces_in_all}
 use Rattle.go_same_laws.proofs.EveryLemmas.{every_both, every_first, every_second}
 use Rattle.go_same_laws.proofs.NormLemmas.{ArePlain, IsPlain, are_literals, both_true, first_plain, fits, is_literal, parts_plain, rest_plain}
 

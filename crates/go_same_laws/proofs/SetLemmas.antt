@@ -2,11 +2,11 @@
 use Rattle.std.proofs.Common.{◌≡◌, ℕ, zero, suc, ◌+◌, Bool, true, false, if◌then◌else◌, Option, Some, None, refl, sym, ap, subst, ◌∙◌, arith}
 use Rattle.std.specs.Option.{option_map}
 use Rattle.go_term.specs.Types.{Head, basic, interface_type, named, param, method, union, union_term, TypeData, Parts, made, no_parts, more_parts}
-use Rattle.go_model.specs.Outcomes.Walk.{Headers}
-use Rattle.go_model.specs.Types.Forms.{found_in}
-use Rattle.go_model.specs.Types.TypeSets.{SetAsked, SetData, both_sets, either_set, element_set, elements_set, is_interface, joined, joined_to, named_set, named_set_by, opened_set, plain, plain_term_by, set_of, term_set, tilde_set, type_set, union_set, union_term_set}
-use Rattle.go_model.specs.Types.UnderlyingType.{under}
-use Rattle.go_model.specs.Values.Quests.{Decided, Done, run, then_ask}
+use Rattle.go_judge.specs.Headers.{Headers}
+use Rattle.go_judge.specs.Types.Forms.{found_in}
+use Rattle.go_judge.specs.Types.TypeSets.{SetAsked, SetData, both_sets, either_set, element_set, elements_set, is_interface, joined, joined_to, named_set, named_set_by, opened_set, plain, plain_term_by, set_of, term_set, tilde_set, type_set, union_set, union_term_set}
+use Rattle.go_judge.specs.Types.UnderlyingType.{under}
+use Rattle.go_judge.specs.Quests.{Decided, Done, run, then_ask}
 use Rattle.go_same_laws.proofs.YesLemmas.{hence, thence}
 
 pub decided_is : (a b : SetData) → Decided (Some a) ≡ Decided (Some b) → a ≡ b

@@ -3,11 +3,11 @@
 use Rattle.std.proofs.Common.{◌≡◌, ℕ, zero, suc, ◌+◌, ◌-◌, Bool, true, false, Option, Some, None, List, not, refl, sym, subst, ◌∙◌, arith}
 use Rattle.std.specs.List.{flat_map}
 use Rattle.go_term.specs.Types.{TypeData}
-use Rattle.go_model.specs.Outcomes.Walk.{Headers}
-use Rattle.go_model.specs.Types.Heads.{alike}
-use Rattle.go_model.specs.Types.TypeIdentity.{Test, ask_each, fit, implied, interfaces_in, lies_in, same, same_as, same_as_set, same_interfaces, same_methods, same_sets, terms_lie}
-use Rattle.go_model.specs.Types.TypeSets.{SetData, TermData, set_of}
-use Rattle.go_model.specs.Values.Quests.{Decided, run, then_ask}
+use Rattle.go_judge.specs.Headers.{Headers}
+use Rattle.go_judge.specs.Types.Heads.{alike}
+use Rattle.go_judge.specs.Types.TypeIdentity.{Test, ask_each, fit, implied, interfaces_in, lies_in, same, same_as, same_as_set, same_interfaces, same_methods, same_sets, terms_lie}
+use Rattle.go_judge.specs.Types.TypeSets.{SetData, TermData, set_of}
+use Rattle.go_judge.specs.Quests.{Decided, run, then_ask}
 use Rattle.go_same_laws.proofs.EveryLemmas.{every_so}
 use Rattle.go_same_laws.proofs.FitLemmas.{of_sets, pairs_so, to_sets, units}
 use Rattle.go_same_laws.proofs.OrderLemmas.{Asking, Carries, Order, TellsFit, behind_carries, fits_form, form_fits, lies_in_carries, order_turned, room}

@@ -5,12 +5,12 @@ use Rattle.std.specs.Prelude.{nat_le}
 use Rattle.std.specs.List.{AllByRecursion}
 use Rattle.std.proofs.lemmas.Cmp.{nat_list_eq_equiv}
 use Rattle.go_term.specs.Types.{TypeData}
-use Rattle.go_model.specs.Outcomes.Walk.{Headers}
-use Rattle.go_model.specs.Types.Heads.{alike, same_truth}
-use Rattle.go_model.specs.Types.SetsFit.{by_name, has_name, has_names_of, is_all, method_pairs, sets_fit}
-use Rattle.go_model.specs.Types.TypeIdentity.{Test, and_ask, ask_each, behind, fit, interfaces_in, methods_fit, same, same_as, same_as_set, same_interfaces, same_methods, same_methods_all, same_sets, terms_lie}
-use Rattle.go_model.specs.Types.TypeSets.{MethodData, SetData, set_of}
-use Rattle.go_model.specs.Values.Quests.{Decided, Done, run, then_ask}
+use Rattle.go_judge.specs.Headers.{Headers}
+use Rattle.go_judge.specs.Types.Heads.{alike, same_truth}
+use Rattle.go_judge.specs.Types.SetsFit.{by_name, has_name, has_names_of, is_all, method_pairs, sets_fit}
+use Rattle.go_judge.specs.Types.TypeIdentity.{Test, and_ask, ask_each, behind, fit, interfaces_in, methods_fit, same, same_as, same_as_set, same_interfaces, same_methods, same_methods_all, same_sets, terms_lie}
+use Rattle.go_judge.specs.Types.TypeSets.{MethodData, SetData, set_of}
+use Rattle.go_judge.specs.Quests.{Decided, Done, run, then_ask}
 use Rattle.go_same_laws.proofs.AlikeLemmas.{alike_itself, alike_swap, fit_itself, fit_swap, interfaces_swap, swapped, truth_swap}
 use Rattle.go_same_laws.proofs.EveryLemmas.{every_kept, every_of_flat, every_of_map, every_of_names, every_so, every_swap, every_to_flat, every_to_keep, every_to_map, every_to_names}
 use Rattle.go_same_laws.proofs.PlaceLemmas.{IsTwice, twice_places}

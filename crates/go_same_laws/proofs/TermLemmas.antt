@@ -3,11 +3,11 @@
 use Rattle.std.proofs.Common.{◌≡◌, ℕ, ◌+◌, ◌-◌, ◌≤◌, Bool, true, false, if◌then◌else◌, Option, Some, None, ◌⊎◌, inl, inr, refl, sym, ap, subst, ◌∙◌, arith}
 use Rattle.std.specs.Prelude.{nat_le}
 use Rattle.go_term.specs.Types.{TypeData}
-use Rattle.go_model.specs.Outcomes.Walk.{Headers}
-use Rattle.go_model.specs.Types.Heads.{alike}
-use Rattle.go_model.specs.Types.TypeIdentity.{Test, and_ask, behind, both_found, by_form, fit, has_underlying, is_declared, lies_within_by, same_found, same_term, same_underlying}
-use Rattle.go_model.specs.Types.TypeSets.{plain}
-use Rattle.go_model.specs.Values.Quests.{Done, run}
+use Rattle.go_judge.specs.Headers.{Headers}
+use Rattle.go_judge.specs.Types.Heads.{alike}
+use Rattle.go_judge.specs.Types.TypeIdentity.{Test, and_ask, behind, both_found, by_form, fit, has_underlying, is_declared, lies_within_by, same_found, same_term, same_underlying}
+use Rattle.go_judge.specs.Types.TypeSets.{plain}
+use Rattle.go_judge.specs.Quests.{Done, run}
 use Rattle.go_same_laws.proofs.AlikeLemmas.{fit_itself}
 use Rattle.go_same_laws.proofs.FitLemmas.{is_le, le_is}
 use Rattle.go_same_laws.proofs.NormLemmas.{IsPlain, plain_is, plain_twice}

@@ -2,11 +2,11 @@
 -- element of a list a test is Yes.
 use Rattle.std.proofs.Common.{◌≡◌, ℕ, Bool, true, false, if◌then◌else◌, Some, List, [], ◌∷◌, ◌⊎◌, inl, inr, refl, sym, ap, ◌∙◌}
 use Rattle.std.specs.List.{AllByRecursion}
-use Rattle.go_model.specs.Outcomes.Records.{HeaderData}
-use Rattle.go_model.specs.Outcomes.Walk.{Headers}
-use Rattle.go_model.specs.Types.TypeIdentity.{Test, ask_any, implied, or_ask}
-use Rattle.go_model.specs.Values.Quests.{Decided, Quest, Done, Need, run, then_ask}
-use Rattle.go_model.proofs.QuestLemmas.{run-Some}
+use Rattle.go_judge.specs.Records.{HeaderData}
+use Rattle.go_judge.specs.Headers.{Headers}
+use Rattle.go_judge.specs.Types.TypeIdentity.{Test, ask_any, implied, or_ask}
+use Rattle.go_judge.specs.Quests.{Decided, Quest, Done, Need, run, then_ask}
+use Rattle.go_judge.proofs.QuestLemmas.{run-Some}
 use Rattle.go_same_laws.proofs.YesLemmas.{IsYes, after, hence, not_no, run-then, thence}
 
 -- SOME ELEMENT

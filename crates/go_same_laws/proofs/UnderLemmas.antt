@@ -4,12 +4,12 @@ use Rattle.std.proofs.Common.{◌≡◌, ℕ, suc, ◌^◌, Bool, true, false, O
 use Rattle.std.specs.Prelude.{is_some}
 use Rattle.go_term.specs.Types.{Head, basic, field, method, named, param, TypeData, Parts, made}
 use Rattle.go_term.specs.declared.basic.Basic.TheVariants as B
-use Rattle.go_model.specs.Outcomes.Walk.{Headers}
-use Rattle.go_model.specs.Types.Forms.{found_in}
-use Rattle.go_model.specs.Types.TypeIdentity.{both_found, fit, has_underlying, is_declared, same_found, same_underlying}
-use Rattle.go_model.specs.Types.TypeSets.{home_of, plain}
-use Rattle.go_model.specs.Types.UnderlyingType.{Origin, Reach, Reaches, declared_by, error_interface, literal_of, most_steps, step_by, under, under_from}
-use Rattle.go_model.specs.Values.Quests.{Decided, Done, run}
+use Rattle.go_judge.specs.Headers.{Headers}
+use Rattle.go_judge.specs.Types.Forms.{found_in}
+use Rattle.go_judge.specs.Types.TypeIdentity.{both_found, fit, has_underlying, is_declared, same_found, same_underlying}
+use Rattle.go_judge.specs.Types.TypeSets.{home_of, plain}
+use Rattle.go_judge.specs.Types.UnderlyingType.{Origin, Reach, Reaches, declared_by, error_interface, literal_of, most_steps, step_by, under, under_from}
+use Rattle.go_judge.specs.Quests.{Decided, Done, run}
 use Rattle.go_same_laws.proofs.NormLemmas.{IsPlain, fit_seen, seen}
 use Rattle.go_same_laws.proofs.OrderLemmas.{Asking}
 use Rattle.go_same_laws.proofs.TotalLemmas.{IsTotal, decided, then_is}

@@ -2,10 +2,10 @@
 -- first lie in the unions of the third.
 use Rattle.std.proofs.Common.{◌≡◌, ℕ, ◌+◌, Bool, true, false, List, [], ◌∷◌, ◌⊎◌, inl, inr, refl, sym, ◌∙◌, arith}
 use Rattle.std.specs.List.{AllByRecursion, flat_map}
-use Rattle.go_model.specs.Outcomes.Walk.{Headers}
-use Rattle.go_model.specs.Types.SetsFit.{is_all, is_all_by}
-use Rattle.go_model.specs.Types.TypeIdentity.{Test, ask_any, ask_each, implied, lies_in, lies_within, terms_lie}
-use Rattle.go_model.specs.Types.TypeSets.{SetData, TermData}
+use Rattle.go_judge.specs.Headers.{Headers}
+use Rattle.go_judge.specs.Types.SetsFit.{is_all, is_all_by}
+use Rattle.go_judge.specs.Types.TypeIdentity.{Test, ask_any, ask_each, implied, lies_in, lies_within, terms_lie}
+use Rattle.go_judge.specs.Types.TypeSets.{SetData, TermData}
 use Rattle.go_same_laws.proofs.EveryLemmas.{every_of_flat, every_so, every_to_flat, every_with}
 use Rattle.go_same_laws.proofs.FitLemmas.{no_terms}
 use Rattle.go_same_laws.proofs.OrderLemmas.{Asking, lies_in_carries}

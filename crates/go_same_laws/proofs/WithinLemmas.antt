@@ -6,11 +6,11 @@ use Rattle.std.specs.List.{AllByRecursion}
 use Rattle.go_term.specs.declared.basic.Basic.{Basic}
 use Rattle.go_term.specs.declared.basic.Basic.TheVariants as B
 use Rattle.go_term.specs.Types.{Head, basic, function, interface_type, named, param, method, union, union_term, TypeData, Parts, made, no_parts, more_parts}
-use Rattle.go_model.specs.Outcomes.Walk.{Headers}
-use Rattle.go_model.specs.Types.Forms.{found_in}
-use Rattle.go_model.specs.Types.TypeSets.{MethodData, SetAsked, SetData, TermData, all_types, basic_set, both_sets, either_set, element_set, elements_set, is_interface, joined, method_set, named_set, named_set_by, opened_method, opened_set, opened_term, plain, plain_term_by, set_of, term_set, tilde_set, type_set, union_set, union_term_set}
-use Rattle.go_model.specs.Types.UnderlyingType.{under}
-use Rattle.go_model.specs.Values.Quests.{Decided, Done, then_ask}
+use Rattle.go_judge.specs.Headers.{Headers}
+use Rattle.go_judge.specs.Types.Forms.{found_in}
+use Rattle.go_judge.specs.Types.TypeSets.{MethodData, SetAsked, SetData, TermData, all_types, basic_set, both_sets, either_set, element_set, elements_set, is_interface, joined, method_set, named_set, named_set_by, opened_method, opened_set, opened_term, plain, plain_term_by, set_of, term_set, tilde_set, type_set, union_set, union_term_set}
+use Rattle.go_judge.specs.Types.UnderlyingType.{under}
+use Rattle.go_judge.specs.Quests.{Decided, Done, then_ask}
 use Rattle.go_same_laws.proofs.EveryLemmas.{every_both, every_so, every_to_flat, every_to_map}
 use Rattle.go_same_laws.proofs.NormLemmas.{ArePlain, IsPlain, first_plain, parts_plain, plain_twice, rest_plain}
 use Rattle.go_same_laws.proofs.SetLemmas.{Finds, both_found, decided_is, none_is, option_found}

@@ -1,9 +1,9 @@
 -- Questions that come to Yes over the headers that are known: one after another, and of each element of a list.
 use Rattle.std.proofs.Common.{◌≡◌, ℕ, Bool, true, false, if◌then◌else◌, Option, Some, None, List, [], ◌∷◌, refl, sym, ap, ◌∙◌}
 use Rattle.std.specs.List.{AllByRecursion}
-use Rattle.go_model.specs.Outcomes.Walk.{Headers}
-use Rattle.go_model.specs.Types.TypeIdentity.{Test, and_ask, ask_each}
-use Rattle.go_model.specs.Values.Quests.{Asked, Decided, Lacks, Quest, Done, Need, run, then_ask}
+use Rattle.go_judge.specs.Headers.{Headers}
+use Rattle.go_judge.specs.Types.TypeIdentity.{Test, and_ask, ask_each}
+use Rattle.go_judge.specs.Quests.{Asked, Decided, Lacks, Quest, Done, Need, run, then_ask}
 
 -- what a question and then another come to, by what the first comes to
 abbrev pub after : {A B : Type 0} → Asked A → (A → Asked B) → Asked B

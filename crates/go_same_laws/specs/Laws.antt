@@ -4,11 +4,11 @@
 use Rattle.std.specs.Prelude.{◌≡◌, ℕ, zero, suc, ◌+◌, Bool, true, false, Some}
 use Rattle.std.specs.List.{AllByRecursion}
 use Rattle.go_term.specs.Types.{TypeData}
-use Rattle.go_model.specs.Outcomes.Walk.{Headers}
-use Rattle.go_model.specs.Types.SetsFit.{is_all}
-use Rattle.go_model.specs.Types.TypeIdentity.{identical, interfaces_in, most_levels, most_opened, same}
-use Rattle.go_model.specs.Types.TypeSets.{SetData, plain, set_of}
-use Rattle.go_model.specs.Values.Quests.{Decided, run}
+use Rattle.go_judge.specs.Headers.{Headers}
+use Rattle.go_judge.specs.Types.SetsFit.{is_all}
+use Rattle.go_judge.specs.Types.TypeIdentity.{identical, interfaces_in, most_levels, most_opened, same}
+use Rattle.go_judge.specs.Types.TypeSets.{SetData, plain, set_of}
+use Rattle.go_judge.specs.Quests.{Decided, run}
 
 module _ (headers : Headers) where
   -- where a first type is identical to a second and that to a third, r, which says whether the first is identical to the third

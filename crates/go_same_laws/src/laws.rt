@@ -1,10 +1,10 @@
 // Laws of type identity, which hold of all types over all headers: each is the contract of a function that does nothing.
 ghost use Rattle.std.specs.Prelude.{◌≡◌, ℕ, true, Bool, Option};
 ghost use Rattle.go_term.specs.Types.{TypeData};
-ghost use Rattle.go_model.specs.Outcomes.Records.{HeaderData};
-ghost use Rattle.go_model.specs.Outcomes.Walk.{Headers};
-ghost use Rattle.go_model.specs.Types.TypeIdentity.{identical};
-ghost use Rattle.go_model.specs.Values.Quests.{Decided, IsPart, Stays, run};
+ghost use Rattle.go_judge.specs.Records.{HeaderData};
+ghost use Rattle.go_judge.specs.Headers.{Headers};
+ghost use Rattle.go_judge.specs.Types.TypeIdentity.{identical};
+ghost use Rattle.go_judge.specs.Quests.{Decided, IsPart, Stays, run};
 ghost use Rattle.go_same_laws.specs.Laws.{Chains, ChainsThrough};
 
 /// Each type is identical to itself, whatever headers are known.

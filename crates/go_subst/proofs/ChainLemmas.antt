@@ -9,13 +9,13 @@ use Rattle.go_term.specs.View.{type_of}
 use Rattle.go_term.specs.declared.fault.TermFault.{TermFault}
 use Rattle.go_term.specs.declared.fault.TermFault.TheVariants.{Deep, Large, NoMemory}
 use Rattle.go_term.specs.declared.term.Term.{Term}
-use Rattle.go_model.specs.declared.form.Reached.{Reached}
-use Rattle.go_model.specs.Outcomes.Records.{HeaderData}
-use Rattle.go_model.specs.Outcomes.Walk.{Headers}
-use Rattle.go_model.specs.Types.Forms.{IsReachCause, reached_as}
-use Rattle.go_model.specs.Types.UnderlyingType.{Exceeds, Origin, Reach, Reaches, Reaching, Returns, most_steps, on_with, same_origin, step_by, under, under_from}
-use Rattle.go_model.specs.Values.Quests.{Asked, Decided, Done, Lacks, run}
-use Rattle.go_model.proofs.QuestLemmas.{run-None, run-Some}
+use Rattle.go_judge.specs.declared.form.Reached.{Reached}
+use Rattle.go_judge.specs.Records.{HeaderData}
+use Rattle.go_judge.specs.Headers.{Headers}
+use Rattle.go_judge.specs.Types.Forms.{IsReachCause, reached_as}
+use Rattle.go_judge.specs.Types.UnderlyingType.{Exceeds, Origin, Reach, Reaches, Reaching, Returns, most_steps, on_with, same_origin, step_by, under, under_from}
+use Rattle.go_judge.specs.Quests.{Asked, Decided, Done, Lacks, run}
+use Rattle.go_judge.proofs.QuestLemmas.{run-None, run-Some}
 use Rattle.go_subst.specs.Chains.{IsReferredCause, IsTurnCause, asked_from, literal, origin_of, referred, turn_as}
 use Rattle.go_subst.specs.declared.underlying.Turn.{Turn}
 use Rattle.go_subst.specs.declared.underlying.Turn.TheVariants.{End, On}

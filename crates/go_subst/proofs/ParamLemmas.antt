@@ -6,8 +6,8 @@ use Rattle.go_term.specs.declared.term.Term.{Term}
 use Rattle.go_term.specs.declared.term.Term.TheVariants as T
 use Rattle.go_term.specs.Types.{TypeData, list_of, parts_of}
 use Rattle.go_term.specs.View.{type_of}
-use Rattle.go_model.specs.Outcomes.Records.{HeaderData, ParamData}
-use Rattle.go_model.specs.Types.UnderlyingType.{params_from, right_side}
+use Rattle.go_judge.specs.Records.{HeaderData, ParamData}
+use Rattle.go_judge.specs.Types.UnderlyingType.{params_from, right_side}
 use Rattle.go_subst.specs.Chains.{referred}
 use Rattle.go_subst.proofs.ViewLemmas.{type_of-Named}
 

@@ -6,8 +6,8 @@ use Rattle.std.specs.Option.{option_eq}
 use Rattle.std.proofs.lemmas.List.{reverse-append}
 use Rattle.std.proofs.lemmas.List.Sorted.{IsPermutation-reverse, list_any-IsPermutation}
 use Rattle.indexmap.specs.IndexMap.{insert_entry}
-use Rattle.go_model.specs.Types.UnderlyingType as spec
-use Rattle.go_model.specs.Types.UnderlyingType.{same_origin, same_place}
+use Rattle.go_judge.specs.Types.UnderlyingType as spec
+use Rattle.go_judge.specs.Types.UnderlyingType.{same_origin, same_place}
 use Rattle.go_subst.specs.Chains.{origin_as}
 use Rattle.go_subst.specs.declared.path.Origin.{Origin}
 

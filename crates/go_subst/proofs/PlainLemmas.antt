@@ -5,10 +5,10 @@ use Rattle.std.specs.Option.{option_map}
 use Rattle.go_term.specs.Types.{TypeData}
 use Rattle.go_term.specs.View.{type_of}
 use Rattle.go_term.specs.declared.term.Term.{Term}
-use Rattle.go_model.specs.declared.header.Header.{Header}
-use Rattle.go_model.specs.Outcomes.Records.{HeaderData, header_as}
-use Rattle.go_model.specs.Types.Own.{IsOwnHeader}
-use Rattle.go_model.proofs.OwnDataLemmas.{header_agrees}
+use Rattle.go_judge.specs.declared.header.Header.{Header}
+use Rattle.go_judge.specs.Records.{HeaderData, header_as}
+use Rattle.go_judge.specs.Types.Own.{IsOwnHeader}
+use Rattle.go_judge.proofs.OwnDataLemmas.{header_agrees}
 
 -- a header that is answered is the one that is there, read by its terms
 pub answered : {own : Term → Type 0} {tree : Term → TypeData} {there : Option HeaderData} → ((t : Term) → own t → tree t ≡ type_of t) → (o : Option Header) (h : Header) → o ≡ Some h

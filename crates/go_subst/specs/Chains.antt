@@ -8,11 +8,11 @@ use Rattle.go_term.specs.Types.{TypeData, made}
 use Rattle.go_term.specs.View.{type_of}
 use Rattle.go_term.specs.declared.fault.TermFault.{TermFault}
 use Rattle.go_term.specs.declared.fault.TermFault.TheVariants.{NoMemory}
-use Rattle.go_model.specs.Outcomes.Records.{HeaderData}
-use Rattle.go_model.specs.Outcomes.Walk.{Headers}
-use Rattle.go_model.specs.Types.Forms.{reached_as}
-use Rattle.go_model.specs.Types.UnderlyingType.{Exceeds, Origin, Reach, Reaching, declared_by, literal_of, on_with, refers_to, under_from}
-use Rattle.go_model.specs.Values.Quests.{Asked, Decided, Need, run}
+use Rattle.go_judge.specs.Records.{HeaderData}
+use Rattle.go_judge.specs.Headers.{Headers}
+use Rattle.go_judge.specs.Types.Forms.{reached_as}
+use Rattle.go_judge.specs.Types.UnderlyingType.{Exceeds, Origin, Reach, Reaching, declared_by, literal_of, on_with, refers_to, under_from}
+use Rattle.go_judge.specs.Quests.{Asked, Decided, Need, run}
 use Rattle.go_subst.specs.declared.path.Origin as declared
 use Rattle.go_subst.specs.declared.path.Path.{Path}
 use Rattle.go_subst.specs.declared.underlying.Turn.{Turn}

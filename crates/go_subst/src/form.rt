@@ -1,12 +1,12 @@
 // Underlying types, or that there is none (Go specification, "Underlying types").
 ghost use Rattle.std.specs.Prelude.{◌≡◌, IfOk};
 ghost use Rattle.go_term.specs.View.{type_of};
-ghost use Rattle.go_model.specs.Types.Forms.{form_as, underlying_over};
-ghost use Rattle.go_model.specs.Types.Own.{KeepsTypes};
+ghost use Rattle.go_judge.specs.Types.Forms.{form_as, underlying_over};
+ghost use Rattle.go_judge.specs.Types.Own.{KeepsTypes};
 
 use crate::underlying::under;
 use go_base::NoMemory;
-use go_model::{Ask, Form, Reached};
+use go_judge::{Ask, Form, Reached};
 use go_term::{TermFault, Ty};
 use std::alloc::Global;
 

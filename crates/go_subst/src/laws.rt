@@ -2,9 +2,9 @@
 ghost use Rattle.std.specs.Prelude.{◌≡◌, ℕ, [], Option};
 ghost use Rattle.go_term.specs.Substitution.{subst};
 ghost use Rattle.go_term.specs.Types.{TypeData};
-ghost use Rattle.go_model.specs.Outcomes.Records.{HeaderData};
-ghost use Rattle.go_model.specs.Types.UnderlyingType.{under};
-ghost use Rattle.go_model.specs.Values.Quests.{IsPart, Stays, run};
+ghost use Rattle.go_judge.specs.Records.{HeaderData};
+ghost use Rattle.go_judge.specs.Types.UnderlyingType.{under};
+ghost use Rattle.go_judge.specs.Quests.{IsPart, Stays, run};
 
 /// Substituting nothing changes nothing.
 pub fn substitution_of_nothing()

@@ -1,7 +1,7 @@
 // The type at which a chain of types ends (Go specification, "Underlying types", "Errors").
 ghost use Rattle.std.specs.Prelude.{◌≡◌, ◌∷◌, [], false, IfOk};
 ghost use Rattle.go_term.specs.View.{type_of};
-ghost use Rattle.go_model.specs.Types.UnderlyingType as spec;
+ghost use Rattle.go_judge.specs.Types.UnderlyingType as spec;
 ghost use Rattle.go_subst.specs.Chains as chain;
 
 use go_base::{Name, NoMemory, ObjId};

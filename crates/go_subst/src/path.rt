@@ -1,7 +1,7 @@
 // The named types through which a chain of types has come (Go specification, "Underlying types").
 ghost use Rattle.std.specs.Prelude.{◌≡◌, if◌then◌else◌, [], ◌∷◌, IfOk, OnErr, not};
 ghost use Rattle.std.specs.List.{list_any};
-ghost use Rattle.go_model.specs.Types.UnderlyingType.{same_origin};
+ghost use Rattle.go_judge.specs.Types.UnderlyingType.{same_origin};
 ghost use Rattle.go_subst.specs.Chains.{origin_as, path_of};
 
 use go_base::{NoMemory, ObjId};

@@ -4,14 +4,14 @@ ghost use Rattle.std.specs.Option.{option_map};
 ghost use Rattle.go_term.specs.Shapes.{IsCause};
 ghost use Rattle.go_term.specs.Size.{size_fault};
 ghost use Rattle.go_term.specs.View.{type_of};
-ghost use Rattle.go_model.specs.Outcomes.Records.{header_as, param_as};
-ghost use Rattle.go_model.specs.Types.UnderlyingType as spec;
+ghost use Rattle.go_judge.specs.Records.{header_as, param_as};
+ghost use Rattle.go_judge.specs.Types.UnderlyingType as spec;
 ghost use Rattle.go_subst.specs.Chains as chain;
 
 use crate::path::Origin;
 use crate::substitution::subst;
 use go_base::{NoMemory, ObjId};
-use go_model::{Header, TypeParam};
+use go_judge::{Header, TypeParam};
 use go_term::{Term, TermFault, Ty};
 use std::alloc::Global;
 

@@ -1,7 +1,7 @@
 // Substitution and underlying types where memory is ample: what is made is compared by its debug text.
 use crate::{subst, under};
 use go_base::{NoMemory, ObjId};
-use go_model::{Header, Headers, TypeParam};
+use go_judge::{Header, Headers, TypeParam};
 use go_term::{Basic, Term, TermFault};
 use std::alloc::Global;
 use std::test::Fail;

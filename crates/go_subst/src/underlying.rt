@@ -1,12 +1,12 @@
 // Underlying types (Go specification, "Underlying types").
 ghost use Rattle.std.specs.Prelude.{◌≡◌, ℕ, suc, List, IfErr, IfOk};
 ghost use Rattle.go_term.specs.View.{type_of};
-ghost use Rattle.go_model.specs.Outcomes.Records.{header_as};
-ghost use Rattle.go_model.specs.Outcomes.Walk.{Headers};
-ghost use Rattle.go_model.specs.Types.Forms.{IsReachCause, reached_as};
-ghost use Rattle.go_model.specs.Types.Own.{KeepsTypes};
-ghost use Rattle.go_model.specs.Types.UnderlyingType as spec;
-ghost use Rattle.go_model.specs.Values.Quests.{run};
+ghost use Rattle.go_judge.specs.Records.{header_as};
+ghost use Rattle.go_judge.specs.Headers.{Headers};
+ghost use Rattle.go_judge.specs.Types.Forms.{IsReachCause, reached_as};
+ghost use Rattle.go_judge.specs.Types.Own.{KeepsTypes};
+ghost use Rattle.go_judge.specs.Types.UnderlyingType as spec;
+ghost use Rattle.go_judge.specs.Quests.{run};
 ghost use Rattle.go_subst.specs.Chains as chain;
 ghost use Rattle.go_subst.specs.Chains.{path_of};
 
@@ -14,7 +14,7 @@ use crate::literal::literal_of;
 use crate::path::Path;
 use crate::referred::{origin_of, referred};
 use go_base::ObjId;
-use go_model::{Ask, Header, Reached};
+use go_judge::{Ask, Header, Reached};
 use go_term::{TermFault, Ty};
 use std::alloc::Global;
 

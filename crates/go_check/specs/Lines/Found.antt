@@ -11,8 +11,8 @@ use Rattle.go_module.specs.Names.Occurrences.{names_in_parts}
 use Rattle.go_operands.specs.Operands.{expressions_in_parts}
 use Rattle.go_module.specs.NodeParts.{first_part}
 use Rattle.go_model.specs.declared.declared_object.DeclaredObject.{DeclaredObject}
-use Rattle.go_model.specs.Outcomes.Judged.{OutcomeData}
-use Rattle.go_model.specs.Outcomes.Records.{RecData}
+use Rattle.go_judge.specs.Judged.{OutcomeData}
+use Rattle.go_judge.specs.Records.{RecData}
 use Rattle.go_model.specs.Outline.{Outline, declared_by}
 use Rattle.go_model.specs.PackageLines.{def_by, expr_by, import_defs_in, member_defs_by, occurrence_uses, written}
 use Rattle.go_model.specs.Report.{LineData}

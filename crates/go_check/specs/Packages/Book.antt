@@ -5,7 +5,8 @@ use Rattle.go_base.specs.declared.ids.ObjId.{ObjId}
 use Rattle.go_tree.specs.declared.node.NodeId.{NodeId}
 use Rattle.go_module.specs.declared.module.Module.{Module}
 use Rattle.go_module.specs.declared.scopes.Scopes.{Scopes}
-use Rattle.go_model.specs.Values.Meaning.{Naming, names_by, no_names}
+use Rattle.go_judge.specs.Naming.{Naming, no_names}
+use Rattle.go_model.specs.Values.Naming.{names_by}
 use Rattle.go_check.specs.declared.module_judge.ModuleJudge.{ModuleJudge}
 
 pub record Standing : Type 0 where

@@ -1,12 +1,12 @@
 -- What is known while the packages of a module are checked, one after another.
 use Rattle.std.specs.Prelude.{◌≡◌, ℕ, Bool, true, List, [], ◌++◌, drop, length, map}
-use Rattle.go_model.specs.Outcomes.Walk.{Headers}
+use Rattle.go_judge.specs.Headers.{Headers}
 use Rattle.go_module.specs.declared.module.Module.{Module}
 use Rattle.go_module.specs.Modules.Module.{ModuleData, module_view}
 use Rattle.go_graph.specs.Graph.{is_marked}
 use Rattle.go_model.specs.Phases.{AreReports, no_headers}
 use Rattle.go_model.specs.Report.{PackageReportData, package_view}
-use Rattle.go_model.specs.Values.HeadersView.{headers_view}
+use Rattle.go_judge.specs.HeadersView.{headers_view}
 use Rattle.go_check.specs.declared.module.State.{State}
 use Rattle.go_check.specs.declared.names.Names.{Names}
 use Rattle.go_check.specs.Packages.Names.{sound_at}

@@ -3,11 +3,11 @@ use Rattle.std.specs.Prelude.{◌≡◌, ℕ, List, Option}
 use Rattle.go_base.specs.declared.ids.ObjId.{ObjId}
 use Rattle.go_tree.specs.declared.node.NodeId.{NodeId}
 use Rattle.go_module.specs.Modules.Module.{PackageData}
-use Rattle.go_model.specs.Values.Meaning.{Naming}
+use Rattle.go_judge.specs.Naming.{Naming}
 use Rattle.go_model.specs.Outline.{Outline}
 use Rattle.go_model.specs.PackageLines.{AreLines, named_in}
 use Rattle.go_model.specs.Report.{LineData, VerdictData, accepted}
-use Rattle.go_model.specs.Outcomes.Walk.{Headers}
+use Rattle.go_judge.specs.Headers.{Headers}
 
 -- it is accepted with its lines, and with the objects that their types name
 pub record IsAccepting (outline : Outline) (k : ℕ) (p : PackageData) (denotes : NodeId → Option ObjId) (naming : Naming) (headers : Headers) (verdict : VerdictData) : Type 0 where

@@ -9,8 +9,8 @@ use Rattle.go_base.specs.declared.rule.Family.TheVariants.{C}
 use Rattle.go_term.specs.declared.basic.Basic.TheVariants as B
 use Rattle.go_term.specs.Types.{TypeData, basic, made, param, union}
 use Rattle.go_model.specs.Obligations.Embedded.{Embeds, IsUnderlying, elements_of, embedded_type}
-use Rattle.go_model.specs.Outcomes.Walk.{Headers}
-use Rattle.go_model.specs.Types.TypeSets.{is_interface}
+use Rattle.go_judge.specs.Headers.{Headers}
+use Rattle.go_judge.specs.Types.TypeSets.{is_interface}
 
 -- C15: an interface with terms or `comparable` is used other than as a constraint
 abbrev pub misused_constraint : Rule

@@ -5,9 +5,9 @@
 use Rattle.std.specs.Prelude.{◌≡◌, false, Option, None, Some, List, [], Contains, option_to_list}
 use Rattle.std.specs.List.{flat_map}
 use Rattle.go_term.specs.Types.{TypeData, interface_type, list_of, made, more_parts, no_parts, union, union_term}
-use Rattle.go_model.specs.Outcomes.Walk.{Headers}
-use Rattle.go_model.specs.Types.UnderlyingType.{Reaches, under}
-use Rattle.go_model.specs.Values.Quests.{Decided, run}
+use Rattle.go_judge.specs.Headers.{Headers}
+use Rattle.go_judge.specs.Types.UnderlyingType.{Reaches, under}
+use Rattle.go_judge.specs.Quests.{Decided, run}
 
 -- over these headers the underlying type of t is u
 abbrev pub IsUnderlying : Headers → TypeData → TypeData → Type 0

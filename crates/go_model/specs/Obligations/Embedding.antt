@@ -9,11 +9,11 @@ use Rattle.go_base.specs.declared.rule.Family.TheVariants.{C}
 use Rattle.go_tree.specs.declared.node_kind.NodeKind.{NodeKind}
 use Rattle.go_tree.specs.declared.node_kind.NodeKind.TheVariants.{EmbeddedField, EmbeddedPointer}
 use Rattle.go_term.specs.Types.{TypeData, made, more_parts, no_parts, param, pointer}
-use Rattle.go_model.specs.Types.Forms.{found_in}
-use Rattle.go_model.specs.Types.TypeIdentity.{Test}
-use Rattle.go_model.specs.Types.TypeSets.{is_interface}
-use Rattle.go_model.specs.Types.UnderlyingType.{under}
-use Rattle.go_model.specs.Values.Quests.{Done, then_ask}
+use Rattle.go_judge.specs.Types.Forms.{found_in}
+use Rattle.go_judge.specs.Types.TypeIdentity.{Test}
+use Rattle.go_judge.specs.Types.TypeSets.{is_interface}
+use Rattle.go_judge.specs.Types.UnderlyingType.{under}
+use Rattle.go_judge.specs.Quests.{Done, then_ask}
 
 -- C9: an embedded type is not allowed
 abbrev pub invalid_embedding : Rule

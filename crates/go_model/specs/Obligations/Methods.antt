@@ -8,11 +8,11 @@ use Rattle.go_base.specs.declared.rule.Rule.{Rule}
 use Rattle.go_base.specs.declared.rule.Family.TheVariants.{C}
 use Rattle.go_term.specs.Types.{MethodHead, Parts, TypeData, function, made, method}
 use Rattle.go_model.specs.Obligations.Embedded.{Embeds, elements_of}
-use Rattle.go_model.specs.Outcomes.Walk.{Headers}
-use Rattle.go_model.specs.Types.Heads as heads
-use Rattle.go_model.specs.Types.TypeIdentity.{identical}
-use Rattle.go_model.specs.Types.TypeSets.{home_of}
-use Rattle.go_model.specs.Values.Quests.{Decided, run}
+use Rattle.go_judge.specs.Headers.{Headers}
+use Rattle.go_judge.specs.Types.Heads as heads
+use Rattle.go_judge.specs.Types.TypeIdentity.{identical}
+use Rattle.go_judge.specs.Types.TypeSets.{home_of}
+use Rattle.go_judge.specs.Quests.{Decided, run}
 
 -- C19: an interface gets one method name with two types
 abbrev pub differing_methods : Rule

@@ -21,10 +21,10 @@ use Rattle.go_term.specs.Types.{TypeData}
 use Rattle.go_model.specs.Obligations.Constraints.{IsConstraint, misused_constraint}
 use Rattle.go_model.specs.Obligations.Embedding.{invalid_embedding, may_be_embedded}
 use Rattle.go_model.specs.Obligations.Methods.{GetsTwo, differing_methods}
-use Rattle.go_model.specs.Outcomes.Judged.{OutcomeData}
-use Rattle.go_model.specs.Outcomes.Records.{RecData, type_in}
-use Rattle.go_model.specs.Outcomes.Walk.{Headers}
-use Rattle.go_model.specs.Values.Quests.{Decided, run}
+use Rattle.go_judge.specs.Judged.{OutcomeData}
+use Rattle.go_judge.specs.Records.{RecData, type_in}
+use Rattle.go_judge.specs.Headers.{Headers}
+use Rattle.go_judge.specs.Quests.{Decided, run}
 use Rattle.go_model.specs.Values.Records.{record_by}
 
 -- what stands for a type in an interface: the parameters and results of its methods, and no embedded type

@@ -5,9 +5,9 @@ use Rattle.go_base.specs.declared.rule.Broken.{Broken as BrokenAt}
 use Rattle.go_tree.specs.Tree.{Tree, list_of, parts_of, start_of}
 use Rattle.go_module.specs.Broken.{broken_at}
 use Rattle.go_operands.specs.Operands.{operands_of}
-use Rattle.go_model.specs.declared.outcome.Spot.{Spot}
-use Rattle.go_model.specs.declared.outcome.Spot.TheVariants.{Name, Part, Whole}
-use Rattle.go_model.specs.Outcomes.Judged.{Broken, Found, Nothing, OutcomeData, Waits}
+use Rattle.go_judge.specs.declared.outcome.Spot.{Spot}
+use Rattle.go_judge.specs.declared.outcome.Spot.TheVariants.{Name, Part, Whole}
+use Rattle.go_judge.specs.Judged.{Broken, Found, Nothing, OutcomeData, Waits}
 
 -- the record of a node that has one
 abbrev pub record_in : {R : Type 0} → OutcomeData R → Option R

@@ -2,24 +2,19 @@
 use Rattle.std.specs.Prelude.{◌≡◌, ℕ, ◌⊎◌, None, List, Contains}
 use Rattle.go_base.specs.declared.rule.Rule.{Rule}
 use Rattle.go_tree.specs.Tree.{Tree}
-use Rattle.go_model.specs.Values.Meaning.{Naming}
-use Rattle.go_model.specs.declared.outcome.Spot.{Spot}
-use Rattle.go_model.specs.Outcomes.Judged.{Broken, Found, Nothing, OutcomeData, Waits}
-use Rattle.go_model.specs.Outcomes.Records.{RecData}
-use Rattle.go_model.specs.Outcomes.Walk.{Headers, outcome}
+use Rattle.go_judge.specs.Naming.{Naming}
+use Rattle.go_judge.specs.declared.outcome.Spot.{Spot}
+use Rattle.go_judge.specs.Exactly.{HasFailed}
+use Rattle.go_judge.specs.Judged.{Broken, Found, Nothing, OutcomeData, Waits}
+use Rattle.go_judge.specs.Records.{RecData}
+use Rattle.go_judge.specs.Headers.{Headers}
+use Rattle.go_model.specs.Outcomes.Walk.{outcome}
 
 -- the rule is broken, at these places and maybe more
 pub record StillBroken {R : Type 0} (rule : Rule) (spots : List Spot) (later : OutcomeData R) : Type 0 where
   pub spots_then : List Spot
   pub broken : later ≡ Broken rule spots_then
   pub among : (s : Spot) → Contains spots s → Contains spots_then s
-
--- it breaks a rule, or has nothing
-abbrev pub HasFailed : {R : Type 0} → OutcomeData R → Type 0
-HasFailed (Found r) = ⊥
-HasFailed (Broken rule spots) = Unit {0}
-HasFailed (Waits d) = ⊥
-HasFailed Nothing = Unit {0}
 
 -- the outcome of each node over more headers: a record stays; a broken rule stays, at its places and maybe more; what
 -- has nothing has nothing; and what waits for d waits for d or has failed, as long as the header of d is missing. What

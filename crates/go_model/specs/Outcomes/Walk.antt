@@ -1,32 +1,30 @@
 -- Expressions; Types (Go specification).
 -- Decides the outcome of each node of an expression or a type: its construct, by its kind, judged with the outcomes of its
 -- operands. Which nodes these are: `Operands` of go_operands. Each construct has a file of its own.
-use Rattle.std.specs.Prelude.{ℕ, Option, List, length, map}
+use Rattle.std.specs.Prelude.{ℕ, List, length, map}
 use Rattle.go_tree.specs.declared.node_kind.NodeKind.TheVariants.{AddExpr, ArrayType, ArrowExpr, ChanType, EmbeddedPointer, FuncType, IntLit, InterfaceType, MapType, Name, ParenExpr, SelectorExpr, SliceType, StarExpr, StructType}
 use Rattle.go_tree.specs.Tree.{Tree, branch, id_of, list_of, more_trees, no_trees}
 use Rattle.go_term.specs.declared.term.Dir.TheVariants.{Both, Receive, Send}
 use Rattle.go_operands.specs.Operands.{folded, operands_of}
-use Rattle.go_model.specs.Values.Meaning.{Naming, meaning_by}
-use Rattle.go_model.specs.Outcomes.Judged.{OutcomeData, Construct, judged}
-use Rattle.go_model.specs.Outcomes.Constructs.Array.{array}
-use Rattle.go_model.specs.Outcomes.Constructs.Channel.{channel}
-use Rattle.go_model.specs.Outcomes.Constructs.Function.{function}
-use Rattle.go_model.specs.Outcomes.Constructs.Interface.{interface_of}
-use Rattle.go_model.specs.Outcomes.Constructs.Literal.{literal}
-use Rattle.go_model.specs.Outcomes.Constructs.MapType.{map_of}
-use Rattle.go_model.specs.Outcomes.Constructs.Name.{name}
-use Rattle.go_model.specs.Outcomes.Constructs.Parentheses.{parentheses}
-use Rattle.go_model.specs.Outcomes.Constructs.Pointer.{pointer_to}
-use Rattle.go_model.specs.Outcomes.Constructs.Selector.{selector}
-use Rattle.go_model.specs.Outcomes.Constructs.Slice.{slice}
-use Rattle.go_model.specs.Outcomes.Constructs.Struct.{struct_of}
-use Rattle.go_model.specs.Outcomes.Constructs.Sum.{sum}
-use Rattle.go_model.specs.Outcomes.Operands.{no_construct}
-use Rattle.go_model.specs.Outcomes.Records.{HeaderData, RecData}
-
--- a map of headers: what it has for each declaring node and universe name, by its number
-abbrev pub Headers : Type 0
-Headers = ℕ → Option HeaderData
+use Rattle.go_judge.specs.Headers.{Headers}
+use Rattle.go_judge.specs.Naming.{Naming}
+use Rattle.go_constructs.specs.Meaning.{meaning_by}
+use Rattle.go_judge.specs.Judged.{OutcomeData, Construct, judged}
+use Rattle.go_constructs.specs.Array.{array}
+use Rattle.go_constructs.specs.Channel.{channel}
+use Rattle.go_constructs.specs.Function.{function}
+use Rattle.go_constructs.specs.Interface.{interface_of}
+use Rattle.go_constructs.specs.Literal.{literal}
+use Rattle.go_constructs.specs.MapType.{map_of}
+use Rattle.go_constructs.specs.Name.{name}
+use Rattle.go_constructs.specs.Parentheses.{parentheses}
+use Rattle.go_constructs.specs.Pointer.{pointer_to}
+use Rattle.go_constructs.specs.Selector.{selector}
+use Rattle.go_constructs.specs.Slice.{slice}
+use Rattle.go_constructs.specs.Struct.{struct_of}
+use Rattle.go_constructs.specs.Sum.{sum}
+use Rattle.go_judge.specs.Operands.{no_construct}
+use Rattle.go_judge.specs.Records.{HeaderData, RecData}
 
 abbrev pub many_operands : Tree → ℕ
 many_operands t = length (operands_of t)

@@ -1,24 +1,15 @@
 -- Expressions (Go specification).
 -- Says what walks over expressions leave: of each node the outcome in the last walk that reached it, by the node's number;
 -- and where a number tells its node.
-use Rattle.std.specs.Prelude.{◌≡◌, ℕ, ◌==◌, Option, Some, None, List, [], ◌∷◌, Contains, if◌then◌else◌, slice_get}
+use Rattle.std.specs.Prelude.{◌≡◌, ℕ, ◌==◌, Some, List, [], ◌∷◌, Contains, if◌then◌else◌, slice_get}
 use Rattle.std.specs.List.{flat_map}
 use Rattle.go_tree.specs.Tree.{Tree, id_of}
 use Rattle.go_module.specs.Modules.Module.{ModuleData, PackageData}
 use Rattle.go_module.specs.Names.Declarations.{specs_of}
 use Rattle.go_operands.specs.Operands.{expressions_in_parts}
-use Rattle.go_model.specs.Values.Meaning.{Naming}
-use Rattle.go_model.specs.Outcomes.Judged.{OutcomeData}
-use Rattle.go_model.specs.Outcomes.Records.{RecData}
-use Rattle.go_model.specs.Outcomes.Walk.{Headers, outcome}
-
--- the outcome of each node that a walk reached, by the node's number
-abbrev pub Outcomes : Type 0
-Outcomes = ℕ → Option (OutcomeData RecData)
-
--- no node was reached
-abbrev pub no_outcomes : Outcomes
-no_outcomes n = None
+use Rattle.go_judge.specs.Naming.{Naming}
+use Rattle.go_judge.specs.Headers.{Headers, Outcomes}
+use Rattle.go_model.specs.Outcomes.Walk.{outcome}
 
 -- behind a walk that reached these nodes: at the number of a node its outcome, of several with one number that of the
 -- first; a number of none of them keeps what it had

@@ -6,8 +6,8 @@ use Rattle.std.specs.List.{flat_map, join_with_byte}
 use Rattle.go_base.specs.Rule.{rule_text}
 use Rattle.go_term.specs.Types.{TypeData}
 use Rattle.go_num.specs.declared.value.Value.{Value}
-use Rattle.go_model.specs.declared.rec.Mode.{Mode}
-use Rattle.go_model.specs.declared.rec.Mode.TheVariants as M
+use Rattle.go_judge.specs.declared.rec.Mode.{Mode}
+use Rattle.go_judge.specs.declared.rec.Mode.TheVariants as M
 use Rattle.go_module.specs.declared.places.At.{At}
 use Rattle.go_module.specs.declared.places.Placed.{Placed}
 use Rattle.go_model.specs.Report.{DefinedData, alias, constant, definition, field, function, imported, variable, WhatData, defined, used, expression, LineData, NamedData, VerdictData, accepted, refused, skipped, PackageReportData, ReportData}

@@ -18,8 +18,8 @@ use Rattle.go_module.specs.Order.{IsListOf}
 use Rattle.go_module.specs.Places.{with_number}
 use Rattle.go_module.specs.declared.object.Method.{Method}
 use Rattle.go_term.specs.Types.{Head, Parts, TypeData, array, field, made, more_parts, named, no_parts, struct_type}
-use Rattle.go_model.specs.Outcomes.Records.{ParamData, definition}
-use Rattle.go_model.specs.Outcomes.Walk.{Headers}
+use Rattle.go_judge.specs.Records.{ParamData, definition}
+use Rattle.go_judge.specs.Headers.{Headers}
 
 abbrev pub contained_type : Rule
 contained_type = record { family = C; number = 3 }

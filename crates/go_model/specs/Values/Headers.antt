@@ -1,11 +1,11 @@
 -- Constant declarations; Declarations and scope (Go specification).
 -- Decides which headers the declarations of a package have, where those of packages before are known: those that some
 -- justified list holds. No order of work is named.
-use Rattle.std.specs.Prelude.{◌≡◌, ℕ, ◌==◌, Some, None, List, [], ◌∷◌, if◌then◌else◌}
-use Rattle.go_model.specs.Values.Meaning.{Naming}
+use Rattle.std.specs.Prelude.{◌≡◌, ℕ, Some, None, List, [], ◌∷◌}
+use Rattle.go_judge.specs.Naming.{Naming}
 use Rattle.go_module.specs.Names.Declarations.{Declaration}
-use Rattle.go_model.specs.Outcomes.Records.{HeaderData}
-use Rattle.go_model.specs.Outcomes.Walk.{Headers}
+use Rattle.go_judge.specs.Records.{HeaderData}
+use Rattle.go_judge.specs.Headers.{Headers, headers_of}
 use Rattle.go_model.specs.Values.Declared.{declared_as}
 use Rattle.go_model.specs.Values.Records.{header_over}
 
@@ -15,11 +15,6 @@ pub record Follows (before : Headers) (naming : Naming) (declarations : List Dec
   pub declared : declared_as declarations d ≡ Some declaration
   pub fresh : before d ≡ None
   pub tells : header_over naming headers declaration ≡ Some h
-
--- the headers before, with those of a list of pairs, the newest first
-abbrev pub headers_of : Headers → List (ℕ × HeaderData) → Headers
-headers_of before [] d = before d
-headers_of before (p ∷ list) d = if p.0 == d then Some p.1 else headers_of before list d
 
 -- a justified list: each header follows from those before and from the pairs before it alone
 abbrev pub Justified : Headers → Naming → List Declaration → List (ℕ × HeaderData) → Type 0

@@ -4,16 +4,17 @@
 use Rattle.std.specs.Prelude.{List, [], Option, None, option_and_then, slice_get}
 use Rattle.std.specs.Option.{option_map}
 use Rattle.go_tree.specs.Tree.{Tree}
-use Rattle.go_model.specs.Values.Meaning.{Naming}
+use Rattle.go_judge.specs.Naming.{Naming}
 use Rattle.go_module.specs.declared.declaration.Built.{Built}
 use Rattle.go_module.specs.declared.declaration.Built.TheVariants.{Itself, Pair}
 use Rattle.go_module.specs.declared.object.ObjKind.{ObjKind}
 use Rattle.go_module.specs.declared.object.ObjKind.TheVariants.{Alias, Const, Defined, Var}
 use Rattle.go_module.specs.Names.Declarations.{Declaration}
-use Rattle.go_model.specs.Outcomes.Judged.{OutcomeData}
+use Rattle.go_judge.specs.Judged.{OutcomeData}
 use Rattle.go_model.specs.Outcomes.Readings.{record_in}
-use Rattle.go_model.specs.Outcomes.Records.{HeaderData, RecData, alias, declared_header, definition, type_in, variable}
-use Rattle.go_model.specs.Outcomes.Walk.{Headers, outcome}
+use Rattle.go_judge.specs.Records.{HeaderData, RecData, alias, constant, definition, type_in, variable}
+use Rattle.go_judge.specs.Headers.{Headers}
+use Rattle.go_model.specs.Outcomes.Walk.{outcome}
 
 -- by whatever says which outcome a node has: the record of an expression, where it has one
 abbrev pub record_by : (Tree → OutcomeData RecData) → Tree → Option RecData
@@ -27,6 +28,10 @@ tells_by Var Itself types values = slice_get types 0
 tells_by Defined Itself types values = slice_get types 0
 tells_by Alias Itself types values = slice_get types 0
 tells_by kind built types values = None
+
+-- the header of a constant that is declared with this record and without a type; one with a type is not built
+abbrev pub declared_header : RecData → Option HeaderData
+declared_header r = option_and_then (λ type. option_map (constant type) r.value) r.type
 
 -- and the header by it, where it is a constant or a type; a type that is defined has no methods yet
 abbrev pub told_by : ObjKind → RecData → Option HeaderData

@@ -9,7 +9,7 @@ use Rattle.go_base.specs.declared.rule.Broken.{Broken}
 use Rattle.go_base.specs.declared.rule.Rule.{Rule}
 use Rattle.go_base.specs.declared.rule.Family.TheVariants.{C, R}
 use Rattle.go_tree.specs.Tree.{Tree, start_of}
-use Rattle.go_model.specs.Values.Meaning.{Naming}
+use Rattle.go_judge.specs.Naming.{Naming}
 use Rattle.go_module.specs.declared.object.ObjKind.{ObjKind}
 use Rattle.go_module.specs.declared.object.ObjKind.TheVariants.{Const}
 use Rattle.go_module.specs.Broken.{broken_at, told_if}
@@ -17,12 +17,13 @@ use Rattle.go_module.specs.Places.{with_number}
 use Rattle.go_module.specs.Modules.Module.{PackageData}
 use Rattle.go_module.specs.Names.Declarations.{Declaration, Spec, declarations_of, number_of, specs_of}
 use Rattle.go_operands.specs.Operands.{expressions_in}
-use Rattle.go_model.specs.Outcomes.Constructs.Kinds.{no_type, no_value}
-use Rattle.go_model.specs.Outcomes.Judged.{OutcomeData}
-use Rattle.go_model.specs.Outcomes.Operands.{is_constant, is_type}
+use Rattle.go_judge.specs.Kinds.{no_type, no_value}
+use Rattle.go_judge.specs.Judged.{OutcomeData}
+use Rattle.go_judge.specs.Operands.{is_constant, is_type}
 use Rattle.go_model.specs.Outcomes.Readings.{broken_spots}
-use Rattle.go_model.specs.Outcomes.Records.{RecData}
-use Rattle.go_model.specs.Outcomes.Walk.{Headers, outcome}
+use Rattle.go_judge.specs.Records.{RecData}
+use Rattle.go_judge.specs.Headers.{Headers}
+use Rattle.go_model.specs.Outcomes.Walk.{outcome}
 use Rattle.go_model.specs.Values.Records.{record_by}
 
 abbrev pub cyclic_declaration : Rule

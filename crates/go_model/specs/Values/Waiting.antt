@@ -3,13 +3,14 @@
 use Rattle.std.specs.Prelude.{◌≡◌, ℕ, Some, List, Contains}
 use Rattle.std.specs.List.{flat_map}
 use Rattle.go_tree.specs.Tree.{Tree}
-use Rattle.go_model.specs.Values.Meaning.{Naming}
+use Rattle.go_judge.specs.Naming.{Naming}
 use Rattle.go_module.specs.Names.Declarations.{Declaration, rests_on}
 use Rattle.go_operands.specs.Operands.{expressions_in}
-use Rattle.go_model.specs.Outcomes.Judged.{OutcomeData}
+use Rattle.go_judge.specs.Judged.{OutcomeData}
 use Rattle.go_model.specs.Outcomes.Readings.{awaited_in}
-use Rattle.go_model.specs.Outcomes.Records.{RecData}
-use Rattle.go_model.specs.Outcomes.Walk.{Headers, outcome}
+use Rattle.go_judge.specs.Records.{RecData}
+use Rattle.go_judge.specs.Headers.{Headers}
+use Rattle.go_model.specs.Outcomes.Walk.{outcome}
 use Rattle.go_model.specs.Values.Declared.{declared_as}
 
 -- by whatever says which outcome a node has: the declarations whose headers the nodes of an expression or a type wait for

@@ -2,11 +2,11 @@ use Rattle.std.proofs.Common.{◌≡◌, ◌++◌, ◌+◌, ◌-◌, map, refl, 
 use Rattle.std.proofs.lemmas.Result.{IfOk-weaker}
 use Rattle.std.specs.Vec.Iter.{into_iter_items, into_iter_len}
 use Rattle.go_term.specs.Types.{TypeData}
-use Rattle.go_model.specs.Types.Forms.{IsOwnForm, answer_as, form_as}
-use Rattle.go_model.specs.Types.Heads.{alike}
-use Rattle.go_model.specs.Types.TypeIdentity.{and_ask, ask_each, fit, interfaces_in, ask_any}
-use Rattle.go_model.specs.Types.TypeSets.{plain}
-use Rattle.go_model.specs.Values.Quests.{Decided, Done, run}
+use Rattle.go_judge.specs.Types.Forms.{IsOwnForm, answer_as, form_as}
+use Rattle.go_judge.specs.Types.Heads.{alike}
+use Rattle.go_judge.specs.Types.TypeIdentity.{and_ask, ask_each, fit, interfaces_in, ask_any}
+use Rattle.go_judge.specs.Types.TypeSets.{plain}
+use Rattle.go_judge.specs.Quests.{Decided, Done, run}
 use Rattle.go_same.specs.Bounded as bounded
 use Rattle.go_same.specs.Layers.{pair_view}
 use Rattle.go_same.specs.MethodOrder.{named_pairs, views_at}
@@ -19,7 +19,7 @@ use Rattle.go_same.proofs.SameMethodLemmas.{first_here, methods_end, methods_sta
 use Rattle.go_same.proofs.+same.Goals as goal
 use Rattle.std.specs.List.{AllByRecursion}
 use Rattle.std.specs.Prelude.{not}
-use Rattle.go_model.specs.Types.TypeIdentity as identity
+use Rattle.go_judge.specs.Types.TypeIdentity as identity
 use Rattle.go_same.specs.declared.set.UnionPart.{UnionPart}
 use Rattle.go_same.proofs.AskLemmas.{and-other, and-yes, any-ends, any-next, each-ends, each-next, flat-ends, flat-next, implied-no, implied-other, implied-yes}
 use Rattle.go_same.proofs.EitherLemmas.{left_parts}

@@ -2,10 +2,10 @@
 use Rattle.std.proofs.Common.{◌≡◌, ◌+◌, ◌*◌, map, drop}
 use Rattle.std.specs.List.{AllByRecursion, flat_map}
 use Rattle.std.specs.Vec.Iter.{into_iter_items}
-use Rattle.go_model.specs.Types.Own.{Keeps}
-use Rattle.go_model.specs.Types.TypeIdentity.{ask_any, ask_each}
-use Rattle.go_model.specs.Types.TypeSets.{MethodData}
-use Rattle.go_model.specs.Values.Quests.{run}
+use Rattle.go_judge.specs.Types.Own.{Keeps}
+use Rattle.go_judge.specs.Types.TypeIdentity.{ask_any, ask_each}
+use Rattle.go_judge.specs.Types.TypeSets.{MethodData}
+use Rattle.go_judge.specs.Quests.{run}
 use Rattle.go_same.specs.Bounded as bounded
 use Rattle.go_same.specs.Kept.{AreKept}
 use Rattle.go_same.specs.Layers.{IsOwnPair, pair_view}

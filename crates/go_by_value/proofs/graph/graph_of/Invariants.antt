@@ -1,7 +1,7 @@
 use Rattle.std.proofs.Common.{◌≡◌, ◌++◌, drop}
 use Rattle.go_names.specs.Views.{declarations_view}
 use Rattle.go_cycles.specs.Places.{placed_by}
-use Rattle.go_model.specs.Types.Own.{Keeps}
+use Rattle.go_judge.specs.Types.Own.{Keeps}
 use Rattle.go_by_value.specs.Holding.{graph_of}
 use Rattle.go_by_value.proofs.graph.graph_of.Given as goal
 

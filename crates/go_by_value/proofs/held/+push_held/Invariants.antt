@@ -2,7 +2,7 @@ use Rattle.std.proofs.Common.{◌≡◌, ◌++◌, ◌+◌, ◌*◌, drop}
 use Rattle.std.specs.List.{AllByRecursion}
 use Rattle.go_term.specs.Shapes.{shape_tree}
 use Rattle.go_term.specs.Size.{depth}
-use Rattle.go_model.specs.Types.Own.{Keeps}
+use Rattle.go_judge.specs.Types.Own.{Keeps}
 use Rattle.go_by_value.proofs.HeldLemmas.{deepest, held_in_fields}
 use Rattle.go_by_value.proofs.held.+push_held.Given as goal
 

@@ -6,7 +6,7 @@ use Rattle.go_module.specs.declared.module.Module.{Module}
 use Rattle.go_module.specs.Modules.Module.{PackageData, module_view, package_view}
 use Rattle.go_model.specs.Phases.{IsVerdict, imports_accepted}
 use Rattle.go_model.specs.Report.{skipped, verdict_view}
-use Rattle.go_model.specs.Values.HeadersView.{headers_view}
+use Rattle.go_judge.specs.HeadersView.{headers_view}
 use Rattle.go_check.specs.declared.rulebook.Rulebook.{Rulebook}
 use Rattle.go_check.specs.Packages.Names.{ImportsSound}
 use Rattle.go_check.specs.Packages.State.{state_view}

@@ -3,7 +3,7 @@ use Rattle.std.proofs.lemmas.List.{length-map}
 use Rattle.std.specs.Option.{option_map}
 use Rattle.go_term.specs.View.{type_of}
 use Rattle.go_module.specs.Modules.Module.{package_view}
-use Rattle.go_model.specs.Outcomes.Records.{header_as}
+use Rattle.go_judge.specs.Records.{header_as}
 use Rattle.go_check.specs.Packages.Book.{Standing}
 use Rattle.go_check.proofs.StateLemmas.{all_reports, first_state}
 use Rattle.go_check.proofs.module.check_packages.Goals as goal

@@ -1,12 +1,13 @@
 use Rattle.std.proofs.Common.{◌≡◌, ◌∙◌, sym, ap, subst}
 use Rattle.std.proofs.lemmas.Result.{IfOk-weaker}
 use Rattle.go_module.specs.Modules.Module.{PackageData, module_view, package_view}
-use Rattle.go_model.specs.declared.headers.Headers.{Headers as HeaderMap}
+use Rattle.go_judge.specs.declared.headers.Headers.{Headers as HeaderMap}
 use Rattle.go_model.specs.Outcomes.Walked.{AreWalked, nodes_of}
 use Rattle.go_model.specs.Phases.{BreaksValues, IsVerdict}
 use Rattle.go_model.specs.Report.{verdict_view}
-use Rattle.go_model.specs.Values.HeadersView.{headers_view}
-use Rattle.go_model.specs.Values.Meaning.{AreThere, Naming, names_in}
+use Rattle.go_judge.specs.HeadersView.{headers_view}
+use Rattle.go_judge.specs.Naming.{AreThere, Naming}
+use Rattle.go_model.specs.Values.Naming.{names_in}
 use Rattle.go_expr.specs.Walker.{outcomes_view}
 use Rattle.go_decl.proofs.ListLemmas.{on_ok, viewed_at}
 use Rattle.go_check.specs.Packages.Book.{Standing, book_names, names_at}

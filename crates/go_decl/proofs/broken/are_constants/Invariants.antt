@@ -2,7 +2,7 @@ use Rattle.std.proofs.Common.{◌≡◌, drop, map}
 use Rattle.std.specs.List.{list_all}
 use Rattle.go_tree.specs.Tree.{tree_of}
 use Rattle.go_expr.specs.Read.{outcome_read}
-use Rattle.go_model.specs.Outcomes.Operands.{is_constant}
+use Rattle.go_judge.specs.Operands.{is_constant}
 use Rattle.go_model.specs.Values.Rules.{has_record}
 use Rattle.go_decl.proofs.broken.are_constants.Given as goal
 

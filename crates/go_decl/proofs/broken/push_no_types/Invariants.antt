@@ -2,8 +2,8 @@ use Rattle.std.proofs.Common.{◌≡◌, ◌++◌, drop, map}
 use Rattle.go_tree.specs.Tree.{tree_of}
 use Rattle.go_expr.specs.Read.{outcome_read}
 use Rattle.go_names.specs.Views.{spec_view}
-use Rattle.go_model.specs.Outcomes.Constructs.Kinds.{no_type}
-use Rattle.go_model.specs.Outcomes.Operands.{is_type}
+use Rattle.go_judge.specs.Kinds.{no_type}
+use Rattle.go_judge.specs.Operands.{is_type}
 use Rattle.go_model.specs.Values.Rules.{others_by}
 use Rattle.go_decl.proofs.broken.push_no_types.Given as goal
 

@@ -3,8 +3,8 @@ use Rattle.std.specs.Prelude.{IsTrue}
 use Rattle.std.specs.Map.{lookup}
 use Rattle.go_base.specs.declared.ids.ObjId.{ObjId}
 use Rattle.go_module.specs.Scopes.{same_object}
-use Rattle.go_model.specs.Outcomes.Records.{header_as}
-use Rattle.go_model.specs.Outcomes.Walk.{Headers}
+use Rattle.go_judge.specs.Records.{header_as}
+use Rattle.go_judge.specs.Headers.{Headers}
 use Rattle.go_names.specs.Views.{declaration_view, declarations_view}
 use Rattle.go_expr.proofs.ResultLemmas.{on_err}
 use Rattle.go_decl.specs.Rounds.{IsSettled, IsToldOrNot}

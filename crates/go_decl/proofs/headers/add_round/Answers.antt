@@ -3,10 +3,10 @@ use Rattle.std.specs.Map.{lookup}
 use Rattle.std.proofs.lemmas.List.{length-map}
 use Rattle.go_base.specs.declared.ids.ObjId.{ObjId}
 use Rattle.go_module.specs.Scopes.{same_object}
-use Rattle.go_model.specs.Outcomes.Walk.{Headers}
-use Rattle.go_model.specs.Values.HeadersView.{headers_as}
-use Rattle.go_model.specs.Values.Meaning.{Naming}
-use Rattle.go_model.proofs.OwnLemmas.{types_then}
+use Rattle.go_judge.specs.Headers.{Headers}
+use Rattle.go_judge.specs.HeadersView.{headers_as}
+use Rattle.go_judge.specs.Naming.{Naming}
+use Rattle.go_judge.proofs.OwnLemmas.{types_then}
 use Rattle.go_names.specs.Views.{declaration_view, declarations_view}
 use Rattle.go_expr.proofs.ResultLemmas.{on_err}
 use Rattle.go_decl.specs.Rounds.{IsBacked, IsSettled, open_in}

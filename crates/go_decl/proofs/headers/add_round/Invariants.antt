@@ -2,8 +2,8 @@ use Rattle.std.proofs.Common.{◌≡◌, ℕ, Some, false, true, ◌≤◌, ◌<
 use Rattle.std.specs.Map.{lookup}
 use Rattle.go_base.specs.declared.ids.ObjId.{ObjId}
 use Rattle.go_module.specs.Scopes.{same_object}
-use Rattle.go_model.specs.Types.Own.{KeepsTypes}
-use Rattle.go_model.specs.Values.HeadersView.{AreOwnHeaders, headers_as}
+use Rattle.go_judge.specs.Types.Own.{KeepsTypes}
+use Rattle.go_judge.specs.HeadersView.{AreOwnHeaders, headers_as}
 use Rattle.go_decl.specs.Rounds.{IsBacked, IsSettled, open_in}
 use Rattle.go_names.specs.Views.{declarations_view}
 use Rattle.go_decl.proofs.headers.add_round.Given as goal

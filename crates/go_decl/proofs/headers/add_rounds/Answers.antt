@@ -1,7 +1,7 @@
 use Rattle.std.proofs.Common.{◌∙◌, ℕ, ap, refl, subst}
-use Rattle.go_model.specs.Values.HeadersView.{headers_as}
-use Rattle.go_model.specs.Values.Meaning.{Naming}
-use Rattle.go_model.proofs.OwnLemmas.{types_stay, types_then}
+use Rattle.go_judge.specs.HeadersView.{headers_as}
+use Rattle.go_judge.specs.Naming.{Naming}
+use Rattle.go_judge.proofs.OwnLemmas.{types_stay, types_then}
 use Rattle.go_names.specs.Views.{declarations_view}
 use Rattle.go_expr.proofs.ResultLemmas.{on_err}
 use Rattle.go_decl.specs.Rounds.{IsSettled}

@@ -1,6 +1,6 @@
 use Rattle.std.proofs.Common.{◌≡◌}
-use Rattle.go_model.specs.Types.Own.{KeepsTypes}
-use Rattle.go_model.specs.Values.HeadersView.{AreOwnHeaders, headers_as}
+use Rattle.go_judge.specs.Types.Own.{KeepsTypes}
+use Rattle.go_judge.specs.HeadersView.{AreOwnHeaders, headers_as}
 use Rattle.go_decl.specs.Rounds.{IsBacked, open_in}
 use Rattle.go_names.specs.Views.{declarations_view}
 use Rattle.go_decl.proofs.headers.add_rounds.Given as goal

@@ -1,7 +1,7 @@
 use Rattle.std.proofs.Common.{◌∙◌, ap}
 use Rattle.indexmap.proofs.MapLemmas.{OnOk-map}
-use Rattle.go_model.specs.Outcomes.Walk.{Headers}
-use Rattle.go_model.proofs.HeadersViewLemmas.{vacant_in}
+use Rattle.go_judge.specs.Headers.{Headers}
+use Rattle.go_judge.proofs.HeadersViewLemmas.{vacant_in}
 use Rattle.go_expr.proofs.ResultLemmas.{on_err}
 use Rattle.go_decl.proofs.KnownLemmas.{refused_agree, refused_own, still_agree, told_own, told_same}
 use Rattle.go_decl.proofs.ListLemmas.{either_answer, on_err_map}

@@ -4,10 +4,10 @@ use Rattle.std.proofs.lemmas.Result.{IfOk-weaker}
 use Rattle.indexmap.proofs.MapLemmas.{OnOk-map}
 use Rattle.go_module.specs.Modules.Module.{PackageData, module_view, package_view}
 use Rattle.go_module.specs.Names.Declarations.{declarations_of}
-use Rattle.go_model.specs.Outcomes.Records.{HeaderData}
+use Rattle.go_judge.specs.Records.{HeaderData}
 use Rattle.go_model.specs.Outcomes.Walked.{AreWalked, nodes_of}
 use Rattle.go_model.specs.Values.Headers.{Known}
-use Rattle.go_model.specs.Values.HeadersView.{headers_as}
+use Rattle.go_judge.specs.HeadersView.{headers_as}
 use Rattle.go_decl.specs.Broken.{AreBroken}
 use Rattle.go_decl.specs.Rounds.{IsBacked}
 use Rattle.go_decl.proofs.ListLemmas.{of_each_there, on_err_map, viewed_at}

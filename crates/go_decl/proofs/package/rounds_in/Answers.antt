@@ -7,7 +7,7 @@ use Rattle.go_module.specs.Modules.Module.{PackageData, package_view}
 use Rattle.go_module.specs.Names.Declarations.{Declaration, declarations_in, declarations_of, specs_of}
 use Rattle.go_operands.specs.Operands.{expressions_in_parts}
 use Rattle.go_module.specs.Order.{IsListOf}
-use Rattle.go_model.specs.Outcomes.Walk.{Headers}
+use Rattle.go_judge.specs.Headers.{Headers}
 use Rattle.go_model.specs.Outcomes.Walked.{AreWalked, nodes_of, walked_over}
 use Rattle.go_model.specs.Values.Headers.{Known}
 use Rattle.go_model.specs.Values.Rules.{broken_values}

@@ -4,7 +4,7 @@ use Rattle.std.proofs.Math.Seq.{drop-cons}
 use Rattle.go_tree.specs.declared.node.Node.{Node}
 use Rattle.go_tree.specs.Tree.{tree_of}
 use Rattle.go_operands.specs.Operands.{expressions_in}
-use Rattle.go_model.proofs.OwnLemmas.{types_then}
+use Rattle.go_judge.proofs.OwnLemmas.{types_then}
 use Rattle.go_expr.proofs.WalkerLemmas.{walked_more}
 use Rattle.go_decl.proofs.walked.walk_nodes.Goals as goal
 

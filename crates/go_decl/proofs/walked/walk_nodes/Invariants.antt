@@ -3,7 +3,7 @@ use Rattle.std.specs.List.{flat_map}
 use Rattle.go_tree.specs.Tree.{tree_of}
 use Rattle.go_operands.specs.Operands.{expressions_in}
 use Rattle.go_model.specs.Outcomes.Walked.{walked_over}
-use Rattle.go_model.specs.Types.Own.{KeepsTypes}
+use Rattle.go_judge.specs.Types.Own.{KeepsTypes}
 use Rattle.go_decl.proofs.walked.walk_nodes.Given as goal
 
 -- what stands from the place on is walked, the last first

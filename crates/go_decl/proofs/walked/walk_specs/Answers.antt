@@ -4,7 +4,7 @@ use Rattle.std.proofs.Math.Seq.{drop-cons}
 use Rattle.go_operands.specs.Operands.{expressions_in_parts}
 use Rattle.go_names.specs.declared.spec.Spec.{Spec}
 use Rattle.go_names.specs.Views.{spec_view, specs_view}
-use Rattle.go_model.proofs.OwnLemmas.{types_then}
+use Rattle.go_judge.proofs.OwnLemmas.{types_then}
 use Rattle.go_expr.proofs.WalkerLemmas.{walked_more}
 use Rattle.go_decl.proofs.walked.walk_specs.Goals as goal
 

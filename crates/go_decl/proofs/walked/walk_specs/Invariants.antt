@@ -2,7 +2,7 @@ use Rattle.std.proofs.Common.{◌≡◌, ℕ, drop}
 use Rattle.std.specs.List.{flat_map}
 use Rattle.go_operands.specs.Operands.{expressions_in_parts}
 use Rattle.go_model.specs.Outcomes.Walked.{walked_over}
-use Rattle.go_model.specs.Types.Own.{KeepsTypes}
+use Rattle.go_judge.specs.Types.Own.{KeepsTypes}
 use Rattle.go_names.specs.Views.{specs_view}
 use Rattle.go_decl.proofs.walked.walk_specs.Given as goal
 

@@ -5,7 +5,7 @@ use Rattle.go_term.specs.Shapes.{shape_tree}
 use Rattle.go_term.specs.declared.shape.Shape.TheVariants.{Func}
 use Rattle.go_term.specs.Types as types
 use Rattle.go_term.specs.Types.{TypeData, made}
-use Rattle.go_model.specs.Outcomes.Signatures.{is_variadic, types_in}
+use Rattle.go_constructs.specs.Signatures.{is_variadic, types_in}
 use Rattle.go_expr.specs.TypeLiteral.{type_outcome, typed_outcome}
 use Rattle.go_expr.proofs.function.function_type.Goals as goal
 

@@ -1,6 +1,6 @@
 use Rattle.std.proofs.Common.{map, sym, ap, ◌∙◌}
-use Rattle.go_model.specs.Outcomes.Judged.{outcome_at}
-use Rattle.go_model.specs.Outcomes.View.{outcome_as}
+use Rattle.go_judge.specs.Judged.{outcome_at}
+use Rattle.go_judge.specs.View.{outcome_as}
 use Rattle.go_expr.specs.Given.{with_one}
 use Rattle.go_expr.proofs.GivenLemmas.{together-more}
 use Rattle.go_expr.proofs.given.first_records.Goals as goal

@@ -1,5 +1,5 @@
 use Rattle.std.proofs.Common.{◌≡◌}
-use Rattle.go_model.specs.Outcomes.Judged.{together}
+use Rattle.go_judge.specs.Judged.{together}
 use Rattle.go_expr.specs.Given.{IsOwnGiven, first_outcomes, given_as}
 use Rattle.go_expr.proofs.given.first_records.Given as goal
 

@@ -1,11 +1,11 @@
 use Rattle.std.proofs.Common.{Bor, Option, Some, sym, ap, ◌∙◌, subst}
 use Rattle.std.specs.Prelude.{IfSome, option_and_then}
 use Rattle.std.specs.Option.{option_map}
-use Rattle.go_model.specs.declared.rec.Rec.{Rec}
-use Rattle.go_model.specs.Outcomes.Records.{rec_as}
+use Rattle.go_judge.specs.declared.rec.Rec.{Rec}
+use Rattle.go_judge.specs.Records.{rec_as}
 use Rattle.go_model.specs.Values.Records.{told_by}
-use Rattle.go_model.specs.Types.Own.{IsOwnRec}
-use Rattle.go_model.proofs.OwnDataLemmas.{rec_copied}
+use Rattle.go_judge.specs.Types.Own.{IsOwnRec}
+use Rattle.go_judge.proofs.OwnDataLemmas.{rec_copied}
 use Rattle.go_expr.proofs.headers.header_of.Goals as goal
 
 pub header_in-requires : goal.header_in-requires

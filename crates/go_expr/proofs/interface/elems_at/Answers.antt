@@ -5,7 +5,7 @@ use Rattle.std.proofs.lemmas.List.{length-map}
 use Rattle.go_tree.specs.Tree.{tree_of}
 use Rattle.go_operands.specs.Operands.{operands_of}
 use Rattle.go_term.specs.Shapes.{elem_tree}
-use Rattle.go_model.specs.Outcomes.Constructs.Interface.{elems_in}
+use Rattle.go_constructs.specs.Interface.{elems_in}
 use Rattle.go_expr.proofs.InterfaceLemmas.{elems-more}
 use Rattle.go_expr.proofs.SignatureLemmas.{all-drop}
 use Rattle.go_expr.proofs.interface.elems_at.Goals as goal

@@ -2,8 +2,8 @@ use Rattle.std.proofs.Common.{◌≡◌, ◌++◌, drop, map}
 use Rattle.std.specs.List.{AllByRecursion}
 use Rattle.go_tree.specs.Tree.{tree_of}
 use Rattle.go_term.specs.Shapes.{elem_tree}
-use Rattle.go_model.specs.Outcomes.Constructs.Interface.{elems_in}
-use Rattle.go_model.specs.Types.Own.{IsOwnElem}
+use Rattle.go_constructs.specs.Interface.{elems_in}
+use Rattle.go_judge.specs.Types.Own.{IsOwnElem}
 use Rattle.go_expr.proofs.interface.elems_at.Given as goal
 
 -- what is pushed, with the elements left, are all elements

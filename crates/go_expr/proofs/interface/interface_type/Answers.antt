@@ -2,7 +2,7 @@ use Rattle.std.proofs.Common.{List, map, sym, ap, ◌∙◌}
 use Rattle.std.proofs.lemmas.Result.{IfOk-weaker}
 use Rattle.go_tree.specs.Tree.{list_of, parts_of, tree_of}
 use Rattle.go_term.specs.Types.{TypeData, interface_type, of_list}
-use Rattle.go_model.specs.Outcomes.Constructs.Interface.{elems_in}
+use Rattle.go_constructs.specs.Interface.{elems_in}
 use Rattle.go_expr.specs.TypeLiteral.{type_outcome, typed_outcome}
 use Rattle.go_expr.proofs.interface.interface_type.Goals as goal
 

@@ -2,7 +2,7 @@ use Rattle.std.proofs.Common.{◌≡◌, ◌++◌, drop, map}
 use Rattle.std.specs.List.{AllByRecursion}
 use Rattle.go_tree.specs.Tree.{tree_of}
 use Rattle.go_term.specs.Shapes.{union_tree}
-use Rattle.go_model.specs.Outcomes.Constructs.Interface.{terms_in}
+use Rattle.go_constructs.specs.Interface.{terms_in}
 use Rattle.go_expr.proofs.interface.terms_of.Given as goal
 
 -- what is pushed, with the terms left, are all terms

@@ -1,8 +1,8 @@
 use Rattle.std.proofs.Common.{sym, ap, ◌∙◌}
 use Rattle.std.proofs.lemmas.Result.{IfOk-weaker}
-use Rattle.go_model.specs.declared.meaning.Meaning.TheVariants.{Declared}
-use Rattle.go_model.specs.Outcomes.Constructs.Name as spec
-use Rattle.go_model.specs.Outcomes.Judged.{judged}
+use Rattle.go_constructs.specs.declared.meaning.Meaning.TheVariants.{Declared}
+use Rattle.go_constructs.specs.Name as spec
+use Rattle.go_judge.specs.Judged.{judged}
 use Rattle.go_expr.proofs.name.name.Goals as goal
 
 pub returns-in_ok-header-in-Declared-clause-outcome : goal.returns-in_ok-header-in-Declared-clause-outcome

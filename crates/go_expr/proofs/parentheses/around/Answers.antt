@@ -1,9 +1,9 @@
 use Rattle.std.proofs.Common.{◌∷◌, sym, ap, ◌∙◌, subst}
-use Rattle.go_model.specs.Outcomes.Constructs.Parentheses as spec
-use Rattle.go_model.specs.Outcomes.Judged.{Found, judged}
-use Rattle.go_model.specs.Outcomes.View.{outcome_as}
-use Rattle.go_model.specs.Types.Own.{IsOwnOutcome}
-use Rattle.go_model.proofs.OwnDataLemmas.{rec_copied}
+use Rattle.go_constructs.specs.Parentheses as spec
+use Rattle.go_judge.specs.Judged.{Found, judged}
+use Rattle.go_judge.specs.View.{outcome_as}
+use Rattle.go_judge.specs.Types.Own.{IsOwnOutcome}
+use Rattle.go_judge.proofs.OwnDataLemmas.{rec_copied}
 use Rattle.go_expr.proofs.parentheses.around.Goals as goal
 
 pub returns-in_ok-clone-in-Found-clause-outcome : goal.returns-in_ok-clone-in-Found-clause-outcome

@@ -1,10 +1,10 @@
 use Rattle.std.proofs.Common.{drop, map, sym, ap, ◌∙◌, subst}
 use Rattle.std.specs.List.{AllByRecursion}
 use Rattle.std.proofs.lemmas.Result.{IfOk-weaker}
-use Rattle.go_model.specs.Outcomes.Constructs.Parentheses as spec
-use Rattle.go_model.specs.Outcomes.Judged.{judged}
-use Rattle.go_model.specs.Outcomes.View.{outcome_as}
-use Rattle.go_model.specs.Types.Own.{IsOwnOutcome}
+use Rattle.go_constructs.specs.Parentheses as spec
+use Rattle.go_judge.specs.Judged.{judged}
+use Rattle.go_judge.specs.View.{outcome_as}
+use Rattle.go_judge.specs.Types.Own.{IsOwnOutcome}
 use Rattle.go_expr.proofs.NodeOutcomeLemmas.{first_and_rest}
 use Rattle.go_expr.proofs.parentheses.parentheses.Goals as goal
 

@@ -1,9 +1,9 @@
 use Rattle.std.proofs.Common.{drop, map, ap, ◌∙◌}
 use Rattle.std.proofs.lemmas.Result.{IfOk-weaker}
-use Rattle.go_model.specs.declared.meaning.Meaning.TheVariants.{Other}
-use Rattle.go_model.specs.Outcomes.Constructs.Selector as spec
-use Rattle.go_model.specs.Outcomes.Judged.{judged}
-use Rattle.go_model.specs.Outcomes.View.{outcome_as}
+use Rattle.go_constructs.specs.declared.meaning.Meaning.TheVariants.{Other}
+use Rattle.go_constructs.specs.Selector as spec
+use Rattle.go_judge.specs.Judged.{judged}
+use Rattle.go_judge.specs.View.{outcome_as}
 use Rattle.go_expr.proofs.NodeOutcomeLemmas.{first_and_rest}
 use Rattle.go_expr.proofs.selector.of_first.Goals as goal
 

@@ -1,9 +1,9 @@
 use Rattle.std.proofs.Common.{map, sym, ap, ◌∙◌}
 use Rattle.std.proofs.lemmas.Result.{IfOk-weaker}
-use Rattle.go_model.specs.Outcomes.Constructs.Name.{name}
-use Rattle.go_model.specs.Outcomes.Constructs.Selector as spec
-use Rattle.go_model.specs.Outcomes.Judged.{judged}
-use Rattle.go_model.specs.Outcomes.View.{outcome_as}
+use Rattle.go_constructs.specs.Name.{name}
+use Rattle.go_constructs.specs.Selector as spec
+use Rattle.go_judge.specs.Judged.{judged}
+use Rattle.go_judge.specs.View.{outcome_as}
 use Rattle.go_expr.proofs.selector.selector.Goals as goal
 
 pub returns-in-Other-clause-outcome : goal.returns-in-Other-clause-outcome

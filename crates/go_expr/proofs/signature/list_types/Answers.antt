@@ -2,7 +2,7 @@ use Rattle.std.proofs.Common.{map, ap, ◌∙◌}
 use Rattle.std.proofs.lemmas.Result.{IfOk-weaker}
 use Rattle.go_tree.specs.Tree.{kind_of, tree_of}
 use Rattle.go_module.specs.Names.Inner.{is_named_param}
-use Rattle.go_model.specs.Outcomes.Signatures.{param_types}
+use Rattle.go_constructs.specs.Signatures.{param_types}
 use Rattle.go_expr.proofs.SignatureLemmas.{any-trees}
 use Rattle.go_expr.proofs.signature.list_types.Goals as goal
 

@@ -1,7 +1,7 @@
 use Rattle.std.proofs.Common.{◌≡◌, ◌++◌, drop, map}
 use Rattle.std.specs.List.{AllByRecursion}
 use Rattle.go_tree.specs.Tree.{tree_of}
-use Rattle.go_model.specs.Outcomes.Signatures.{param_types}
+use Rattle.go_constructs.specs.Signatures.{param_types}
 use Rattle.go_expr.proofs.signature.param_types.Given as goal
 
 -- what is pushed, with the types of the parameters left, are all types

@@ -3,7 +3,7 @@ use Rattle.std.specs.List.{list_any}
 use Rattle.std.proofs.lemmas.List.{length-map}
 use Rattle.go_tree.specs.Tree.{kind_of, list_of, parts_of, tree_of}
 use Rattle.go_operands.specs.Operands.{operands_of}
-use Rattle.go_model.specs.Outcomes.Signatures.{is_dotted, many_params}
+use Rattle.go_constructs.specs.Signatures.{is_dotted, many_params}
 use Rattle.go_expr.proofs.SignatureLemmas.{any-trees, signature-parts}
 use Rattle.go_expr.proofs.signature.signature_of.Goals as goal
 

@@ -1,7 +1,7 @@
 use Rattle.std.proofs.Common.{◌≡◌, ◌++◌, drop, map}
 use Rattle.go_tree.specs.Tree.{tree_of}
 use Rattle.go_term.specs.Shapes.{field_tree}
-use Rattle.go_model.specs.Outcomes.Constructs.Struct.{field_by}
+use Rattle.go_constructs.specs.Struct.{field_by}
 use Rattle.go_names.specs.Views.{trees_at}
 use Rattle.go_expr.specs.Elements.{AreOwnFields}
 use Rattle.go_expr.proofs.struct_type.push_fields.Given as goal

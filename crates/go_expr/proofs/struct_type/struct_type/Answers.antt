@@ -2,7 +2,7 @@ use Rattle.std.proofs.Common.{List, map, sym, ap, ◌∙◌}
 use Rattle.std.proofs.lemmas.Result.{IfOk-weaker}
 use Rattle.go_tree.specs.Tree.{list_of, parts_of, tree_of}
 use Rattle.go_term.specs.Types.{TypeData, struct_type, of_list}
-use Rattle.go_model.specs.Outcomes.Constructs.Struct.{fields_in}
+use Rattle.go_constructs.specs.Struct.{fields_in}
 use Rattle.go_expr.specs.TypeLiteral.{type_outcome, typed_outcome}
 use Rattle.go_expr.proofs.struct_type.struct_type.Goals as goal
 

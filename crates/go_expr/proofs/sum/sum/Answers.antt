@@ -2,10 +2,10 @@ use Rattle.std.proofs.Common.{◌<◌, drop, length, map, sym, ap, ◌∙◌, su
 use Rattle.std.specs.List.{AllByRecursion}
 use Rattle.std.proofs.lemmas.List.{length-map}
 use Rattle.std.proofs.lemmas.Result.{IfOk-weaker}
-use Rattle.go_model.specs.Outcomes.Constructs.Sum as spec
-use Rattle.go_model.specs.Outcomes.Judged.{judged}
-use Rattle.go_model.specs.Outcomes.View.{outcome_as}
-use Rattle.go_model.specs.Types.Own.{IsOwnOutcome}
+use Rattle.go_constructs.specs.Sum as spec
+use Rattle.go_judge.specs.Judged.{judged}
+use Rattle.go_judge.specs.View.{outcome_as}
+use Rattle.go_judge.specs.Types.Own.{IsOwnOutcome}
 use Rattle.go_expr.proofs.NodeOutcomeLemmas.{sum_of_few, two_and_rest}
 use Rattle.go_expr.proofs.sum.sum.Goals as goal
 

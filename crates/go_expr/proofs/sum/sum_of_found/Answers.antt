@@ -1,9 +1,9 @@
 use Rattle.std.proofs.Common.{◌∷◌, sym, ap, ◌∙◌}
 use Rattle.std.proofs.lemmas.Result.{IfOk-weaker}
-use Rattle.go_model.specs.Outcomes.Constructs.Sum as spec
-use Rattle.go_model.specs.Outcomes.Judged.{Found, judged}
-use Rattle.go_model.specs.Outcomes.Records.{rec_as}
-use Rattle.go_model.specs.Outcomes.View.{outcome_as}
+use Rattle.go_constructs.specs.Sum as spec
+use Rattle.go_judge.specs.Judged.{Found, judged}
+use Rattle.go_judge.specs.Records.{rec_as}
+use Rattle.go_judge.specs.View.{outcome_as}
 use Rattle.go_expr.proofs.sum.sum_of_found.Goals as goal
 
 pub returns-in-Found-clause-outcome : goal.returns-in-Found-clause-outcome

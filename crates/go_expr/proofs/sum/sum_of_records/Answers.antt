@@ -1,7 +1,7 @@
 use Rattle.std.proofs.Common.{◌∙◌}
 use Rattle.std.proofs.lemmas.Result.{IfOk-weaker}
-use Rattle.go_model.specs.Outcomes.Records.{rec_as}
-use Rattle.go_model.proofs.OwnDataLemmas.{rec_agrees}
+use Rattle.go_judge.specs.Records.{rec_as}
+use Rattle.go_judge.proofs.OwnDataLemmas.{rec_agrees}
 use Rattle.go_expr.specs.Outcomes.{operand_in, sum_by_kinds}
 use Rattle.go_expr.proofs.NodeOutcomeLemmas.{sum_of_records}
 use Rattle.go_expr.proofs.sum.sum_of_records.Goals as goal

@@ -1,8 +1,8 @@
 use Rattle.std.proofs.Common.{◌≡◌, None, length, map, sym, ap, ◌∙◌, arith}
 use Rattle.std.proofs.lemmas.Bool.Decides.{nat_tests}
-use Rattle.go_model.specs.Outcomes.Constructs.Kinds.{no_type}
-use Rattle.go_model.specs.Outcomes.Judged.{rule_end, ruled}
-use Rattle.go_model.specs.Outcomes.Operands.{type_or_none}
+use Rattle.go_judge.specs.Kinds.{no_type}
+use Rattle.go_judge.specs.Judged.{rule_end, ruled}
+use Rattle.go_judge.specs.Operands.{type_or_none}
 use Rattle.go_expr.specs.Given.{recs_as}
 use Rattle.go_expr.specs.TypeLiteral.{type_outcome}
 use Rattle.go_expr.proofs.TypedLemmas.{by-spots, no-items, some-spots, types-are}

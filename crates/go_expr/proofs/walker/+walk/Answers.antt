@@ -5,15 +5,14 @@ use Rattle.std.proofs.lemmas.List.{length-map, reverse-reverse}
 use Rattle.std.proofs.lemmas.Result.{IfOk-weaker, on_err_weaker}
 use Rattle.go_tree.specs.declared.node.Node.{Node}
 use Rattle.go_tree.specs.Tree.{tree_of}
-use Rattle.go_operands.specs.Operands.{operands_of}
-use Rattle.go_operands.specs.Operands.{expressions_in}
-use Rattle.go_model.specs.Outcomes.Judged.{judged}
+use Rattle.go_operands.specs.Operands.{operands_of, expressions_in}
+use Rattle.go_judge.specs.Judged.{judged}
 use Rattle.go_model.specs.Outcomes.Walk.{construct, outcome}
-use Rattle.go_model.specs.Outcomes.View.{outcome_as}
-use Rattle.go_model.specs.Types.Own.{IsOwnOutcome}
-use Rattle.go_model.specs.Values.Meaning.{AreThere}
+use Rattle.go_judge.specs.View.{outcome_as}
+use Rattle.go_judge.specs.Types.Own.{IsOwnOutcome}
+use Rattle.go_judge.specs.Naming.{AreThere}
 use Rattle.go_model.proofs.OutcomeLemmas.{outcome-operands}
-use Rattle.go_model.proofs.OwnLemmas.{keeps_then}
+use Rattle.go_judge.proofs.OwnLemmas.{keeps_then}
 use Rattle.go_model.proofs.WalkedLemmas.{partly_walked}
 use Rattle.go_operands.proofs.OperandLemmas.{operand_part_smaller}
 use Rattle.go_names.specs.Views.{trees_at}

@@ -3,9 +3,9 @@ use Rattle.std.specs.Prelude.{◌==◌, if◌then◌else◌}
 use Rattle.std.specs.Map.{lookup}
 use Rattle.go_module.specs.Scopes.{same_node}
 use Rattle.go_tree.specs.Tree.{tree_of}
-use Rattle.go_model.specs.Outcomes.View.{outcome_as}
-use Rattle.go_model.proofs.EntryLemmas.{entry_behind_node}
-use Rattle.go_model.proofs.OwnDataLemmas.{outcome_copied}
+use Rattle.go_judge.specs.View.{outcome_as}
+use Rattle.go_judge.proofs.EntryLemmas.{entry_behind_node}
+use Rattle.go_judge.proofs.OwnDataLemmas.{outcome_copied}
 use Rattle.go_expr.specs.Walker.{outcomes_as}
 use Rattle.go_expr.proofs.OwnOutcomesLemmas.{outcomes_entered, own_entered}
 use Rattle.go_expr.proofs.WalkerLemmas.{told_at}

@@ -2,13 +2,13 @@ use Rattle.std.proofs.Common.{map, refl, sym, ap, ◌∙◌}
 use Rattle.std.proofs.lemmas.Result.{IfOk-weaker}
 use Rattle.go_tree.specs.declared.node_kind.NodeKind.TheVariants.{AddExpr, IntLit, ParenExpr, SelectorExpr}
 use Rattle.go_tree.specs.Tree.{more_trees, no_trees, parts_of, tree_of}
-use Rattle.go_model.specs.Outcomes.Constructs.Channel.{channel}
-use Rattle.go_model.specs.Outcomes.Constructs.Literal.{literal}
-use Rattle.go_model.specs.Outcomes.Constructs.Selector.{selector}
-use Rattle.go_model.specs.Outcomes.Judged.{judged}
-use Rattle.go_model.specs.Outcomes.View.{outcome_as}
+use Rattle.go_constructs.specs.Channel.{channel}
+use Rattle.go_constructs.specs.Literal.{literal}
+use Rattle.go_constructs.specs.Selector.{selector}
+use Rattle.go_judge.specs.Judged.{judged}
+use Rattle.go_judge.specs.View.{outcome_as}
 use Rattle.go_model.specs.Outcomes.Walk.{construct}
-use Rattle.go_model.specs.Values.Meaning.{meaning_by}
+use Rattle.go_constructs.specs.Meaning.{meaning_by}
 use Rattle.go_expr.proofs.NodeOutcomeLemmas.{at_chan, node_is}
 use Rattle.go_expr.proofs.walker.step.Goals as goal
 

@@ -3,7 +3,7 @@ use Rattle.std.specs.Prelude.{◌==◌, if◌then◌else◌}
 use Rattle.std.specs.Option.{option_map}
 use Rattle.std.proofs.lemmas.Result.{IfOk-weaker, on_err_weaker}
 use Rattle.go_tree.specs.Tree.{id_of, tree_of}
-use Rattle.go_model.specs.Outcomes.View.{outcome_as}
+use Rattle.go_judge.specs.View.{outcome_as}
 use Rattle.go_expr.proofs.OwnOutcomesLemmas.{outcomes_agree, outcomes_stay_own}
 use Rattle.go_expr.proofs.ResultLemmas.{on_err}
 use Rattle.go_expr.proofs.walker.step_and_keep.Goals as goal

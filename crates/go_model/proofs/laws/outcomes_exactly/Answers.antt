@@ -1,4 +1,4 @@
-use Rattle.go_model.proofs.ExactWaitLemmas.{outcome_exactly}
+use Rattle.go_model.proofs.OutcomeExactLemmas.{outcome_exactly}
 use Rattle.go_model.proofs.laws.outcomes_exactly.Goals as goal
 
 pub returns : goal.returns

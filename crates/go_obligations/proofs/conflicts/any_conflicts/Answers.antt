@@ -1,6 +1,6 @@
 use Rattle.std.proofs.Common.{true, false, refl, sym, subst, true≢false, arith, below_more}
 use Rattle.go_obligations.specs.Conflicts.{ConflictsAt, differ}
-use Rattle.go_model.proofs.OwnLemmas.{keeps_then}
+use Rattle.go_judge.proofs.OwnLemmas.{keeps_then}
 use Rattle.go_obligations.proofs.ConflictLemmas.{at_kept, conflict_found, conflict_none}
 use Rattle.go_obligations.proofs.conflicts.any_conflicts.Goals as goal
 

@@ -1,5 +1,5 @@
 use Rattle.std.proofs.Common.{ℕ, ◌<◌, false}
-use Rattle.go_model.specs.Types.Own.{Keeps}
+use Rattle.go_judge.specs.Types.Own.{Keeps}
 use Rattle.go_obligations.specs.Conflicts.{ConflictsAt, differ}
 use Rattle.go_obligations.specs.Methods.{AreOwnMethods}
 use Rattle.go_obligations.proofs.conflicts.any_conflicts.Given as goal

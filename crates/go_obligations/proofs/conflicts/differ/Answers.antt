@@ -1,5 +1,5 @@
 use Rattle.std.proofs.Common.{ap, sym, ◌∙◌}
-use Rattle.go_model.specs.Types.Forms.{answer_as}
+use Rattle.go_judge.specs.Types.Forms.{answer_as}
 use Rattle.go_obligations.specs.Conflicts.{is_no}
 use Rattle.go_obligations.proofs.conflicts.differ.Goals as goal
 

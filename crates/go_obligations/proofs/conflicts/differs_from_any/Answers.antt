@@ -1,5 +1,5 @@
 use Rattle.std.proofs.Common.{false, sym, ◌∙◌}
-use Rattle.go_model.proofs.OwnLemmas.{keeps_then}
+use Rattle.go_judge.proofs.OwnLemmas.{keeps_then}
 use Rattle.go_obligations.proofs.ConflictLemmas.{others_left, others_step}
 use Rattle.go_obligations.proofs.conflicts.differs_from_any.Goals as goal
 

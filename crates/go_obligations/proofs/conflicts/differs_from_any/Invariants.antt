@@ -1,5 +1,5 @@
 use Rattle.std.proofs.Common.{◌≡◌, drop}
-use Rattle.go_model.specs.Types.Own.{Keeps}
+use Rattle.go_judge.specs.Types.Own.{Keeps}
 use Rattle.go_obligations.specs.Conflicts.{differ, differs_from_any}
 use Rattle.go_obligations.specs.Methods.{AreOwnMethods}
 use Rattle.go_obligations.proofs.conflicts.differs_from_any.Given as goal

@@ -1,7 +1,7 @@
 use Rattle.std.proofs.Common.{List, subst}
 use Rattle.std.specs.Prelude.{◌≡◌, ◌↔◌, true}
 use Rattle.std.proofs.lemmas.Result.{IfOk-weaker}
-use Rattle.go_model.specs.Outcomes.Walk.{Headers}
+use Rattle.go_judge.specs.Headers.{Headers}
 use Rattle.go_obligations.specs.Conflicts.{AreInConflict, differ}
 use Rattle.go_obligations.specs.declared.methods.Method.{Method}
 use Rattle.go_obligations.proofs.ConflictLemmas.{gets_two}

@@ -1,7 +1,7 @@
 use Rattle.std.proofs.Common.{◌≡◌, drop, map}
 use Rattle.std.specs.List.{list_any}
 use Rattle.go_model.specs.Obligations.Constraints.{adds_terms}
-use Rattle.go_model.specs.Types.Own.{Keeps}
+use Rattle.go_judge.specs.Types.Own.{Keeps}
 use Rattle.go_obligations.proofs.constraint.any_adds_terms.Given as goal
 
 -- whether one of those left does is whether one of all does

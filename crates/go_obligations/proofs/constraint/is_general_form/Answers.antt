@@ -1,7 +1,7 @@
 use Rattle.std.proofs.Common.{◌≡◌, true, sym, subst}
 use Rattle.std.proofs.lemmas.Result.{IfOk-weaker}
 use Rattle.std.specs.Prelude.{◌↔◌}
-use Rattle.go_model.specs.declared.form.Form.{Form}
+use Rattle.go_judge.specs.declared.form.Form.{Form}
 use Rattle.go_obligations.specs.ConstraintParts.{IsGeneralForm}
 use Rattle.go_obligations.proofs.constraint.is_general_form.Goals as goal
 

@@ -1,6 +1,6 @@
 use Rattle.std.proofs.Common.{◌<◌, ◌≤◌, length, map, refl, arith}
 use Rattle.std.proofs.lemmas.List.{length-map}
-use Rattle.go_model.proofs.OwnLemmas.{keeps_then, stays}
+use Rattle.go_judge.proofs.OwnLemmas.{keeps_then, stays}
 use Rattle.go_obligations.specs.EmbeddedSearch.{is_opened}
 use Rattle.go_obligations.proofs.ListLemmas.{at-place}
 use Rattle.go_obligations.proofs.SearchLemmas.{begins_searched, opens_moved, search_begins, search_ends, search_goes_on}

@@ -1,5 +1,5 @@
 use Rattle.std.proofs.Common.{◌-◌, ◌^◌, map}
-use Rattle.go_model.specs.Types.Own.{Keeps}
+use Rattle.go_judge.specs.Types.Own.{Keeps}
 use Rattle.go_obligations.specs.EmbeddedSearch.{IsSearch, IsSearched, is_opened}
 use Rattle.go_obligations.proofs.embedded.embedded_types.Given as goal
 

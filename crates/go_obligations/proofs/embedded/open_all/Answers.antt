@@ -1,6 +1,6 @@
 use Rattle.std.proofs.Common.{List, [], ◌∷◌, map, refl, ap, subst}
 use Rattle.go_term.specs.Types.{TypeData}
-use Rattle.go_model.proofs.OwnLemmas.{keeps_then}
+use Rattle.go_judge.proofs.OwnLemmas.{keeps_then}
 use Rattle.go_obligations.specs.EmbeddedSearch.{Opens}
 use Rattle.go_obligations.proofs.ListLemmas.{all-item, taken-more}
 use Rattle.go_obligations.proofs.SearchLemmas.{opens_moved, opens_then}

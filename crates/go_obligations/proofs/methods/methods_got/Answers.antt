@@ -3,7 +3,7 @@ use Rattle.std.specs.Prelude.{◌↔◌}
 use Rattle.std.proofs.lemmas.Result.{IfOk-weaker}
 use Rattle.go_term.specs.Types.{TypeData}
 use Rattle.go_model.specs.Obligations.Methods.{Gets}
-use Rattle.go_model.specs.Outcomes.Walk.{Headers}
+use Rattle.go_judge.specs.Headers.{Headers}
 use Rattle.go_obligations.specs.Methods.{method_view}
 use Rattle.go_obligations.proofs.methods.methods_got.Goals as goal
 

@@ -1,7 +1,7 @@
 use Rattle.std.proofs.Common.{◌≡◌, ◌++◌, drop, map}
 use Rattle.std.specs.List.{AllByRecursion, flat_map}
 use Rattle.go_model.specs.Obligations.Methods.{methods_in}
-use Rattle.go_model.specs.Types.Own.{Keeps}
+use Rattle.go_judge.specs.Types.Own.{Keeps}
 use Rattle.go_obligations.specs.Methods.{AreOwnMethods, method_view}
 use Rattle.go_obligations.proofs.methods.methods_of_all.Given as goal
 

@@ -1,4 +1,4 @@
-use Rattle.go_model.proofs.OwnLemmas.{keeps_then}
+use Rattle.go_judge.proofs.OwnLemmas.{keeps_then}
 use Rattle.go_obligations.proofs.MethodLemmas.{elems_left, elems_step}
 use Rattle.go_obligations.proofs.methods.push_each.Goals as goal
 

@@ -3,7 +3,7 @@ use Rattle.std.specs.List.{AllByRecursion, flat_map}
 use Rattle.std.specs.Vec.Iter.{into_iter_items}
 use Rattle.go_term.specs.Shapes.{elem_tree}
 use Rattle.go_model.specs.Obligations.Methods.{method_in}
-use Rattle.go_model.specs.Types.Own.{IsOwnElem, Keeps}
+use Rattle.go_judge.specs.Types.Own.{IsOwnElem, Keeps}
 use Rattle.go_obligations.specs.Methods.{AreOwnMethods, method_view}
 use Rattle.go_obligations.proofs.methods.push_each.Given as goal
 

@@ -3,7 +3,7 @@ use Rattle.std.specs.List.{AllByRecursion, flat_map}
 use Rattle.std.proofs.lemmas.Result.{on_ok_weaker}
 use Rattle.go_term.specs.Shapes.{elem_tree}
 use Rattle.go_model.specs.Obligations.Methods.{method_in}
-use Rattle.go_model.specs.Types.Own.{IsOwnElem}
+use Rattle.go_judge.specs.Types.Own.{IsOwnElem}
 use Rattle.go_obligations.specs.Methods.{method_view}
 use Rattle.go_obligations.proofs.MethodLemmas.{elements_owned, methods_in_shape}
 use Rattle.go_obligations.proofs.methods.push_methods_at.Goals as goal

@@ -1,7 +1,7 @@
 use Rattle.std.proofs.Common.{◌≡◌, [], inl, drop, ap, arith, subst, sym}
 use Rattle.std.proofs.lemmas.List.{drop_all}
-use Rattle.go_model.specs.Outcomes.Walk.{Headers}
-use Rattle.go_model.proofs.OwnLemmas.{keeps_then}
+use Rattle.go_judge.specs.Headers.{Headers}
+use Rattle.go_judge.proofs.OwnLemmas.{keeps_then}
 use Rattle.go_obligations.specs.Answers.{AreAnswers}
 use Rattle.go_obligations.specs.Owed.{IsTold, owed_view}
 use Rattle.go_obligations.proofs.OwedLemmas.{later_own, told_end, told_next}

@@ -1,7 +1,7 @@
 use Rattle.std.proofs.Common.{◌⊎◌, drop}
 use Rattle.std.specs.Prelude.{◌↔◌, Contains}
 use Rattle.go_base.specs.declared.rule.Broken.{Broken}
-use Rattle.go_model.specs.Types.Own.{Keeps}
+use Rattle.go_judge.specs.Types.Own.{Keeps}
 use Rattle.go_obligations.specs.Answers.{AreAnswers}
 use Rattle.go_obligations.specs.Owed.{AreOwnObligations, IsTold, owed_view}
 use Rattle.go_obligations.proofs.obligation.broken_of.Given as goal

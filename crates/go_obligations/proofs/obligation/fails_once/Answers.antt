@@ -2,7 +2,7 @@ use Rattle.std.proofs.Common.{sym, subst}
 use Rattle.std.proofs.lemmas.Result.{IfOk-weaker, on_ok_weaker}
 use Rattle.std.specs.Prelude.{IfSome}
 use Rattle.go_term.specs.Types.{TypeData}
-use Rattle.go_model.specs.Outcomes.Walk.{Headers}
+use Rattle.go_judge.specs.Headers.{Headers}
 use Rattle.go_obligations.specs.Answers.{AreAnswers, IsKeyOf}
 use Rattle.go_obligations.proofs.AnswerLemmas.{fails_moved}
 use Rattle.go_obligations.proofs.obligation.fails_once.Goals as goal

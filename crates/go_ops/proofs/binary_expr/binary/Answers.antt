@@ -1,7 +1,7 @@
 use Rattle.std.proofs.Common.{sym, subst}
 use Rattle.std.proofs.lemmas.Result.{IfOk-weaker}
-use Rattle.go_model.specs.Outcomes.Records.{rec_as}
-use Rattle.go_ops.specs.Honest.{GivesHonest}
+use Rattle.go_judge.specs.Records.{rec_as}
+use Rattle.go_constructs.specs.Operators.Honest.{GivesHonest}
 use Rattle.go_ops.proofs.HonestLemmas.{binary-honest}
 use Rattle.go_ops.proofs.binary_expr.binary.Goals as goal
 

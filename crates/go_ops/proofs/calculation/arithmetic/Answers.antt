@@ -1,6 +1,6 @@
 use Rattle.std.proofs.Common.{◌∙◌}
-use Rattle.go_ops.specs.Operators.{of_values}
-use Rattle.go_ops.specs.declared.operator.Operation.TheVariants.{Arithmetic}
+use Rattle.go_constructs.specs.Operators.Operations.{of_values}
+use Rattle.go_constructs.specs.declared.operator.Operation.TheVariants.{Arithmetic}
 use Rattle.go_ops.proofs.CalculationLemmas.{nothing-given, text-integer, text-truth}
 use Rattle.go_ops.proofs.calculation.arithmetic.Goals as goal
 

@@ -2,7 +2,7 @@ use Rattle.std.proofs.Common.{Option, ◌∙◌, subst}
 use Rattle.std.proofs.lemmas.Result.{IfOk-weaker}
 use Rattle.go_num.specs.declared.value.Value.{Value}
 use Rattle.go_term.specs.View.{type_of}
-use Rattle.go_model.specs.Outcomes.Records.{rec_view}
+use Rattle.go_judge.specs.Records.{rec_view}
 use Rattle.go_ops.specs.Limited.{IsGiven}
 use Rattle.go_ops.specs.Stages.{both_divide, both_of, fit_of_values, value_of_values}
 use Rattle.go_ops.proofs.CalculationLemmas.{quotient-there}

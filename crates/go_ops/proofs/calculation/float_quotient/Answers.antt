@@ -6,8 +6,8 @@ use Rattle.go_num.specs.Arithmetic.{is_zero}
 use Rattle.go_num.specs.declared.value.Value.{Value}
 use Rattle.go_num.specs.declared.value.Value.TheVariants.{Int}
 use Rattle.go_ops.specs.Limited.{IsGiven}
-use Rattle.go_ops.specs.Operators.{fit_found}
-use Rattle.go_ops.specs.declared.sort.Sort.TheVariants.{Float}
+use Rattle.go_constructs.specs.Operators.Operations.{fit_found}
+use Rattle.go_constructs.specs.declared.sort.Sort.TheVariants.{Float}
 use Rattle.go_ops.proofs.calculation.float_quotient.Goals as goal
 
 pub returns-else-divides : goal.returns-else-divides

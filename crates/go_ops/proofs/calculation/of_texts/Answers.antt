@@ -1,5 +1,5 @@
-use Rattle.go_ops.specs.Operators.{of_values}
-use Rattle.go_ops.specs.declared.operator.Operation.TheVariants.{Arithmetic}
+use Rattle.go_constructs.specs.Operators.Operations.{of_values}
+use Rattle.go_constructs.specs.declared.operator.Operation.TheVariants.{Arithmetic}
 use Rattle.go_ops.proofs.CalculationLemmas.{nothing-given}
 use Rattle.go_num.specs.declared.value.Value.TheVariants.{Text}
 use Rattle.go_ops.proofs.calculation.of_texts.Goals as goal

@@ -1,9 +1,9 @@
 use Rattle.std.proofs.Common.{Some, sym, ap, ◌∙◌}
 use Rattle.std.proofs.lemmas.Result.{IfOk-weaker}
-use Rattle.go_model.specs.Outcomes.Judged.{asked}
-use Rattle.go_model.specs.Outcomes.Records.{rec_as}
-use Rattle.go_model.specs.Outcomes.View.{outcome_as}
-use Rattle.go_model.proofs.OwnDataLemmas.{rec_agrees}
+use Rattle.go_judge.specs.Judged.{asked}
+use Rattle.go_judge.specs.Records.{rec_as}
+use Rattle.go_judge.specs.View.{outcome_as}
+use Rattle.go_judge.proofs.OwnDataLemmas.{rec_agrees}
 use Rattle.go_ops.specs.Sources.{read_asks}
 use Rattle.go_ops.specs.declared.source.Source.TheVariants.{Channel}
 use Rattle.go_ops.specs.Refusals.{refusal_as}

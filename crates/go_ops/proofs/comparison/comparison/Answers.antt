@@ -1,8 +1,8 @@
 use Rattle.std.proofs.Common.{◌≡◌, ◌&&◌, true, false, sym, ◌∙◌}
 use Rattle.std.proofs.lemmas.Result.{IfOk-weaker}
-use Rattle.go_model.specs.Outcomes.Records.{rec_as}
-use Rattle.go_model.specs.Outcomes.View.{outcome_as}
-use Rattle.go_ops.specs.Comparisons.{is_constant_or_no_value}
+use Rattle.go_judge.specs.Records.{rec_as}
+use Rattle.go_judge.specs.View.{outcome_as}
+use Rattle.go_constructs.specs.Operators.Comparisons.{is_constant_or_no_value}
 use Rattle.go_ops.proofs.ComparisonLemmas.{comparison-told}
 use Rattle.go_ops.proofs.comparison.comparison.Goals as goal
 

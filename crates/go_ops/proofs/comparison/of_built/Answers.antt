@@ -1,11 +1,11 @@
 use Rattle.std.proofs.Common.{◌≡◌, None, sym, ap, ◌∙◌}
 use Rattle.std.proofs.lemmas.Result.{IfOk-weaker}
-use Rattle.go_model.specs.Outcomes.Records.{rec_as}
-use Rattle.go_model.specs.Values.Quests.{run}
-use Rattle.go_model.proofs.OwnDataLemmas.{rec_agrees}
+use Rattle.go_judge.specs.Records.{rec_as}
+use Rattle.go_judge.specs.Quests.{run}
+use Rattle.go_judge.proofs.OwnDataLemmas.{rec_agrees}
 use Rattle.go_ops.specs.ComparisonStages.{built_comparison, values_comparison}
 use Rattle.go_ops.specs.Refusals.{or_later, refusal_as, two_refused}
-use Rattle.go_ops.specs.Sorts.{sorts_of}
+use Rattle.go_constructs.specs.Operators.Sorts.{sorts_of}
 use Rattle.go_ops.proofs.comparison.of_built.Goals as goal
 
 pub returns-in-None-clause-outcome : goal.returns-in-None-clause-outcome

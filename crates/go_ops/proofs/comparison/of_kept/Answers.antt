@@ -1,8 +1,8 @@
 use Rattle.std.proofs.Common.{None, ap, ◌∙◌}
 use Rattle.go_term.specs.View.{type_of}
-use Rattle.go_model.specs.Outcomes.Judged.{Found}
+use Rattle.go_judge.specs.Judged.{Found}
 use Rattle.go_ops.specs.ComparisonStages.{compared_both}
-use Rattle.go_ops.specs.Constants.{record_of}
+use Rattle.go_constructs.specs.Operators.Constants.{record_of}
 use Rattle.go_ops.proofs.comparison.of_kept.Goals as goal
 
 pub returns-clause-outcome : goal.returns-clause-outcome

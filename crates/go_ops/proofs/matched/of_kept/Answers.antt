@@ -2,10 +2,10 @@ use Rattle.std.proofs.Common.{None, Some, sym, ap, ◌∙◌}
 use Rattle.std.proofs.lemmas.Result.{IfOk-weaker}
 use Rattle.go_num.specs.declared.value.NumKind.{NumKind}
 use Rattle.go_term.specs.Types.{TypeData, basic_type}
-use Rattle.go_model.specs.Outcomes.Records.{rec_as}
+use Rattle.go_judge.specs.Records.{rec_as}
 use Rattle.go_ops.specs.Limited.{limited_outcome}
-use Rattle.go_ops.specs.Matching.{common_sort, untyped_basic}
-use Rattle.go_ops.specs.Operators.{fit_of_both, value_of}
+use Rattle.go_constructs.specs.Operators.Matching.{common_sort, untyped_basic}
+use Rattle.go_constructs.specs.Operators.Operations.{fit_of_both, value_of}
 use Rattle.go_ops.proofs.MatchingLemmas.{type-by}
 use Rattle.go_ops.proofs.matched.of_kept.Goals as goal
 

@@ -3,8 +3,8 @@ use Rattle.std.specs.Prelude.{IfSome}
 use Rattle.std.specs.Option.{option_map}
 use Rattle.go_term.specs.Types.{TypeData, list, of_list}
 use Rattle.go_term.specs.declared.term.Term.{Term}
-use Rattle.go_model.specs.Types.TypeIdentity.{identical}
-use Rattle.go_model.specs.Values.Quests.{run}
+use Rattle.go_judge.specs.Types.TypeIdentity.{identical}
+use Rattle.go_judge.specs.Quests.{run}
 use Rattle.go_ops.specs.Stages.{type_there}
 use Rattle.go_ops.proofs.NoTypeLemmas.{none-none, none-typed, typed-none}
 use Rattle.go_ops.proofs.matching.identical.Goals as goal

@@ -1,7 +1,7 @@
 use Rattle.std.proofs.Common.{◌≡◌, None, sym, ap, ◌∙◌}
 use Rattle.std.proofs.lemmas.Result.{IfOk-weaker}
-use Rattle.go_model.specs.Outcomes.Records.{rec_as}
-use Rattle.go_model.proofs.OwnDataLemmas.{rec_agrees}
+use Rattle.go_judge.specs.Records.{rec_as}
+use Rattle.go_judge.proofs.OwnDataLemmas.{rec_agrees}
 use Rattle.go_ops.specs.Refusals.{or_later, refusal_as, two_refused}
 use Rattle.go_ops.specs.Stages.{built_outcome, values_outcome}
 use Rattle.go_ops.proofs.operation.of_built.Goals as goal

@@ -1,11 +1,11 @@
 use Rattle.std.proofs.Common.{◌≡◌, true, false, sym, ◌∙◌}
 use Rattle.std.proofs.lemmas.Result.{IfOk-weaker}
 use Rattle.go_module.specs.Rules.{unbuilt_form}
-use Rattle.go_model.specs.Outcomes.Records.{rec_as}
-use Rattle.go_model.specs.Values.Quests.{run}
-use Rattle.go_ops.specs.Operators.{is_built}
+use Rattle.go_judge.specs.Records.{rec_as}
+use Rattle.go_judge.specs.Quests.{run}
+use Rattle.go_constructs.specs.Operators.Operations.{is_built}
 use Rattle.go_ops.specs.Refusals.{by_whole}
-use Rattle.go_ops.specs.Sorts.{sort_in}
+use Rattle.go_constructs.specs.Operators.Sorts.{sort_in}
 use Rattle.go_ops.specs.Stages.{first_outcome, second_outcome}
 use Rattle.go_ops.proofs.operation.of_first.Goals as goal
 

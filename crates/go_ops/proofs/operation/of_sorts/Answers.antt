@@ -1,8 +1,8 @@
 use Rattle.std.proofs.Common.{◌≡◌, true, false, sym, ◌∙◌}
 use Rattle.std.proofs.lemmas.Result.{IfOk-weaker}
 use Rattle.go_module.specs.Rules.{unbuilt_form}
-use Rattle.go_model.specs.Outcomes.Records.{rec_as}
-use Rattle.go_ops.specs.Operators.{is_built}
+use Rattle.go_judge.specs.Records.{rec_as}
+use Rattle.go_constructs.specs.Operators.Operations.{is_built}
 use Rattle.go_ops.specs.Refusals.{by_whole}
 use Rattle.go_ops.specs.Stages.{built_outcome, second_outcome}
 use Rattle.go_ops.proofs.operation.of_sorts.Goals as goal

@@ -1,11 +1,11 @@
 use Rattle.std.proofs.Common.{◌≡◌, true, sym, ap, ◌∙◌}
 use Rattle.std.proofs.lemmas.Result.{IfOk-weaker}
-use Rattle.go_model.specs.Outcomes.Records.{rec_as}
-use Rattle.go_model.specs.Outcomes.View.{outcome_as}
-use Rattle.go_model.specs.Types.Forms.{answer_as}
-use Rattle.go_model.specs.Values.Quests.{Decided, run}
-use Rattle.go_model.proofs.OwnDataLemmas.{rec_agrees}
-use Rattle.go_ops.specs.Matching.{match_by}
+use Rattle.go_judge.specs.Records.{rec_as}
+use Rattle.go_judge.specs.View.{outcome_as}
+use Rattle.go_judge.specs.Types.Forms.{answer_as}
+use Rattle.go_judge.specs.Quests.{Decided, run}
+use Rattle.go_judge.proofs.OwnDataLemmas.{rec_agrees}
+use Rattle.go_constructs.specs.Operators.Matching.{match_by}
 use Rattle.go_ops.specs.Stages.{matched_outcome}
 use Rattle.go_ops.proofs.OperationLemmas.{values-yes}
 use Rattle.go_ops.proofs.operation.of_values.Goals as goal

@@ -1,11 +1,11 @@
 use Rattle.std.proofs.Common.{◌≡◌, sym, ap, ◌∙◌}
 use Rattle.std.proofs.lemmas.Result.{IfOk-weaker}
-use Rattle.go_model.specs.Outcomes.Records.{rec_as}
-use Rattle.go_model.specs.Outcomes.View.{outcome_as}
-use Rattle.go_model.specs.Values.Quests.{Decided, run}
-use Rattle.go_model.proofs.OwnDataLemmas.{rec_agrees}
+use Rattle.go_judge.specs.Records.{rec_as}
+use Rattle.go_judge.specs.View.{outcome_as}
+use Rattle.go_judge.specs.Quests.{Decided, run}
+use Rattle.go_judge.proofs.OwnDataLemmas.{rec_agrees}
 use Rattle.go_ops.specs.AskedSorts.{sort_as}
-use Rattle.go_ops.specs.Sorts.{sort_in}
+use Rattle.go_constructs.specs.Operators.Sorts.{sort_in}
 use Rattle.go_ops.specs.Stages.{first_outcome}
 use Rattle.go_ops.proofs.OperationLemmas.{operation-told, operation-waits}
 use Rattle.go_ops.proofs.ReadyLemmas.{are-of}

@@ -1,9 +1,9 @@
 use Rattle.std.proofs.Common.{sym, ap, ◌∙◌}
-use Rattle.go_model.specs.Values.Quests.{Decided, Done}
-use Rattle.go_model.proofs.QuestLemmas.{run-then, run-then-Lacks}
+use Rattle.go_judge.specs.Quests.{Decided, Done}
+use Rattle.go_judge.proofs.QuestLemmas.{run-then, run-then-Lacks}
 use Rattle.go_ops.specs.AskedSorts.{sort_as}
-use Rattle.go_ops.specs.Representable.{fit_of}
-use Rattle.go_ops.specs.Sorts.{sort_of}
+use Rattle.go_constructs.specs.Operators.Representable.{fit_of}
+use Rattle.go_constructs.specs.Operators.Sorts.{sort_of}
 use Rattle.go_ops.proofs.representability.representable.Goals as goal
 
 pub returns-in-Is-clause-fit : goal.returns-in-Is-clause-fit

@@ -1,7 +1,7 @@
 use Rattle.std.proofs.Common.{◌&&◌, sym, ap, ◌∙◌}
-use Rattle.go_model.specs.Outcomes.Records.{rec_as}
-use Rattle.go_ops.specs.Constants.{constant_in}
-use Rattle.go_ops.specs.Shifts.{is_count, is_not_negative, represents_count}
+use Rattle.go_judge.specs.Records.{rec_as}
+use Rattle.go_constructs.specs.Operators.Constants.{constant_in}
+use Rattle.go_constructs.specs.Operators.Shifts.{is_count, is_not_negative, represents_count}
 use Rattle.go_ops.proofs.shift.is_count.Goals as goal
 
 pub returns-in-Int : goal.returns-in-Int

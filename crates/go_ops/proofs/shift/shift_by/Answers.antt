@@ -1,5 +1,5 @@
 use Rattle.std.proofs.Common.{sym, ◌∙◌}
-use Rattle.go_model.specs.Outcomes.Records.{rec_as}
+use Rattle.go_judge.specs.Records.{rec_as}
 use Rattle.go_ops.proofs.CountLemmas.{count-uint}
 use Rattle.go_ops.proofs.shift.shift_by.Goals as goal
 

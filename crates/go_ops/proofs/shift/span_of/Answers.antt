@@ -1,6 +1,6 @@
 use Rattle.std.proofs.Common.{sym, ap, ◌∙◌}
-use Rattle.go_model.specs.Outcomes.Records.{rec_as}
-use Rattle.go_ops.specs.Shifts.{span_by, span_of}
+use Rattle.go_judge.specs.Records.{rec_as}
+use Rattle.go_constructs.specs.Operators.Shifts.{span_by, span_of}
 use Rattle.go_ops.proofs.shift.span_of.Goals as goal
 
 pub returns-in-Untyped : goal.returns-in-Untyped

@@ -1,8 +1,8 @@
 use Rattle.std.proofs.Common.{None, sym, subst}
 use Rattle.go_num.specs.declared.value.Value.{Value}
 use Rattle.go_ops.specs.Limited.{IsGiven}
-use Rattle.go_ops.specs.Operators.{fit_found}
-use Rattle.go_ops.specs.Shifts.{shifted_value}
+use Rattle.go_constructs.specs.Operators.Operations.{fit_found}
+use Rattle.go_constructs.specs.Operators.Shifts.{shifted_value}
 use Rattle.go_ops.proofs.shift.value_shifted_by.Goals as goal
 
 pub returns-in-Bool : goal.returns-in-Bool

@@ -1,9 +1,9 @@
 use Rattle.std.proofs.Common.{None, sym, subst}
 use Rattle.go_num.specs.declared.value.Value.{Value}
 use Rattle.go_ops.specs.Limited.{IsGiven}
-use Rattle.go_ops.specs.Operators.{fit_found}
-use Rattle.go_ops.specs.Unary.{signed_value}
-use Rattle.go_ops.specs.declared.operator.Sign.TheVariants.{Not}
+use Rattle.go_constructs.specs.Operators.Operations.{fit_found}
+use Rattle.go_constructs.specs.Operators.Unary.{signed_value}
+use Rattle.go_constructs.specs.declared.operator.Sign.TheVariants.{Not}
 use Rattle.go_ops.proofs.sign.negated.Goals as goal
 
 pub returns-in-Int : goal.returns-in-Int

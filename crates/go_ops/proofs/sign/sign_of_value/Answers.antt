@@ -1,8 +1,8 @@
 use Rattle.std.proofs.Common.{sym, ap, ◌∙◌}
 use Rattle.std.proofs.lemmas.Result.{IfOk-weaker}
-use Rattle.go_model.specs.Outcomes.Records.{rec_as}
-use Rattle.go_model.specs.Values.Quests.{Decided}
-use Rattle.go_model.proofs.OwnDataLemmas.{rec_agrees}
+use Rattle.go_judge.specs.Records.{rec_as}
+use Rattle.go_judge.specs.Quests.{Decided}
+use Rattle.go_judge.proofs.OwnDataLemmas.{rec_agrees}
 use Rattle.go_ops.specs.AskedSorts.{sort_as}
 use Rattle.go_ops.specs.Signed.{outcome_by_operand}
 use Rattle.go_ops.proofs.SignLemmas.{sign-found}

@@ -1,7 +1,7 @@
 use Rattle.std.proofs.Common.{sym, ap, ◌∙◌}
 use Rattle.std.proofs.lemmas.Result.{IfOk-weaker}
 use Rattle.go_ops.specs.AskedSorts.{sort_asked}
-use Rattle.go_ops.specs.Sorts.{sort_found}
+use Rattle.go_constructs.specs.Operators.Sorts.{sort_found}
 use Rattle.go_ops.proofs.AskedLemmas.{under-asked}
 use Rattle.go_ops.proofs.sorts.sort_of.Goals as goal
 

@@ -1,7 +1,7 @@
 use Rattle.std.proofs.Common.{Some, ap, ◌∙◌}
 use Rattle.go_term.specs.Types.{TypeData}
-use Rattle.go_model.specs.Values.Quests.{Decided}
-use Rattle.go_ops.specs.Sorts.{sort_found}
+use Rattle.go_judge.specs.Quests.{Decided}
+use Rattle.go_constructs.specs.Operators.Sorts.{sort_found}
 use Rattle.go_ops.proofs.sorts.sort_of_type.Goals as goal
 
 pub returns-clause-sort : goal.returns-clause-sort

@@ -1,9 +1,9 @@
 use Rattle.std.proofs.Common.{sym, ap, ◌∙◌}
-use Rattle.go_model.specs.Outcomes.Records.{rec_as}
-use Rattle.go_model.specs.Values.Quests.{Done}
-use Rattle.go_model.proofs.QuestLemmas.{run-then, run-then-Lacks}
+use Rattle.go_judge.specs.Records.{rec_as}
+use Rattle.go_judge.specs.Quests.{Done}
+use Rattle.go_judge.proofs.QuestLemmas.{run-then, run-then-Lacks}
 use Rattle.go_ops.specs.AskedSorts.{sort_as}
-use Rattle.go_ops.specs.Sorts.{sort_in}
+use Rattle.go_constructs.specs.Operators.Sorts.{sort_in}
 use Rattle.go_ops.proofs.sorts.sorts_with.Goals as goal
 
 pub returns-in-Is-clause-sorts : goal.returns-in-Is-clause-sorts

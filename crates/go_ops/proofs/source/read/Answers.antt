@@ -4,10 +4,10 @@ use Rattle.std.specs.Option.{option_map}
 use Rattle.std.specs.Prelude.{unwrap_or}
 use Rattle.go_base.specs.declared.rule.Rule.{Rule}
 use Rattle.go_term.specs.Types.{TypeData, list, of_list}
-use Rattle.go_model.specs.declared.outcome.Spot.TheVariants.{Whole}
-use Rattle.go_model.specs.Outcomes.Judged.{Broken}
-use Rattle.go_model.specs.Outcomes.Records.{rec_as}
-use Rattle.go_model.specs.Types.Forms.{underlying_over}
+use Rattle.go_judge.specs.declared.outcome.Spot.TheVariants.{Whole}
+use Rattle.go_judge.specs.Judged.{Broken}
+use Rattle.go_judge.specs.Records.{rec_as}
+use Rattle.go_judge.specs.Types.Forms.{underlying_over}
 use Rattle.go_ops.specs.Sources.{read_asked}
 use Rattle.go_ops.proofs.SourceLemmas.{read-asked, read-none}
 use Rattle.go_ops.proofs.source.read.Goals as goal

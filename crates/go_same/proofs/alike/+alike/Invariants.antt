@@ -3,8 +3,8 @@ use Rattle.std.specs.List.{AllByRecursion}
 use Rattle.go_term.specs.Shapes.{shape_tree}
 use Rattle.go_term.specs.Size.{depth, greatest_depth}
 use Rattle.go_term.specs.Types.{parts_of}
-use Rattle.go_model.specs.Types.Own.{Keeps}
-use Rattle.go_model.specs.Types.Heads.{all_alike}
+use Rattle.go_judge.specs.Types.Own.{Keeps}
+use Rattle.go_judge.specs.Types.Heads.{all_alike}
 use Rattle.go_same.specs.Layers.{lent, plain_types}
 use Rattle.go_same.proofs.alike.+alike.Given as goal
 

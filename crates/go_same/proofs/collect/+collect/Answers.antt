@@ -1,8 +1,8 @@
 use Rattle.std.proofs.Common.{◌≡◌, ◌+◌, ◌-◌, ◌<◌, ◌^◌, true, false, Some, ap, sym, ◌∙◌, arith}
 use Rattle.std.proofs.lemmas.Result.{IfOk-weaker}
 use Rattle.std.specs.Vec.Iter.{into_iter_items, into_iter_len}
-use Rattle.go_model.specs.Types.TypeSets as sets
-use Rattle.go_model.specs.Values.Quests.{Decided, run}
+use Rattle.go_judge.specs.Types.TypeSets as sets
+use Rattle.go_judge.specs.Quests.{Decided, run}
 use Rattle.go_same.specs.Collect.{kind_set, opening_within}
 use Rattle.go_same.proofs.CollectLemmas.{both_owned, elements_unset, tilde_alone, union_unset}
 use Rattle.go_same.proofs.KeepLemmas.{found_types, keeps_then}

@@ -6,9 +6,9 @@ use Rattle.std.specs.Vec.Iter.{into_iter_items}
 use Rattle.go_term.specs.Shapes.{elem_tree, union_tree}
 use Rattle.go_term.specs.Size.{depth, greatest_depth}
 use Rattle.go_term.specs.Types.{parts_of}
-use Rattle.go_model.specs.Types.Own.{IsOwnElem, Keeps}
-use Rattle.go_model.specs.Types.TypeSets as sets
-use Rattle.go_model.specs.Values.Quests.{run}
+use Rattle.go_judge.specs.Types.Own.{IsOwnElem, Keeps}
+use Rattle.go_judge.specs.Types.TypeSets as sets
+use Rattle.go_judge.specs.Quests.{run}
 use Rattle.go_same.specs.Collect.{asked_joined, opening_within}
 use Rattle.go_same.specs.Sets.{IsOwnFound, found_as}
 use Rattle.go_same.proofs.CollectLemmas.{union_rest}

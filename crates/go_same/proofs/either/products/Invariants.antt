@@ -1,7 +1,7 @@
 use Rattle.std.proofs.Common.{◌≡◌, ◌++◌, map, drop}
 use Rattle.std.specs.List.{AllByRecursion}
-use Rattle.go_model.specs.Types.Own.{Keeps}
-use Rattle.go_model.specs.Types.TypeSets.{either_unions}
+use Rattle.go_judge.specs.Types.Own.{Keeps}
+use Rattle.go_judge.specs.Types.TypeSets.{either_unions}
 use Rattle.go_same.specs.Sets.{part_view}
 use Rattle.go_same.proofs.either.products.Given as goal
 

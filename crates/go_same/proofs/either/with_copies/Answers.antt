@@ -1,5 +1,5 @@
 use Rattle.std.proofs.Common.{ap}
-use Rattle.go_model.specs.Types.TypeSets.{plain}
+use Rattle.go_judge.specs.Types.TypeSets.{plain}
 use Rattle.go_same.proofs.EitherLemmas.{copy_left, copy_made, copy_own}
 use Rattle.go_same.proofs.KeepLemmas.{keeps_then}
 use Rattle.go_same.proofs.either.with_copies.Goals as goal

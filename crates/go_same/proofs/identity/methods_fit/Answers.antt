@@ -1,9 +1,9 @@
 use Rattle.std.proofs.Common.{map, get_or, refl, sym, ap, subst, ◌∙◌}
 use Rattle.std.specs.List.{AllByRecursion}
-use Rattle.go_model.specs.Types.Own.{AreOwnFunc}
-use Rattle.go_model.specs.Types.TypeIdentity.{fit}
-use Rattle.go_model.specs.Values.Quests.{Decided, Done}
-use Rattle.go_model.specs.declared.outcome.Answer.TheVariants as A
+use Rattle.go_judge.specs.Types.Own.{AreOwnFunc}
+use Rattle.go_judge.specs.Types.TypeIdentity.{fit}
+use Rattle.go_judge.specs.Quests.{Decided, Done}
+use Rattle.go_judge.specs.declared.outcome.Answer.TheVariants as A
 use Rattle.go_same.specs.Layers.{IsOwnPair}
 use Rattle.go_same.specs.MethodOrder.{views_at}
 use Rattle.go_same.specs.Sets.{method_view}

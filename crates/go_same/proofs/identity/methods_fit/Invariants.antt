@@ -1,8 +1,8 @@
 use Rattle.std.proofs.Common.{◌≡◌, map, drop}
-use Rattle.go_model.specs.Types.Own.{Keeps}
-use Rattle.go_model.specs.Types.TypeIdentity.{ask_each, fit}
-use Rattle.go_model.specs.Types.TypeSets.{MethodData}
-use Rattle.go_model.specs.Values.Quests.{Done, run}
+use Rattle.go_judge.specs.Types.Own.{Keeps}
+use Rattle.go_judge.specs.Types.TypeIdentity.{ask_each, fit}
+use Rattle.go_judge.specs.Types.TypeSets.{MethodData}
+use Rattle.go_judge.specs.Quests.{Done, run}
 use Rattle.go_same.specs.MethodOrder.{views_at}
 use Rattle.go_same.specs.Sets.{method_view}
 use Rattle.go_same.proofs.identity.methods_fit.Given as goal

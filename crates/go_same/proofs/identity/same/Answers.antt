@@ -1,8 +1,8 @@
 use Rattle.std.proofs.Common.{◌++◌, map, false, refl, sym, ap, subst, ◌∙◌}
 use Rattle.std.specs.List.{AllByRecursion}
 use Rattle.std.proofs.lemmas.Result.{IfOk-weaker}
-use Rattle.go_model.specs.Types.TypeIdentity.{interfaces_in}
-use Rattle.go_model.specs.Types.TypeSets.{plain}
+use Rattle.go_judge.specs.Types.TypeIdentity.{interfaces_in}
+use Rattle.go_judge.specs.Types.TypeSets.{plain}
 use Rattle.go_same.specs.Kept.{IsKept}
 use Rattle.go_same.specs.Layers.{pair_view}
 use Rattle.go_same.proofs.SameLemmas.{levels_whole, opened_whole, outermost, types_apart, types_within}

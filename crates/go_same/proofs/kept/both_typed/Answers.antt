@@ -1,6 +1,6 @@
 use Rattle.std.proofs.Common.{◌≡◌, ◌∙◌}
 use Rattle.go_term.specs.Shapes.{shape_tree}
-use Rattle.go_model.specs.Types.TypeSets.{plain}
+use Rattle.go_judge.specs.Types.TypeSets.{plain}
 use Rattle.go_same.proofs.KeptLemmas.{layer_kept, layer_stays}
 use Rattle.go_same.proofs.kept.both_typed.Goals as goal
 

@@ -1,4 +1,4 @@
-use Rattle.go_model.specs.Types.Own.{Keeps}
+use Rattle.go_judge.specs.Types.Own.{Keeps}
 use Rattle.go_same.proofs.kept.is_kept.Given as goal
 
 abbrev pub invariant-loop-i : goal.invariant-loop-i

@@ -2,8 +2,8 @@ use Rattle.std.proofs.Common.{◌++◌, ◌<◌, length, map, sym, ap, subst, �
 use Rattle.std.specs.List.{AllByRecursion}
 use Rattle.std.proofs.lemmas.Result.{IfOk-weaker}
 use Rattle.go_term.specs.Size.{depth}
-use Rattle.go_model.specs.Types.TypeIdentity.{interfaces_in}
-use Rattle.go_model.specs.Types.TypeSets.{plain}
+use Rattle.go_judge.specs.Types.TypeIdentity.{interfaces_in}
+use Rattle.go_judge.specs.Types.TypeSets.{plain}
 use Rattle.go_same.specs.Layers.{lent, pair_view}
 use Rattle.go_same.proofs.KeptLemmas.{layer_own, pairs_kept, pairs_stay}
 use Rattle.go_same.proofs.OutlineLemmas.{fit_within, fit_other, pairs_within, long_within, shallow, here_own, here_depth}

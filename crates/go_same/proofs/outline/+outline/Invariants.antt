@@ -3,8 +3,8 @@ use Rattle.std.specs.List.{AllByRecursion}
 use Rattle.go_term.specs.Shapes.{shape_tree}
 use Rattle.go_term.specs.Size.{depth, greatest_depth}
 use Rattle.go_term.specs.Types.{parts_of}
-use Rattle.go_model.specs.Types.Own.{Keeps}
-use Rattle.go_model.specs.Types.TypeIdentity.{all_fit, interfaces_in_all}
+use Rattle.go_judge.specs.Types.Own.{Keeps}
+use Rattle.go_judge.specs.Types.TypeIdentity.{all_fit, interfaces_in_all}
 use Rattle.go_same.specs.Layers.{IsOwnPair, lent, pair_view, plain_types}
 use Rattle.go_same.proofs.outline.+outline.Given as goal
 

@@ -1,6 +1,6 @@
 use Rattle.std.proofs.Common.{ap, ◌∙◌}
-use Rattle.go_model.specs.Types.TypeIdentity as identity
-use Rattle.go_model.specs.Types.TypeSets.{plain}
+use Rattle.go_judge.specs.Types.TypeIdentity as identity
+use Rattle.go_judge.specs.Types.TypeSets.{plain}
 use Rattle.go_same.proofs.TermLemmas.{declared-layer}
 use Rattle.go_same.proofs.see.is_declared.Goals as goal
 

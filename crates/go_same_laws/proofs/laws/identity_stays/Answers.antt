@@ -1,5 +1,5 @@
-use Rattle.go_model.specs.Types.TypeIdentity.{identical}
-use Rattle.go_model.proofs.QuestLemmas.{run-stays}
+use Rattle.go_judge.specs.Types.TypeIdentity.{identical}
+use Rattle.go_judge.proofs.QuestLemmas.{run-stays}
 use Rattle.go_same_laws.proofs.laws.identity_stays.Goals as goal
 
 pub returns : goal.returns

@@ -1,5 +1,5 @@
-use Rattle.go_model.specs.Types.UnderlyingType.{under}
-use Rattle.go_model.proofs.QuestLemmas.{run-stays}
+use Rattle.go_judge.specs.Types.UnderlyingType.{under}
+use Rattle.go_judge.proofs.QuestLemmas.{run-stays}
 use Rattle.go_subst.proofs.laws.underlying_types_stay.Goals as goal
 
 pub returns : goal.returns

@@ -1,8 +1,8 @@
 use Rattle.std.proofs.Common.{◌<◌, length, map, arith}
 use Rattle.std.proofs.lemmas.List.{length-map}
 use Rattle.go_term.specs.View.{type_of}
-use Rattle.go_model.specs.Outcomes.Records.{param_as}
-use Rattle.go_model.specs.Types.UnderlyingType.{params_from}
+use Rattle.go_judge.specs.Records.{param_as}
+use Rattle.go_judge.specs.Types.UnderlyingType.{params_from}
 use Rattle.go_subst.proofs.ParamLemmas.{params_more}
 use Rattle.go_subst.proofs.referred.params_of.Goals as goal
 

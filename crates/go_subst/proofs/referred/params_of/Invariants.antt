@@ -1,7 +1,7 @@
 use Rattle.std.proofs.Common.{◌≡◌, ◌++◌, map, drop}
 use Rattle.go_term.specs.View.{type_of}
-use Rattle.go_model.specs.Outcomes.Records.{param_as}
-use Rattle.go_model.specs.Types.UnderlyingType.{params_from}
+use Rattle.go_judge.specs.Records.{param_as}
+use Rattle.go_judge.specs.Types.UnderlyingType.{params_from}
 use Rattle.go_subst.proofs.referred.params_of.Given as goal
 
 abbrev pub invariant-loop-place : goal.invariant-loop-place

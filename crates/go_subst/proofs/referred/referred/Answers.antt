@@ -3,7 +3,7 @@ use Rattle.std.specs.Prelude.{option_and_then}
 use Rattle.std.specs.Option.{option_map}
 use Rattle.go_term.specs.Size.{size_fault}
 use Rattle.go_term.specs.View.{type_of}
-use Rattle.go_model.specs.Outcomes.Records.{header_as}
+use Rattle.go_judge.specs.Records.{header_as}
 use Rattle.go_subst.specs.Chains.{IsReferredCause}
 use Rattle.go_subst.proofs.ParamLemmas.{named_refers}
 use Rattle.go_subst.proofs.referred.referred.Goals as goal

@@ -1,7 +1,7 @@
 use Rattle.std.proofs.Common.{◌≡◌, length, map, ap, ◌∙◌, arith}
 use Rattle.std.proofs.lemmas.List.{length-map}
 use Rattle.go_term.specs.View.{type_of}
-use Rattle.go_model.specs.Outcomes.Records.{param_as}
+use Rattle.go_judge.specs.Records.{param_as}
 use Rattle.go_subst.proofs.ParamLemmas.{length-params_from}
 use Rattle.go_subst.proofs.referred.right_side.Goals as goal
 

@@ -1,7 +1,7 @@
 use Rattle.std.proofs.Common.{◌∙◌}
 use Rattle.std.proofs.lemmas.Result.{IfErr-weaker, IfOk-weaker}
 use Rattle.go_term.specs.View.{type_of}
-use Rattle.go_model.specs.Outcomes.Records.{header_as}
+use Rattle.go_judge.specs.Records.{header_as}
 use Rattle.go_subst.proofs.ChainLemmas.{asked-cause, asked-there}
 use Rattle.go_subst.proofs.PlainLemmas.{answered}
 use Rattle.go_subst.proofs.underlying.asked.Goals as goal

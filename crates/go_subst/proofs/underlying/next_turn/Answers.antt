@@ -1,7 +1,7 @@
 use Rattle.std.proofs.Common.{ℕ, suc, ◌∷◌, sym}
 use Rattle.std.proofs.lemmas.Result.{IfErr-weaker}
 use Rattle.go_term.specs.View.{type_of}
-use Rattle.go_model.specs.Types.UnderlyingType.{under_from}
+use Rattle.go_judge.specs.Types.UnderlyingType.{under_from}
 use Rattle.go_subst.specs.Chains.{asked_from, origin_as, path_of}
 use Rattle.go_subst.proofs.ChainLemmas.{cause-along, chain-asks, not_listed}
 use Rattle.go_subst.proofs.underlying.next_turn.Goals as goal

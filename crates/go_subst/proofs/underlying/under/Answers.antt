@@ -1,7 +1,7 @@
 use Rattle.std.proofs.Common.{◌∙◌}
 use Rattle.std.proofs.lemmas.Result.{err_from_is_err_and}
 use Rattle.go_term.specs.View.{type_of}
-use Rattle.go_model.proofs.OwnLemmas.{types_then}
+use Rattle.go_judge.proofs.OwnLemmas.{types_then}
 use Rattle.go_subst.specs.Chains.{path_of}
 use Rattle.go_subst.proofs.ChainLemmas.{ends, fails, goes_on}
 use Rattle.go_subst.proofs.underlying.under.Goals as goal

@@ -1,8 +1,8 @@
 use Rattle.std.proofs.Common.{◌≡◌, ℕ, ◌+◌}
 use Rattle.go_term.specs.View.{type_of}
-use Rattle.go_model.specs.Types.Own.{Keeps}
-use Rattle.go_model.specs.Types.UnderlyingType.{most_steps, under, under_from}
-use Rattle.go_model.specs.Values.Quests.{run}
+use Rattle.go_judge.specs.Types.Own.{Keeps}
+use Rattle.go_judge.specs.Types.UnderlyingType.{most_steps, under, under_from}
+use Rattle.go_judge.specs.Quests.{run}
 use Rattle.go_subst.specs.Chains.{path_of}
 use Rattle.go_subst.proofs.underlying.under.Given as goal
 

@@ -1,8 +1,8 @@
 use Rattle.std.proofs.Common.{sym, ap, ◌∙◌}
 use Rattle.std.specs.Option.{option_map}
-use Rattle.go_model.specs.Outcomes.Records.{header_view}
-use Rattle.go_model.specs.Outcomes.Walk.{Headers}
-use Rattle.go_model.proofs.OwnDataLemmas.{header_any}
+use Rattle.go_judge.specs.Records.{header_view}
+use Rattle.go_judge.specs.Headers.{Headers}
+use Rattle.go_judge.proofs.OwnDataLemmas.{header_any}
 use Rattle.go_rows.proofs.types.TypeRow.tell.Goals as goal
 
 pub learn-requires-clause-vacant : goal.learn-requires-clause-vacant

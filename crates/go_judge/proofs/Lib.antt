@@ -1,0 +1,9 @@
+pub mod EndLemmas
+pub mod EntryLemmas
+pub mod ExactLemmas
+pub mod ExactWaitLemmas
+pub mod HeadersViewLemmas
+pub mod OwnDataLemmas
+pub mod OwnLemmas
+pub mod QuestLemmas
+pub mod StableLemmas
