@@ -6,7 +6,8 @@ use Rattle.go_judge.specs.Kinds.{no_length}
 use Rattle.go_judge.specs.Limits.{makes}
 use Rattle.go_judge.specs.Judged.{Construct}
 use Rattle.go_judge.specs.Operands.{are_types, at_each, of_two, type_or_none}
-use Rattle.go_judge.specs.Records.{HeaderData, RecData, integer_in}
+use Rattle.go_judge.specs.Records.{HeaderData, RecData}
+use Rattle.go_constructs.specs.Integers.{integer_in}
 
 -- "it must evaluate to a non-negative constant representable by a value of type int", which has 64 bits (own)
 abbrev pub length_of : ℤ → Option ℕ

@@ -15,4 +15,5 @@ pub mod Sum
 pub mod Operators
 -- what they share
 pub mod Meaning
+pub mod Integers
 pub mod Signatures

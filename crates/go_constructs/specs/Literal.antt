@@ -7,7 +7,8 @@ use Rattle.go_tree.specs.Lexical.LiteralValues.{int_lit_value}
 use Rattle.go_judge.specs.Judged.{Construct}
 use Rattle.go_judge.specs.Limits.{wide_integer}
 use Rattle.go_judge.specs.Operands.{at_whole, leaf}
-use Rattle.go_judge.specs.Records.{HeaderData, RecData, integer_record}
+use Rattle.go_judge.specs.Records.{HeaderData, RecData}
+use Rattle.go_constructs.specs.Integers.{integer_record}
 use Rattle.go_judge.specs.Quests.{Done}
 
 abbrev pub literal : List ℕ → Construct HeaderData RecData

@@ -9,7 +9,8 @@ use Rattle.go_constructs.specs.declared.meaning.Meaning.TheVariants.{AnyType, Ba
 use Rattle.go_judge.specs.declared.rec.Mode.TheVariants.{IsType}
 use Rattle.go_judge.specs.Judged.{Construct}
 use Rattle.go_judge.specs.Operands.{at_whole, leaf, no_construct}
-use Rattle.go_judge.specs.Records.{HeaderData, RecData, integer_record, named_record, typed_record}
+use Rattle.go_judge.specs.Records.{HeaderData, RecData, named_record, typed_record}
+use Rattle.go_constructs.specs.Integers.{integer_record}
 use Rattle.go_judge.specs.Quests.{Done, Need}
 
 -- a constant, a variable and an alias have the record of their header; a predeclared identifier that is not built breaks U0,

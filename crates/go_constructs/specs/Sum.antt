@@ -6,8 +6,9 @@ use Rattle.go_num.specs.declared.arithmetic.IntOp.TheVariants.{Add}
 use Rattle.go_num.specs.Arithmetic.{binary_value, limited}
 use Rattle.go_judge.specs.Judged.{Construct}
 use Rattle.go_judge.specs.Limits.{wide_integer}
-use Rattle.go_judge.specs.Operands.{at_whole, of_two_integers}
-use Rattle.go_judge.specs.Records.{HeaderData, RecData, integer_record}
+use Rattle.go_judge.specs.Operands.{at_whole}
+use Rattle.go_constructs.specs.Integers.{of_two_integers, integer_record}
+use Rattle.go_judge.specs.Records.{HeaderData, RecData}
 use Rattle.go_judge.specs.Quests.{Done}
 
 abbrev pub sum : Construct HeaderData RecData

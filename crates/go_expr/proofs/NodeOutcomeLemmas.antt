@@ -13,8 +13,9 @@ use Rattle.go_judge.specs.Kinds.{no_value}
 use Rattle.go_judge.specs.Limits.{wide_integer}
 use Rattle.go_constructs.specs.Sum.{sum}
 use Rattle.go_judge.specs.Judged.{Asks, Found, Nothing, OutcomeData, asked, judged, tested, with_records}
-use Rattle.go_judge.specs.Operands.{at_whole, integers_ask, is_value}
-use Rattle.go_judge.specs.Records.{HeaderData, RecData, integer_in, integer_record}
+use Rattle.go_judge.specs.Operands.{at_whole, is_value}
+use Rattle.go_constructs.specs.Integers.{integers_ask, integer_in, integer_record}
+use Rattle.go_judge.specs.Records.{HeaderData, RecData}
 use Rattle.go_judge.specs.Headers.{Headers}
 use Rattle.go_model.specs.Outcomes.Walk.{construct}
 use Rattle.go_judge.specs.Naming.{Naming}

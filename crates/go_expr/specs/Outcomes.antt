@@ -18,7 +18,8 @@ use Rattle.go_judge.specs.Limits.{wide_integer}
 use Rattle.go_judge.specs.Judged.{Construct, OutcomeData}
 use Rattle.go_judge.specs.Judged as outcomes
 use Rattle.go_judge.specs.Operands.{is_value, no_construct}
-use Rattle.go_judge.specs.Records.{HeaderData, RecData, integer_in, integer_record}
+use Rattle.go_judge.specs.Records.{HeaderData, RecData}
+use Rattle.go_constructs.specs.Integers.{integer_in, integer_record}
 use Rattle.go_expr.specs.declared.sum.Operand.{Operand}
 
 -- a value within the limits, or the rule that it breaks

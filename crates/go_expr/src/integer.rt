@@ -3,7 +3,8 @@ ghost use Rattle.std.specs.Prelude.{◌≡◌, IfOk, Some};
 ghost use Rattle.go_term.specs.Shapes.{shape_tree};
 ghost use Rattle.go_term.specs.Types.{TypeData, basic_type};
 ghost use Rattle.go_term.specs.declared.term.Term.{Term};
-ghost use Rattle.go_judge.specs.Records.{integer_by, integer_in, rec_as, untyped_int};
+ghost use Rattle.go_constructs.specs.Integers.{integer_by, integer_in, untyped_int};
+ghost use Rattle.go_judge.specs.Records.{rec_as};
 ghost use Rattle.go_judge.specs.Types.Own.{IsOwnRec, Keeps};
 
 use go_base::NoMemory;

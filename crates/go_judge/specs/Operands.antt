@@ -1,8 +1,7 @@
 -- Constructs by their operands, and what is asked of operands.
-use Rattle.std.specs.Prelude.{ℕ, ℤ, pos, ◌+◌, ◌&&◌, Bool, true, false, not, is_some, Option, Some, None, List, [], ◌∷◌, unwrap_or}
+use Rattle.std.specs.Prelude.{ℕ, ◌+◌, Bool, true, false, is_some, Option, Some, None, List, [], ◌∷◌, unwrap_or}
 use Rattle.std.specs.List.{range_with_len}
 use Rattle.go_base.specs.declared.rule.Rule.{Rule}
-use Rattle.go_module.specs.Rules.{unbuilt_form}
 use Rattle.go_term.specs.Types.{TypeData, list, of_list}
 use Rattle.go_judge.specs.declared.outcome.Spot.TheVariants.{Part, Whole}
 use Rattle.go_judge.specs.declared.rec.Mode.{Mode}
@@ -10,7 +9,7 @@ use Rattle.go_judge.specs.declared.rec.Mode.TheVariants.{Builtin, Const, IsType,
 use Rattle.go_judge.specs.Quests.{Done, Quest}
 use Rattle.go_judge.specs.Kinds.{no_type, no_value}
 use Rattle.go_judge.specs.Judged.{Asks, Construct, RuleTest, SpotTest}
-use Rattle.go_judge.specs.Records.{HeaderData, RecData, integer_in, integer_record, type_in}
+use Rattle.go_judge.specs.Records.{HeaderData, RecData, type_in}
 
 -- a rule that is asked of the node as a whole
 abbrev pub at_whole : {H : Type 0} → Rule → Quest H Bool → RuleTest H
@@ -82,21 +81,6 @@ of_two asks = record { operands = 0 ∷ (1 ∷ []); asks = two_ask asks }
 
 abbrev pub of_all : {H R : Type 0} → ℕ → (List R → Asks H R) → Construct H R
 of_all many asks = record { operands = range_with_len 0 many; asks = λ rs. Some (asks rs) }
-
--- of two untyped integer constants this is asked. No operator takes other values yet: U0 where one is such a value; else
--- R1 at what is no value
-abbrev pub is_taken : RecData → Bool
-is_taken r = not (is_value r && not (is_some (integer_in r)))
-
-abbrev pub integers_ask : (ℤ → ℤ → Asks HeaderData RecData) → RecData → RecData → Option ℤ → Option ℤ → Asks HeaderData RecData
-integers_ask asks x y (Some a) (Some b) = asks a b
-integers_ask asks x y a b = record {
-  tests = at_whole unbuilt_form (Done (is_taken x && is_taken y)) ∷ (are_values 0 (x ∷ (y ∷ [])) ∷ []);
-  gives = Done (integer_record (pos 0));
-}
-
-abbrev pub of_two_integers : (ℤ → ℤ → Asks HeaderData RecData) → Construct HeaderData RecData
-of_two_integers asks = of_two (λ x y. integers_ask asks x y (integer_in x) (integer_in y))
 
 -- a node that is no expression or type that is built, or denotes nothing that has a record
 abbrev pub no_construct : {H R : Type 0} → Construct H R

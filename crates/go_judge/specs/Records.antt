@@ -4,10 +4,8 @@ use Rattle.std.specs.Prelude.{ℤ, List, Option, None, Some, map}
 use Rattle.std.specs.Option.{option_map}
 use Rattle.go_base.specs.declared.ids.ObjId.{ObjId}
 use Rattle.go_num.specs.declared.value.Value.{Value}
-use Rattle.go_num.specs.declared.value.Value.TheVariants.{Int}
-use Rattle.go_term.specs.declared.basic.Basic.TheVariants.{UntypedInt}
 use Rattle.go_module.specs.declared.object.Method.{Method}
-use Rattle.go_term.specs.Types.{TypeData, basic, basic_type, made, named, no_parts}
+use Rattle.go_term.specs.Types.{TypeData, made, named, no_parts}
 use Rattle.go_term.specs.View.{type_of}
 use Rattle.go_term.specs.declared.term.Term.{Term}
 use Rattle.go_judge.specs.declared.header.Header.{Header}
@@ -69,24 +67,6 @@ param_view p = param_as type_of p
 
 abbrev pub header_view : Header → HeaderData
 header_view h = header_as type_of h
-
--- INTEGERS
-
--- the kind of an untyped integer constant
-abbrev pub untyped_int : TypeData
-untyped_int = basic_type UntypedInt
-
--- the record of an untyped integer constant without a name
-abbrev pub integer_record : ℤ → RecData
-integer_record v = record { mode = M.Const; type = Some untyped_int; value = Some (Int v); object = None; span = None }
-
--- the value of an untyped integer constant
-abbrev pub integer_by : Option TypeData → Option Value → Option ℤ
-integer_by (Some (made (basic UntypedInt) no_parts)) (Some (Int v)) = Some v
-integer_by type value = None
-
-abbrev pub integer_in : RecData → Option ℤ
-integer_in r = integer_by r.type r.value
 
 -- NAMES AND DECLARATIONS
 

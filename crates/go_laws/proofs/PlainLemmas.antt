@@ -33,9 +33,10 @@ use Rattle.go_constructs.specs.Slice.{slice}
 use Rattle.go_constructs.specs.Struct.{fields_in, struct_of}
 use Rattle.go_constructs.specs.Sum.{sum}
 use Rattle.go_judge.specs.Judged.{Asks, Construct, RuleTest, first_lack}
-use Rattle.go_judge.specs.Operands.{are_types, at_each, at_whole, integers_ask, is_constant, is_type, leaf, of_all, of_one, of_two, spots_from, type_or_none}
+use Rattle.go_judge.specs.Operands.{are_types, at_each, at_whole, is_constant, is_type, leaf, of_all, of_one, of_two, spots_from, type_or_none}
+use Rattle.go_constructs.specs.Integers.{integers_ask, integer_in, integer_record}
 use Rattle.go_constructs.specs.Signatures.{is_variadic, types_in}
-use Rattle.go_judge.specs.Records.{HeaderData, RecData, alias, constant, definition, func, integer_in, integer_record, named_record, type_record, variable}
+use Rattle.go_judge.specs.Records.{HeaderData, RecData, alias, constant, definition, func, named_record, type_record, variable}
 use Rattle.go_judge.specs.Headers.{Headers}
 use Rattle.go_model.specs.Outcomes.Walk.{construct, many_operands}
 use Rattle.go_judge.specs.Naming.{Naming}
