@@ -42,21 +42,6 @@ fn constant<J: Judge>(
     }
 }
 
-/// Whether `a op b` of two integer constants comes to what is wanted. An error is want of memory.
-pub(crate) fn of_numbers<J: Judge>(
-    alloc: Global,
-    judge: &mut J,
-    a: (Basic, i128),
-    op: TokenKind,
-    b: (Basic, i128),
-    want: Want,
-) -> Result<bool, NoMemory> {
-    let left = (a.0, Value::Int(a.1));
-    let right = (b.0, Value::Int(b.1));
-    let outcome = of_two(alloc, judge, op, left, right)?;
-    Ok(is_wanted(&outcome, want))
-}
-
 /// What `a op b` comes to of two constants; Nothing where one is none of its type, or the token no binary operator.
 pub(crate) fn of_two<J: Judge>(
     alloc: Global,
@@ -88,23 +73,75 @@ pub(crate) fn of_one<J: Judge>(
     }
 }
 
-/// What is wanted of a row: a number of a type, a truth value, or a rule that is broken there.
+/// A number or a truth value of a basic type.
+#[derive(Clone, Copy, Debug)]
+pub(crate) enum Plain {
+    Number(Basic, i128),
+    Truth(Basic, bool),
+}
+
+/// Its type and its value.
+fn typed(plain: Plain) -> (Basic, Value) {
+    match plain {
+        Plain::Number(basic, number) => (basic, Value::Int(number)),
+        Plain::Truth(basic, truth) => (basic, Value::Bool(truth)),
+    }
+}
+
+/// What is wanted of a row: a constant of a type, or a rule that is broken there.
 #[derive(Clone, Copy, Debug)]
 pub(crate) enum Want {
-    Is(Basic, i128),
-    Holds(bool),
+    Is(Plain),
     Breaks(Rule, Spot),
+}
+
+/// `a op b`, and what is wanted of it.
+#[derive(Clone, Copy, Debug)]
+pub(crate) struct OfTwo(
+    pub(crate) Plain,
+    pub(crate) TokenKind,
+    pub(crate) Plain,
+    pub(crate) Want,
+);
+
+/// `op a`, and what is wanted of it.
+#[derive(Clone, Copy, Debug)]
+pub(crate) struct OfOne(pub(crate) TokenKind, pub(crate) Plain, pub(crate) Want);
+
+/// The place of the first row that comes to something else. An error is want of memory.
+pub(crate) fn first_wrong_of_two<J: Judge>(
+    alloc: Global,
+    judge: &mut J,
+    rows: &[OfTwo],
+) -> Result<Option<usize>, NoMemory> {
+    for (place, row) in rows.iter().enumerate() {
+        let outcome = of_two(alloc, judge, row.1, typed(row.0), typed(row.2))?;
+        if !is_wanted(&outcome, row.3) {
+            return Ok(Some(place));
+        }
+    }
+    Ok(None)
+}
+
+/// The place of the first row that comes to something else. An error is want of memory.
+pub(crate) fn first_wrong_of_one<J: Judge>(
+    alloc: Global,
+    judge: &mut J,
+    rows: &[OfOne],
+) -> Result<Option<usize>, NoMemory> {
+    for (place, row) in rows.iter().enumerate() {
+        let outcome = of_one(alloc, judge, row.0, typed(row.1))?;
+        if !is_wanted(&outcome, row.2) {
+            return Ok(Some(place));
+        }
+    }
+    Ok(None)
 }
 
 /// Whether it came to that.
 pub(crate) fn is_wanted(outcome: &Outcome, want: Want) -> bool {
     match (outcome, want) {
-        (Outcome::Found(rec), Want::Is(basic, number)) => {
-            is_constant(rec, basic) && rec.value == Some(Value::Int(number))
-        }
-        (Outcome::Found(rec), Want::Holds(truth)) => {
-            is_constant(rec, Basic::UntypedBool) && rec.value == Some(Value::Bool(truth))
-        }
+        (Outcome::Found(rec), Want::Is(plain)) => is_constant(rec, typed(plain)),
         (Outcome::Broken(rule, spots), Want::Breaks(broken, spot)) => {
             *rule == broken && spots.as_slice() == [spot].as_slice()
         }
@@ -112,6 +149,8 @@ pub(crate) fn is_wanted(outcome: &Outcome, want: Want) -> bool {
     }
 }
 
-fn is_constant(rec: &Rec, basic: Basic) -> bool {
-    rec.mode == Mode::Const && matches!(rec.ty, Some(Term::Basic(b)) if b == basic)
+fn is_constant(rec: &Rec, wanted: (Basic, Value)) -> bool {
+    rec.mode == Mode::Const
+        && matches!(rec.ty, Some(Term::Basic(b)) if b == wanted.0)
+        && rec.value == Some(wanted.1)
 }
