@@ -20,7 +20,7 @@ use Rattle.go_judge.specs.Headers.{Headers}
 use Rattle.go_model.specs.Outcomes.Walk.{construct}
 use Rattle.go_judge.specs.Naming.{Naming}
 use Rattle.go_judge.specs.Quests.{Done}
-use Rattle.go_model.proofs.OutcomeLemmas.{joined_gone}
+use Rattle.go_judge.proofs.ExactWaitLemmas.{joined_gone}
 use Rattle.go_expr.specs.Outcomes.{direction_by, first_kind, limited_view, operand_in, sum_by_kinds}
 
 -- the first item of a list, and the first two

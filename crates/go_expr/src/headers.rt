@@ -138,7 +138,7 @@ fn header_in<A: Ask>(alloc: Global, asked: &A, kind: ObjKind, found: Option<Rec>
 fn declared_header<A: Ask>(asked: &A, rec: Rec) -> Option<Header>
     requires { IsOwnRec (A.is_type asked.now) rec }
     ensures header { option_map (header_as (A.tree asked.now)) result
-        ≡ parts.declared_header (rec_as (A.tree asked.now) rec) }
+        ≡ records.declared_header (rec_as (A.tree asked.now) rec) }
     ensures own { IfSome result (IsOwnHeader (A.is_type asked.now)) }
 {
     let Rec { ty, value, .. } = rec;

@@ -1,11 +1,11 @@
 // Integer literals (Go specification, "Integer literals", "Constants").
 ghost use Rattle.std.specs.Prelude.{◌≡◌, List, IfOk};
 ghost use Rattle.go_constructs.specs.Literal as spec;
+ghost use Rattle.go_judge.specs.Headers.{Headers};
 ghost use Rattle.go_judge.specs.Judged.{OutcomeData, judged};
-ghost use Rattle.go_judge.specs.Records as records;
+ghost use Rattle.go_constructs.specs.Integers.{integer_record};
 ghost use Rattle.go_judge.specs.Records.{RecData, rec_as};
 ghost use Rattle.go_judge.specs.View.{outcome_as};
-ghost use Rattle.go_model.specs.Outcomes.Walk as walk;
 ghost use Rattle.go_judge.specs.Types.Own.{IsOwnOutcome, IsOwnRec, Keeps};
 ghost use Rattle.go_expr.specs.Outcomes.{limited_view};
 
@@ -19,7 +19,7 @@ use std::alloc::Global;
 
 /// An integer literal by its text: L2 where its value is too large. An error is want of memory.
 pub fn literal<J: Judge>(alloc: Global, judge: &mut J, text: &[u8]) -> Result<Outcome, NoMemory>
-    ensures outcome { IfOk result (λ outcome. (headers : walk.Headers) (parts : List (OutcomeData RecData))
+    ensures outcome { IfOk result (λ outcome. (headers : Headers) (parts : List (OutcomeData RecData))
         → outcome_as (J.tree judge.new) outcome ≡ judged headers (spec.literal text.now) parts) }
     ensures own { IfOk result (IsOwnOutcome (J.is_type judge.new)) }
     ensures keeps { Keeps (J.headers judge.old) (J.headers judge.new) (J.names judge.old) (J.names judge.new)
@@ -51,7 +51,7 @@ pub fn limited_outcome<J: Judge>(
 
 // The record of an untyped integer constant without a name. An error is want of memory.
 fn integer_record<J: Judge>(alloc: Global, judge: &mut J, value: i128) -> Result<Rec, NoMemory>
-    ensures record { IfOk result (λ rec. rec_as (J.tree judge.new) rec ≡ records.integer_record value) }
+    ensures record { IfOk result (λ rec. rec_as (J.tree judge.new) rec ≡ integer_record value) }
     ensures own { IfOk result (IsOwnRec (J.is_type judge.new)) }
     ensures keeps { Keeps (J.headers judge.old) (J.headers judge.new) (J.names judge.old) (J.names judge.new)
         (J.outcomes judge.old) (J.outcomes judge.new) (J.is_spent judge.old) (J.is_spent judge.new)
