@@ -3,6 +3,8 @@ pub mod ChainLemmas
 pub mod EveryLemmas
 pub mod FitLemmas
 pub mod IdentityLemmas
+pub mod NamedLawLemmas
+pub mod NamedLemmas
 pub mod NormLemmas
 pub mod OrderLemmas
 pub mod PlaceLemmas

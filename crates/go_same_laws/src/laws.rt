@@ -6,6 +6,7 @@ ghost use Rattle.go_judge.specs.Headers.{Headers};
 ghost use Rattle.go_judge.specs.Types.TypeIdentity.{identical};
 ghost use Rattle.go_judge.specs.Quests.{Decided, IsPart, Stays, run};
 ghost use Rattle.go_same_laws.specs.Laws.{Chains, ChainsThrough};
+ghost use Rattle.go_same_laws.specs.Named.{AreGood, LacksNamed};
 
 /// Each type is identical to itself, whatever headers are known.
 pub fn identity_is_reflexive()
@@ -41,4 +42,11 @@ pub fn identity_chains()
 /// identical to the third where as many names may be opened on a path as for both questions together.
 pub fn identity_chains_without_unions()
     ensures { (headers : Headers) (a b c : TypeData) → ChainsThrough headers a b c }
+{}
+
+/// Where the types in all headers that are known name good objects only, whichever these are, what a question about types
+/// that do so too lacks is the header of a good object.
+pub fn lacks_what_is_named()
+    ensures { (good : ℕ → Bool) (headers : Headers)
+        → AreGood (λ d. good d ≡ true) headers → LacksNamed (λ d. good d ≡ true) headers }
 {}

@@ -5,5 +5,5 @@ mod laws;
 
 pub use laws::{
     identity_chains, identity_chains_without_unions, identity_is_decided_once,
-    identity_is_reflexive, identity_is_symmetric, identity_stays,
+    identity_is_reflexive, identity_is_symmetric, identity_stays, lacks_what_is_named,
 };
