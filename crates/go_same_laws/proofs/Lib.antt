@@ -5,6 +5,9 @@ pub mod FitLemmas
 pub mod IdentityLemmas
 pub mod NamedLawLemmas
 pub mod NamedLemmas
+pub mod NamedSameLemmas
+pub mod NamedSetLemmas
+pub mod NamedSortLemmas
 pub mod NormLemmas
 pub mod OrderLemmas
 pub mod PlaceLemmas

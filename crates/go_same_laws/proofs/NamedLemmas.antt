@@ -16,6 +16,10 @@ use Rattle.go_judge.specs.Types.UnderlyingType.{Origin, Reaching, Returns, Excee
 use Rattle.go_judge.specs.Quests.{Asked, Decided, Lacks, Quest, Done, Need, run, then_ask}
 use Rattle.go_same_laws.specs.Named.{AreGood, AreGoodParams, AsksOnly, IsGoodHeader, NameOnly, NamesGood, NamesOnly, ReachesGood}
 
+-- nothing is told of an answer
+abbrev pub AnyOf : {A : Type 0} → A → Type 0
+AnyOf a = Unit {0}
+
 module _ (good : ℕ → Type 0) where
   -- QUESTIONS
 

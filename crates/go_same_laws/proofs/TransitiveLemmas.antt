@@ -1,13 +1,18 @@
 -- Type identity is transitive over headers of which none is lacking, level after level.
-use Rattle.std.proofs.Common.{◌≡◌, ℕ, zero, suc, ◌+◌, ◌≤◌, Bool, true, false, refl, sym, subst, arith}
-use Rattle.go_term.specs.Types.{TypeData}
+use Rattle.std.proofs.Common.{◌≡◌, ℕ, zero, suc, ◌+◌, ◌≤◌, Bool, true, false, Option, Some, None, refl, sym, subst, ◌∙◌, arith}
+use Rattle.go_term.specs.declared.basic.Basic.TheVariants as B
+use Rattle.go_term.specs.Types.{TypeData, basic_type}
+use Rattle.go_judge.specs.Records.{HeaderData, alias}
 use Rattle.go_judge.specs.Headers.{Headers}
 use Rattle.go_judge.specs.Types.Heads.{alike}
-use Rattle.go_judge.specs.Types.TypeIdentity.{ask_each, fit, interfaces_in, same, same_interfaces, same_methods, same_sets, terms_lie}
-use Rattle.go_judge.specs.Types.TypeSets.{MethodData, SetData, set_of}
+use Rattle.go_judge.specs.Types.TypeIdentity.{ask_each, fit, interfaces_in, most_levels, most_opened, same, same_interfaces, same_methods, same_sets, terms_lie}
+use Rattle.go_judge.specs.Types.TypeSets.{MethodData, SetData, plain, set_of}
+use Rattle.go_judge.specs.Quests.{Decided, IsPart, Stays, run}
+use Rattle.go_judge.proofs.QuestLemmas.{run-stays}
+use Rattle.go_same_laws.specs.Laws.{Chains}
 use Rattle.go_same_laws.proofs.EveryLemmas.{every_with}
 use Rattle.go_same_laws.proofs.FitLemmas.{fits_chain, of_sets, pairs_chain, sets_chain, to_sets}
-use Rattle.go_same_laws.proofs.NormLemmas.{IsPlain, fit_chain, plain_is}
+use Rattle.go_same_laws.proofs.NormLemmas.{IsPlain, fit_chain, plain_is, plain_twice}
 use Rattle.go_same_laws.proofs.OrderLemmas.{Asking}
 use Rattle.go_same_laws.proofs.PlaceLemmas.{ArePlainPair, IsTwice, chain_interfaces, plain_places, twice_places}
 use Rattle.go_same_laws.proofs.SetLemmas.{Finds, found_once, set_more}

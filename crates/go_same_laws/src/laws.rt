@@ -1,4 +1,5 @@
-// Laws of type identity, which hold of all types over all headers: each is the contract of a function that does nothing.
+// Laws of type identity, which hold of all types over all headers, and of what questions about types lack: each is the
+// contract of a function that does nothing.
 ghost use Rattle.std.specs.Prelude.{◌≡◌, ℕ, true, Bool, Option};
 ghost use Rattle.go_term.specs.Types.{TypeData};
 ghost use Rattle.go_judge.specs.Records.{HeaderData};

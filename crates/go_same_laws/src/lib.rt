@@ -1,4 +1,5 @@
-//! Laws of type identity (Go specification, "Type identity"): functions that do nothing, whose contracts are the laws.
+//! Laws of type identity (Go specification, "Type identity"), and of what questions about types lack: functions that do
+//! nothing, whose contracts are the laws.
 #![tactic(auto)]
 
 mod laws;
