@@ -43,7 +43,7 @@ module _ (good : ℕ → Type 0) where
         go : (o : Option HeaderData) → headers n ≡ o → ((h : HeaderData) → IsGoodHeader good h → run headers (go_on h) ≡ Lacks d → good d)
             → elim o as (λ _. Asked A) [ None ↦ Lacks n | Some h ↦ run headers (go_on h) ] ≡ Lacks d → good d
         go None is rest f = let same : lacks n ≡ lacks d = f in let eq : n ≡ d = cc in subst good eq all.0
-        go (Some h) is rest f = rest h (known n h is) f
+        go (Some h) is rest f = rest h (known n h all.0 is) f
 
     pub comes_right : {A : Type 0} (right : A → Type 0) (q : Quest HeaderData A) → AsksOnly good right q → (a : A) → run headers q ≡ Decided a → right a
     comes_right right (Done b) all a e = let is : b ≡ a = cc in subst right is all
@@ -52,7 +52,7 @@ module _ (good : ℕ → Type 0) where
         go : (o : Option HeaderData) → headers n ≡ o → ((h : HeaderData) → IsGoodHeader good h → run headers (go_on h) ≡ Decided a → right a)
             → elim o as (λ _. Asked A) [ None ↦ Lacks n | Some h ↦ run headers (go_on h) ] ≡ Decided a → right a
         go None is rest f = absurd (let never : Lacks n ≡ Decided a = f in cc never)
-        go (Some h) is rest f = rest h (known n h is) f
+        go (Some h) is rest f = rest h (known n h all.0 is) f
 
   -- SUBSTITUTION
 

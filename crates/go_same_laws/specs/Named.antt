@@ -41,8 +41,9 @@ module _ (good : ℕ → Type 0) where
   IsGoodHeader (definition params right methods) = AreGoodParams params × NamesOnly right
   IsGoodHeader (alias type) = NamesOnly type
 
+  -- of the headers that are known those of good objects are good
   abbrev pub AreGood : Headers → Type 0
-  AreGood headers = (d : ℕ) (h : HeaderData) → headers d ≡ Some h → IsGoodHeader h
+  AreGood headers = (d : ℕ) (h : HeaderData) → good d → headers d ≡ Some h → IsGoodHeader h
 
   abbrev pub IsGoodRecord : RecData → Type 0
   IsGoodRecord r = IfSome r.type NamesOnly

@@ -45,8 +45,8 @@ pub fn identity_chains_without_unions()
     ensures { (headers : Headers) (a b c : TypeData) → ChainsThrough headers a b c }
 {}
 
-/// Where the types in all headers that are known name good objects only, whichever these are, what a question about types
-/// that do so too lacks is the header of a good object.
+/// Where the types in the headers of good objects, as far as they are known, name good objects only, whichever these are,
+/// what a question about types that do so too lacks is the header of a good object.
 pub fn lacks_what_is_named()
     ensures { (good : ℕ → Bool) (headers : Headers)
         → AreGood (λ d. good d ≡ true) headers → LacksNamed (λ d. good d ≡ true) headers }
