@@ -1,4 +1,5 @@
 pub mod FindLemmas
+pub mod HonestHeaders
 pub mod KnownLemmas
 pub mod ListLemmas
 pub mod NamedLemmas
