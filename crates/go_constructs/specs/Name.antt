@@ -1,14 +1,12 @@
 -- Operands; Declarations and scope; Predeclared identifiers; Types (Go specification).
 -- Decides what is asked of an identifier, which has no operand: the header of what it denotes; of a type that is defined or
--- predeclared, and of `true` and `false`, nothing; and of another predeclared identifier whether it is built.
-use Rattle.std.specs.Prelude.{pos, false, Some, [], ◌∷◌}
+-- predeclared nothing; and of another predeclared identifier whether it is built.
+use Rattle.std.specs.Prelude.{pos, false, [], ◌∷◌}
 use Rattle.go_module.specs.Rules.{unbuilt_form}
-use Rattle.go_num.specs.declared.value.Value.TheVariants.{Bool}
 use Rattle.go_term.specs.Types.{basic_type, interface_type, made, named, no_parts}
-use Rattle.go_term.specs.declared.basic.Basic.TheVariants.{UntypedBool}
 use Rattle.go_constructs.specs.declared.meaning.Meaning.{Meaning}
-use Rattle.go_constructs.specs.declared.meaning.Meaning.TheVariants.{AnyType, BasicType, Declared, DefinedType, Other, Predeclared, Truth}
-use Rattle.go_judge.specs.declared.rec.Mode.TheVariants.{Const, IsType}
+use Rattle.go_constructs.specs.declared.meaning.Meaning.TheVariants.{AnyType, BasicType, Declared, DefinedType, Other, Predeclared}
+use Rattle.go_judge.specs.declared.rec.Mode.TheVariants.{IsType}
 use Rattle.go_judge.specs.Judged.{Construct}
 use Rattle.go_judge.specs.Operands.{at_whole, leaf, no_construct}
 use Rattle.go_judge.specs.Records.{HeaderData, RecData, named_record, typed_record}
@@ -22,6 +20,5 @@ name (Declared d) = leaf (record { tests = []; gives = Need d.0 (λ h. Done (nam
 name (DefinedType d) = leaf (record { tests = []; gives = Done (typed_record d IsType (made (named d) no_parts)) })
 name (BasicType d basic) = leaf (record { tests = []; gives = Done (typed_record d IsType (basic_type basic)) })
 name (AnyType d) = leaf (record { tests = []; gives = Done (typed_record d IsType (made interface_type no_parts)) })
-name (Truth d truth) = leaf (record { tests = []; gives = Done (record (typed_record d Const (basic_type UntypedBool)) { value = Some (Bool truth) }) })
 name Predeclared = leaf (record { tests = at_whole unbuilt_form (Done false) ∷ []; gives = Done (integer_record (pos 0)) })
 name Other = no_construct

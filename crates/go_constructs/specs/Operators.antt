@@ -11,5 +11,4 @@ pub mod Binary
 pub mod Unary
 pub mod Pointers
 pub mod Channels
-pub mod Nodes
 pub mod Honest

@@ -14,8 +14,6 @@ pub enum Meaning {
     BasicType(ObjId, Basic),
     /// `any`
     AnyType(ObjId),
-    /// `true`, `false`
-    Truth(ObjId, bool),
     /// any other predeclared identifier
     Predeclared,
     /// nothing that has a header or is a type: the name of a package, or nothing at all

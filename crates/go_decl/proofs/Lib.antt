@@ -1,5 +1,4 @@
 pub mod FindLemmas
-pub mod HonestHeaders
 pub mod KnownLemmas
 pub mod ListLemmas
 pub mod NamedLemmas

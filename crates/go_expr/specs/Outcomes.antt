@@ -1,13 +1,9 @@
 -- The outcome of a node as the code finds it, by what its operands are and by its first part. That it is the outcome of the
 -- node: `NodeOutcomeLemmas`.
-use Rattle.std.specs.Prelude.{ℕ, ℤ, length, nat_le, Bool, true, false, ◌&&◌, ◌||◌, if◌then◌else◌, is_some, not, Option, Some, None, List, [], ◌∷◌, slice_get}
+use Rattle.std.specs.Prelude.{ℤ, Bool, true, false, ◌&&◌, ◌||◌, if◌then◌else◌, is_some, not, Option, Some, None, List, [], ◌∷◌, slice_get}
 use Rattle.std.specs.Option.{option_map}
 use Rattle.go_num.specs.Arithmetic.{binary_value, limited}
-use Rattle.go_num.specs.Text.{most_text}
 use Rattle.go_num.specs.declared.arithmetic.IntOp.TheVariants.{Add}
-use Rattle.go_num.specs.declared.value.Value.TheVariants.{Int, Text}
-use Rattle.go_term.specs.Types.{TypeData, basic_type}
-use Rattle.go_term.specs.declared.basic.Basic.TheVariants.{UntypedString}
 use Rattle.go_term.specs.declared.term.Dir.{Dir}
 use Rattle.go_term.specs.declared.term.Dir.TheVariants.{Both, Receive, Send}
 use Rattle.go_tree.specs.declared.node_kind.NodeKind.{NodeKind}
@@ -23,21 +19,13 @@ use Rattle.go_judge.specs.Judged.{Construct, OutcomeData}
 use Rattle.go_judge.specs.Judged as outcomes
 use Rattle.go_judge.specs.Operands.{is_value, no_construct}
 use Rattle.go_judge.specs.Records.{HeaderData, RecData}
-use Rattle.go_constructs.specs.Integers.{integer_in, untyped_int}
-use Rattle.go_constructs.specs.Operators.Constants.{constant_record}
-use Rattle.go_constructs.specs.Operators.Rules.{long_text}
+use Rattle.go_constructs.specs.Integers.{integer_in, integer_record}
 use Rattle.go_expr.specs.declared.sum.Operand.{Operand}
 
--- a value within the limits, as an untyped constant of this kind, or the rule that it breaks
-abbrev pub limited_view : TypeData → Option ℤ → OutcomeData RecData
-limited_view kind (Some v) = outcomes.Found (constant_record kind (Int v))
-limited_view kind None = outcomes.Broken wide_integer (Whole ∷ [])
-
--- a string within the limits, as an untyped constant, or the rule that it breaks
-abbrev pub text_view : List ℕ → OutcomeData RecData
-text_view bytes =
-    if nat_le (length bytes) most_text then outcomes.Found (constant_record (basic_type UntypedString) (Text bytes))
-    else outcomes.Broken long_text (Whole ∷ [])
+-- a value within the limits, or the rule that it breaks
+abbrev pub limited_view : Option ℤ → OutcomeData RecData
+limited_view (Some v) = outcomes.Found (integer_record v)
+limited_view None = outcomes.Broken wide_integer (Whole ∷ [])
 
 -- SUMS
 
@@ -62,7 +50,7 @@ sum_of_others x y =
     else outcomes.Broken unbuilt_form (Whole ∷ [])
 
 abbrev pub sum_by_integers : Operand → Operand → Option ℤ → Option ℤ → OutcomeData RecData
-sum_by_integers x y (Some a) (Some b) = limited_view untyped_int (limited (binary_value Add a b))
+sum_by_integers x y (Some a) (Some b) = limited_view (limited (binary_value Add a b))
 sum_by_integers x y a b = sum_of_others x y
 
 abbrev pub sum_by_kinds : Operand → Operand → OutcomeData RecData

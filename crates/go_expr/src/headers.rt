@@ -8,7 +8,6 @@ ghost use Rattle.go_judge.specs.Records as parts;
 ghost use Rattle.go_judge.specs.Records.{header_as, rec_as};
 ghost use Rattle.go_judge.specs.View.{outcome_as};
 ghost use Rattle.go_judge.specs.Types.Own.{IsOwnHeader, IsOwnOutcome, IsOwnRec, KeepsTypes};
-ghost use Rattle.go_constructs.specs.Operators.Honest.{AreHonest};
 ghost use Rattle.go_judge.specs.Naming.{AreThere};
 ghost use Rattle.go_model.specs.Values.Records as records;
 ghost use Rattle.go_names.specs.Views.{declaration_view};
@@ -29,8 +28,7 @@ pub fn header_over<W: ExprWalk>(
     walks: &mut W,
     declaration: &Declaration,
 ) -> Result<Option<Header>, NoMemory>
-    requires there { AreThere (W.names walks.old) }
-    requires honest { AreHonest (W.headers walks.old) }
+    requires { AreThere (W.names walks.old) }
     ensures header { IfOk result (λ header. option_map (header_as (W.tree walks.new)) header
         ≡ records.header_over (W.names walks.old) (W.headers walks.old)
         (declaration_view declaration.now)) }

@@ -19,9 +19,7 @@ mod types;
 mod broken;
 mod literal;
 mod name;
-mod operator;
 mod parentheses;
-mod rune_literal;
 mod selector;
 mod sum;
 

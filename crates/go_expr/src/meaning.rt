@@ -32,11 +32,11 @@ fn object_meaning(d: ObjId, object: &Object) -> Meaning
     }
 }
 
-// What a universe name means: the types and the truth values are listed in the order of `PREDECLARED` of go_module.
+// What a universe name means: the types are listed in the order of `PREDECLARED` of go_module.
 fn predeclared_meaning(d: ObjId) -> Meaning
     ensures { result ≡ spec.predeclared_meaning d }
 {
-    let meanings = [
+    let types = [
         Meaning::AnyType(d),
         Meaning::BasicType(d, Basic::Bool),
         Meaning::BasicType(d, Basic::Uint8),
@@ -59,10 +59,8 @@ fn predeclared_meaning(d: ObjId) -> Meaning
         Meaning::BasicType(d, Basic::Uint32),
         Meaning::BasicType(d, Basic::Uint64),
         Meaning::BasicType(d, Basic::Uintptr),
-        Meaning::Truth(d, true),
-        Meaning::Truth(d, false),
     ];
-    match meanings.get(d.0) {
+    match types.get(d.0) {
         Some(meaning) => *meaning,
         None => Meaning::Predeclared,
     }

@@ -1,7 +1,6 @@
 // Identifiers (Go specification, "Operands", "Predeclared identifiers").
-ghost use Rattle.std.specs.Prelude.{◌≡◌, List, Some, IfOk, IfSome};
+ghost use Rattle.std.specs.Prelude.{◌≡◌, List, IfOk, IfSome};
 ghost use Rattle.std.specs.Option.{option_map};
-ghost use Rattle.go_num.specs.declared.value.Value.TheVariants as values;
 ghost use Rattle.go_constructs.specs.declared.meaning.Meaning.TheVariants as meanings;
 ghost use Rattle.go_constructs.specs.Name as spec;
 ghost use Rattle.go_judge.specs.declared.rec.Mode.TheVariants as modes;
@@ -15,13 +14,12 @@ use crate::types::{any_type, basic_type, named_type};
 use go_base::NoMemory;
 use go_model::{Header, Judge, Meaning, Mode, Outcome, Rec, broken};
 use go_module::{ObjId, UNBUILT_FORM};
-use go_num::Value;
-use go_term::{Basic, Ty};
+use go_term::Ty;
 use std::alloc::Global;
 
 /// An identifier by its meaning: a constant, a variable and an alias have the record that their header gives, or wait for
-/// it; a type that is defined or predeclared, and a truth value, is itself; another predeclared identifier breaks U0. An
-/// error is want of memory.
+/// it; a type that is defined or predeclared is itself; another predeclared identifier breaks U0. An error is want of
+/// memory.
 pub fn name<J: Judge>(alloc: Global, judge: &mut J, meaning: Meaning) -> Result<Outcome, NoMemory>
     ensures outcome { IfOk result (λ outcome. (parts : List (OutcomeData RecData))
         → outcome_as (J.tree judge.new) outcome ≡ judged (J.headers judge.old) (spec.name meaning) parts) }
@@ -48,10 +46,6 @@ pub fn name<J: Judge>(alloc: Global, judge: &mut J, meaning: Meaning) -> Result<
             let ty = any_type(alloc, judge)?;
             Ok(name_of_type(judge, d, ty))
         }
-        Meaning::Truth(d, truth) => {
-            let ty = basic_type(alloc, judge, Basic::UntypedBool)?;
-            Ok(name_of_truth(judge, d, truth, ty))
-        }
         Meaning::Predeclared => broken(alloc, judge, UNBUILT_FORM),
         Meaning::Other => Ok(Outcome::Nothing),
     }
@@ -65,22 +59,6 @@ fn name_of_type<J: Judge>(judge: &J, d: ObjId, ty: Ty) -> Outcome
     ensures own { IsOwnOutcome (J.is_type judge.now) result }
 {
     Outcome::Found(typed_record(judge, d, Mode::IsType, ty))
-}
-
-// The name of a truth value, whose type is that of untyped ones.
-fn name_of_truth<J: Judge>(judge: &J, d: ObjId, truth: bool, ty: Ty) -> Outcome
-    requires { J.is_type judge.now ty }
-    ensures outcome { outcome_as (J.tree judge.now) result
-        ≡ outcomes.Found (record (typed_record d modes.Const (J.tree judge.now ty)) { value = Some (values.Bool truth) }) }
-    ensures own { IsOwnOutcome (J.is_type judge.now) result }
-{
-    Outcome::Found(Rec {
-        mode: Mode::Const,
-        ty: Some(ty),
-        value: Some(Value::Bool(truth)),
-        object: Some(d),
-        span: None,
-    })
 }
 
 // A declaration, by the header that it may have. An error is want of memory.

@@ -4,12 +4,12 @@ ghost use Rattle.std.specs.List.{AllByRecursion};
 ghost use Rattle.go_num.specs.Arithmetic.{binary_value, limited};
 ghost use Rattle.go_num.specs.declared.arithmetic.IntOp.TheVariants as ops;
 ghost use Rattle.go_constructs.specs.Sum as spec;
+ghost use Rattle.go_judge.specs.Headers.{Headers};
 ghost use Rattle.go_judge.specs.Judged.{OutcomeData, judged};
 ghost use Rattle.go_judge.specs.Judged as outcomes;
 ghost use Rattle.go_judge.specs.Operands.{is_value_mode};
 ghost use Rattle.go_judge.specs.Records.{RecData, rec_as};
 ghost use Rattle.go_judge.specs.View.{outcome_as};
-ghost use Rattle.go_judge.specs.Headers as known;
 ghost use Rattle.go_judge.specs.Types.Own.{IsOwnOutcome, IsOwnRec, Keeps};
 ghost use Rattle.go_expr.specs.Outcomes.{is_taken, operand_in, sum_by_kinds, sum_of_others};
 
@@ -20,7 +20,6 @@ use go_base::NoMemory;
 use go_model::{Judge, Mode, NO_VALUE, Outcome, Rec, broken};
 use go_module::{ObjId, UNBUILT_FORM};
 use go_num::{IntOp, int_binary};
-use go_term::Basic;
 use std::alloc::Global;
 
 // What an operand of a sum is: whether it is a value, and the integer that it is where it is an untyped integer constant.
@@ -38,7 +37,7 @@ pub fn sum<J: Judge>(
     outcomes: &[Outcome],
 ) -> Result<Outcome, NoMemory>
     requires { AllByRecursion (IsOwnOutcome (J.is_type judge.old)) outcomes.now }
-    ensures outcome { IfOk result (λ outcome. (headers : known.Headers) → outcome_as (J.tree judge.new) outcome
+    ensures outcome { IfOk result (λ outcome. (headers : Headers) → outcome_as (J.tree judge.new) outcome
         ≡ judged headers spec.sum (map (outcome_as (J.tree judge.old)) outcomes.now)) }
     ensures own { IfOk result (IsOwnOutcome (J.is_type judge.new)) }
     ensures keeps { Keeps (J.headers judge.old) (J.headers judge.new) (J.names judge.old) (J.names judge.new)
@@ -61,7 +60,7 @@ fn sum_of_two<J: Judge>(
 ) -> Result<Outcome, NoMemory>
     requires left { IsOwnOutcome (J.is_type judge.old) left.now }
     requires right { IsOwnOutcome (J.is_type judge.old) right.now }
-    ensures outcome { IfOk result (λ outcome. (headers : known.Headers) (parts : List (OutcomeData RecData))
+    ensures outcome { IfOk result (λ outcome. (headers : Headers) (parts : List (OutcomeData RecData))
         → outcome_as (J.tree judge.new) outcome ≡ judged headers spec.sum
         (outcome_as (J.tree judge.old) left.now ∷ (outcome_as (J.tree judge.old) right.now ∷ parts))) }
     ensures own { IfOk result (IsOwnOutcome (J.is_type judge.new)) }
@@ -87,7 +86,7 @@ fn sum_of_found<J: Judge>(
 ) -> Result<Outcome, NoMemory>
     requires left { IsOwnRec (J.is_type judge.old) left.now }
     requires right { IsOwnOutcome (J.is_type judge.old) right.now }
-    ensures outcome { IfOk result (λ outcome. (headers : known.Headers) (parts : List (OutcomeData RecData))
+    ensures outcome { IfOk result (λ outcome. (headers : Headers) (parts : List (OutcomeData RecData))
         → outcome_as (J.tree judge.new) outcome ≡ judged headers spec.sum
         (outcomes.Found (rec_as (J.tree judge.old) left.now) ∷ (outcome_as (J.tree judge.old) right.now ∷ parts))) }
     ensures own { IfOk result (IsOwnOutcome (J.is_type judge.new)) }
@@ -113,7 +112,7 @@ fn sum_of_records<J: Judge>(
 ) -> Result<Outcome, NoMemory>
     requires left { IsOwnRec (J.is_type judge.old) left.now }
     requires right { IsOwnRec (J.is_type judge.old) right.now }
-    ensures outcome { IfOk result (λ outcome. (headers : known.Headers) (parts : List (OutcomeData RecData))
+    ensures outcome { IfOk result (λ outcome. (headers : Headers) (parts : List (OutcomeData RecData))
         → outcome_as (J.tree judge.new) outcome ≡ judged headers spec.sum
         (outcomes.Found (rec_as (J.tree judge.old) left.now)
         ∷ (outcomes.Found (rec_as (J.tree judge.old) right.now) ∷ parts))) }
@@ -162,12 +161,7 @@ fn sum_by_kinds<J: Judge>(
         (J.tree judge.old) (J.tree judge.new) }
 {
     match (first.integer, second.integer) {
-        (Some(left), Some(right)) => limited_outcome(
-            alloc,
-            judge,
-            Basic::UntypedInt,
-            sum_of(left, right),
-        ),
+        (Some(left), Some(right)) => limited_outcome(alloc, judge, sum_of(left, right)),
         _ => sum_of_others(alloc, judge, first, second),
     }
 }
@@ -221,7 +215,7 @@ fn is_value(mode: Mode) -> bool
 
 // A sum whose left operand waits for this declaration.
 fn sum_of_waiting<J: Judge>(judge: &J, d: ObjId, right: &Outcome) -> Outcome
-    ensures outcome { (headers : known.Headers) (parts : List (OutcomeData RecData))
+    ensures outcome { (headers : Headers) (parts : List (OutcomeData RecData))
         → outcome_as (J.tree judge.now) result
         ≡ judged headers spec.sum (outcomes.Waits d.0 ∷ (outcome_as (J.tree judge.now) right.now ∷ parts)) }
     ensures own { IsOwnOutcome (J.is_type judge.now) result }

@@ -4,11 +4,7 @@ pub mod Declaring
 pub mod ListLemmas
 pub mod AskedLemmas
 pub mod PlainLemmas
-pub mod PlainTypeLemmas
-pub mod PlainOperatorLemmas
-pub mod PlainConstructLemmas
 pub mod RecordLemmas
-pub mod GoodHeaderLemmas
 pub mod WalkLemmas
 pub mod FollowLemmas
 pub mod SpecHeaderLemmas
@@ -31,7 +27,6 @@ pub mod BuiltPartLemmas
 pub mod BuiltRoles
 pub mod BuiltRoleLemmas
 pub mod BuiltSpecLemmas
-pub mod KnownLemmas
 pub mod ReachedLemmas
 pub mod BuiltTreeLemmas
 pub mod BuiltModuleLemmas
