@@ -3,14 +3,14 @@ from generated_plan import LIMIT, Constant, Import, Spec, rng
 
 # A text in place of a value, its rule, and at which of its bytes that is told.
 TERMS = [('undeclared', 'P7', 0), ('Undeclared.Name', 'P7', 0), ('_', 'P12', 0), ('_.Name', 'P12', 0),
-         ('complex', 'U8', 0), ('complex128', 'U8', 0), ('iota', 'U0', 0), ('false', 'U0', 0), ('nil', 'U0', 0),
+         ('complex', 'U8', 0), ('complex128', 'U8', 0), ('cap', 'U0', 0), ('print', 'U0', 0), ('nil', 'U0', 0),
          ('append', 'U0', 0)]
 
 # What stands behind all else in a file, and what it breaks.
 TAILS = [('\nvar v = 1\n', [(5, 'U0')]), ('\nconst W\n', [(7, 'U0'), (7, 'S8')]),
          ('\nconst W = )\n', [(11, 'S3')]), ('\nconst W = 1.5\n', [(11, 'U2')]), ('\nconst W = #\n', [(11, 'S2')]),
-         ('\nfunc f(a, b ...int)\n', [(1, 'U0'), (8, 'S5')]), ('\nconst W int = 1 - 2\n', [(9, 'U0'), (15, 'U0')]),
-         ('\nconst (\n\tV = 1\n\tW\n)\n', [(17, 'U0')])]
+         ('\nfunc f(a, b ...int)\n', [(1, 'U0'), (8, 'S5')]), ('\nconst W int = 1 - f()\n', [(9, 'U0'), (19, 'U0')]),
+         ('\nconst (\n\tV = f()\n\tW\n)\n', [(14, 'U0')])]
 
 GO_MODS = [(None, [('1:1', 'M1')]), ('module m\n', [('1:1', 'M3')]), ('go 1.21\n', [('1:1', 'M2')]),
            ('module m\n\ngo 1.20\n', [('3:1', 'U1')]), ('module m\nmodule n\ngo 1.21\n', [('1:1', 'M2'), ('2:1', 'M2')])]

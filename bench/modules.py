@@ -62,7 +62,7 @@ def program_named():
 
 def build(other, folder):
     """Builds the program over go/types."""
-    sources = [f'{HERE}/modules_go/{name}.go' for name in ('main', 'types')]
+    sources = [f'{HERE}/modules_go/{name}.go' for name in ('main', 'types', 'constants')]
     env = {**os.environ, 'GO111MODULE': 'off', 'GOCACHE': folder + '/cache'}
     subprocess.run([GO, 'build', '-o', other, *sources], check=True, env=env)
 

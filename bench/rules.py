@@ -33,6 +33,12 @@ IN_WORDS = {
     ('L6', '`const X = !1` with 997 times `!`'): {
         'a.go, quoted': '"package p\\n"\n"\\n"\n"const X = "\n"!" * 997\n"1\\n"\n'
     },
+    ('L3', '`const X = ""` with 1,048,577 times `a` between the quotes'): {
+        'a.go, quoted': '"package p\\n"\n"\\n"\n"const X = \\""\n"a" * 1048577\n"\\"\\n"\n'
+    },
+    ('L3', '`const X = "" + "a"` with 1,048,576 times `a` in the first string'): {
+        'a.go, quoted': '"package p\\n"\n"\\n"\n"const X = \\""\n"a" * 1048576\n"\\" + \\"a\\"\\n"\n'
+    },
     ('M1', 'no go.mod'): {'no go.mod': '', 'a.go': 'package p\n'},
     ('U6', 'a file `a b.go`'): {'a b.go': 'package p\n'},
     ('L1', 'a file of 16,777,217 bytes'): {'a.go, quoted': '"package p"\n" " * 16777208\n'},

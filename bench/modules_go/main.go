@@ -1,15 +1,15 @@
 // Checks a module of constants and types with go/parser and go/types, and prints the lines of gocheck's report, to compare
 // gocheck with.
 //
-// usage: modules ROOT [STUBS]    ends with status 1 at the first error, which is printed
+// usage: modules ROOT [STUBS]    ends with status 1 at the first package with errors, which are printed
 package main
 
 import (
 	"bufio"
 	"container/heap"
+	"errors"
 	"fmt"
 	"go/ast"
-	"go/constant"
 	"go/parser"
 	"go/token"
 	"go/types"
@@ -31,6 +31,7 @@ type module struct {
 	files             *token.FileSet
 	sources           map[string]*source
 	checked           map[string]*types.Package
+	copies            map[ast.Expr]bool
 	out               *bufio.Writer
 }
 
@@ -52,6 +53,7 @@ func (m *module) read(root, prefix string) error {
 		if err != nil {
 			return err
 		}
+		m.copyLists(file)
 		folder, _ := filepath.Rel(root, filepath.Dir(path))
 		m.add(slashPath(prefix, folder), file)
 		return nil
@@ -133,10 +135,11 @@ func (m *module) checkAll(reached map[string]bool) error {
 func (m *module) check(path string) error {
 	info := &types.Info{Types: map[ast.Expr]types.TypeAndValue{}, Defs: map[*ast.Ident]types.Object{},
 		Uses: map[*ast.Ident]types.Object{}}
-	config := types.Config{Importer: m}
-	p, err := config.Check(path, m.files, m.sources[path].files, info)
-	if err != nil {
-		return err
+	var faults []string
+	config := types.Config{Importer: m, Error: func(fault error) { faults = append(faults, m.fault(fault.(types.Error))) }}
+	p, _ := config.Check(path, m.files, m.sources[path].files, info)
+	if len(faults) > 0 {
+		return errors.New(strings.Join(faults, "\n"))
 	}
 	m.checked[path] = p
 	fmt.Fprintf(m.out, "package\t%s\t%s\taccepted\n", path, p.Name())
@@ -144,12 +147,16 @@ func (m *module) check(path string) error {
 	return nil
 }
 
+func (m *module) fault(fault types.Error) string {
+	return m.place(fault.Pos) + "\t" + fault.Msg
+}
+
 func (m *module) print(files []*ast.File, info *types.Info) {
 	for _, file := range files {
 		m.printDefs(file, info)
 	}
 	for _, file := range files {
-		ast.Inspect(file, func(node ast.Node) bool {
+		m.inspect(file, func(node ast.Node) bool {
 			if name, ok := node.(*ast.Ident); ok && info.Uses[name] != nil {
 				fmt.Fprintf(m.out, "use\t%s\t%s\t%s\n", m.place(name.Pos()), name.Name, m.place(info.Uses[name].Pos()))
 			}
@@ -157,13 +164,13 @@ func (m *module) print(files []*ast.File, info *types.Info) {
 		})
 	}
 	for _, file := range files {
-		ast.Inspect(file, func(node ast.Node) bool { return m.printExpr(node, info) })
+		m.inspect(file, func(node ast.Node) bool { return m.printExpr(node, info) })
 	}
 }
 
 func (m *module) printDefs(file *ast.File, info *types.Info) {
 	rights := map[*ast.Ident]ast.Expr{}
-	ast.Inspect(file, func(node ast.Node) bool {
+	m.inspect(file, func(node ast.Node) bool {
 		if spec, ok := node.(*ast.TypeSpec); ok {
 			rights[spec.Name] = spec.Type
 		}
@@ -213,7 +220,7 @@ func (m *module) printExpr(node ast.Node, info *types.Info) bool {
 		ok = false
 	}
 	if ok && known.Value != nil {
-		m.printRecord(expr, "const", known.Type.String(), text(known.Value))
+		m.printRecord(expr, "const", kindText(expr, known, info), text(known.Value))
 	} else if ok && known.IsType() {
 		m.printRecord(expr, "type", typeText(known.Type))
 	}
@@ -232,10 +239,6 @@ func (m *module) printExpr(node ast.Node, info *types.Info) bool {
 func (m *module) printRecord(expr ast.Expr, fields ...string) {
 	end := m.files.Position(expr.End())
 	fmt.Fprintf(m.out, "expr\t%s\t%d:%d\t%s\n", m.place(expr.Pos()), end.Line, end.Column, strings.Join(fields, "\t"))
-}
-
-func text(value constant.Value) string {
-	return value.ExactString()
 }
 
 func (m *module) place(pos token.Pos) string {
@@ -278,7 +281,7 @@ func (m *module) run() error {
 
 func main() {
 	m := &module{root: filepath.Clean(os.Args[1]), files: token.NewFileSet(), sources: map[string]*source{},
-		checked: map[string]*types.Package{}, out: bufio.NewWriter(os.Stdout)}
+		checked: map[string]*types.Package{}, copies: map[ast.Expr]bool{}, out: bufio.NewWriter(os.Stdout)}
 	if len(os.Args) > 2 {
 		m.stubs = filepath.Clean(os.Args[2])
 	}

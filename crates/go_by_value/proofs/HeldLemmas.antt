@@ -8,7 +8,7 @@ use Rattle.go_term.specs.Types.{TypeData, parts_of}
 use Rattle.go_term.specs.declared.shape.FieldShape.{FieldShape}
 use Rattle.go_term.specs.declared.term.Term.{Term}
 use Rattle.go_judge.specs.Types.Own.{KeepsTypes}
-use Rattle.go_model.specs.Values.ByValue.{held_in_each}
+use Rattle.go_values.specs.ByValue.{held_in_each}
 
 module _ (tree : Term → TypeData) where
   -- what the types of fields hold, and how deep they are

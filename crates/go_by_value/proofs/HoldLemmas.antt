@@ -18,7 +18,7 @@ use Rattle.go_cycles.proofs.ListLemmas.{flat_cases, flat_contains}
 use Rattle.go_cycles.proofs.PlaceLemmas.{IsPlaced, declared_place, place_declared}
 use Rattle.go_judge.specs.Records.{HeaderData, ParamData, alias, constant, definition, func, variable}
 use Rattle.go_judge.specs.Headers.{Headers}
-use Rattle.go_model.specs.Values.ByValue.{Contained, Holds, held_in}
+use Rattle.go_values.specs.ByValue.{Contained, Holds, held_in}
 use Rattle.go_by_value.specs.Holding.{graph_of, held_by, place_list, places_held}
 
 -- only what a definition has for its right side is held

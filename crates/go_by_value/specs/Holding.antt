@@ -10,7 +10,7 @@ use Rattle.go_term.specs.declared.shape.Shape.{Shape}
 use Rattle.go_term.specs.declared.shape.Shape.TheVariants.{Named}
 use Rattle.go_judge.specs.Records.{HeaderData, definition}
 use Rattle.go_judge.specs.Headers.{Headers}
-use Rattle.go_model.specs.Values.ByValue.{contained_at, held_in}
+use Rattle.go_values.specs.ByValue.{contained_at, held_in}
 
 -- the type itself, where a definition has it
 abbrev pub named_at : Shape → List ObjId

@@ -4,7 +4,7 @@ ghost use Rattle.std.specs.List.{AllByRecursion};
 ghost use Rattle.go_term.specs.Shapes.{field_tree, shape_tree};
 ghost use Rattle.go_term.specs.Types.{parts_of};
 ghost use Rattle.go_judge.specs.Types.Own.{AreOwn, Keeps};
-ghost use Rattle.go_model.specs.Values.ByValue.{held_in, held_in_each};
+ghost use Rattle.go_values.specs.ByValue.{held_in, held_in_each};
 ghost use Rattle.go_by_value.specs.Holding.{named_at};
 
 use go_base::NoMemory;

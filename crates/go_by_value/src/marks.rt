@@ -3,7 +3,7 @@ ghost use Rattle.std.specs.Prelude.{◌≡◌, ◌↔◌, ℕ, IfOk, true};
 ghost use Rattle.go_names.specs.Views.{declarations_view};
 ghost use Rattle.go_cycles.specs.Places.{ArePlaces, marked_by, placed_by};
 ghost use Rattle.go_judge.specs.Types.Own.{Keeps};
-ghost use Rattle.go_model.specs.Values.ByValue.{Contained};
+ghost use Rattle.go_values.specs.ByValue.{Contained};
 
 use crate::graph::graph_of;
 use go_base::NoMemory;

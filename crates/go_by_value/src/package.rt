@@ -4,7 +4,7 @@ ghost use Rattle.go_module.specs.Modules.Module.{PackageData, module_view, packa
 ghost use Rattle.go_names.specs.Views.{declaration_view, declarations_view};
 ghost use Rattle.go_cycles.specs.Places.{marked_by, placed_by};
 ghost use Rattle.go_judge.specs.Types.Own.{Keeps};
-ghost use Rattle.go_model.specs.Values.ByValue.{AreContained, contained_at};
+ghost use Rattle.go_values.specs.ByValue.{AreContained, contained_at};
 ghost use Rattle.go_by_value.specs.Holding.{broken_in};
 
 use crate::marks::contained_types;

@@ -10,7 +10,7 @@ use Rattle.go_module.specs.Modules.Module.{PackageData, module_view, package_vie
 use Rattle.go_module.specs.Names.Imports.{known_in}
 use Rattle.go_module.specs.Names.Rules.BrokenNames.{broken_names}
 use Rattle.go_judge.specs.Naming.{AreThere, no_names}
-use Rattle.go_model.specs.Values.Naming.{names_in}
+use Rattle.go_model.specs.Naming.{names_in}
 use Rattle.go_model.proofs.ThereLemmas.{collected_names, collected_there}
 use Rattle.go_scope.specs.Collecting.{IsCollected}
 use Rattle.go_check.specs.Packages.Book.{home_at, names_at, scope_names}

@@ -15,8 +15,8 @@ use Rattle.go_module.specs.Modules.Module.{PackageData, file_view, package_view}
 use Rattle.go_module.specs.Names.Declarations.{Declaration, declarations_in}
 use Rattle.go_module.specs.NodeParts.{first_part}
 use Rattle.go_module.specs.Scopes.{same_object}
-use Rattle.go_model.specs.declared.declared_object.DeclaredObject.{DeclaredObject}
-use Rattle.go_model.specs.Outline.{declared_by, declared_from, declared_in_packages, path_at}
+use Rattle.go_report.specs.declared.declared_object.DeclaredObject.{DeclaredObject}
+use Rattle.go_report.specs.Outline.{declared_by, declared_from, declared_in_packages, path_at}
 use Rattle.go_names.specs.declared.declaration.Declaration.{Declaration as OwnDeclaration}
 use Rattle.go_names.specs.declared.spec.Spec.{Spec as OwnSpec}
 use Rattle.go_names.specs.Views.{declaration_view, declarations_view, specs_view, trees_at}

@@ -12,10 +12,10 @@ use Rattle.go_module.specs.Modules.Module.{FileData, PackageData}
 use Rattle.go_module.specs.Names.Declarations.{declarations_in, specs_in_file}
 use Rattle.go_module.specs.Names.Imports.{imports_from}
 use Rattle.go_judge.specs.Naming.{Naming}
-use Rattle.go_model.specs.LineOrder.{AreInOrder, no_file, one_more}
-use Rattle.go_model.specs.Outline.{Outline, declared_by, declared_from, declaring}
-use Rattle.go_model.specs.PackageLines.{AreLines, declaration_defs, defs_from, exprs_from, exprs_in, import_defs, import_defs_in, member_defs, uses_from, uses_in, written_nodes}
-use Rattle.go_model.specs.Report.{LineData}
+use Rattle.go_report.specs.LineOrder.{AreInOrder, no_file, one_more}
+use Rattle.go_report.specs.Outline.{Outline, declared_by, declared_from, declaring}
+use Rattle.go_report.specs.PackageLines.{AreLines, declaration_defs, defs_from, exprs_from, exprs_in, import_defs, import_defs_in, member_defs, uses_from, uses_in, written_nodes}
+use Rattle.go_report.specs.Report.{LineData}
 use Rattle.go_judge.specs.Headers.{Headers}
 use Rattle.go_model.specs.Outcomes.Walk.{outcome}
 use Rattle.go_check.specs.Lines.Found.{OwnFileData, declared_in_file, def_lines, expr_lines, import_lines, own_file, own_files_from, own_files_in, use_lines}

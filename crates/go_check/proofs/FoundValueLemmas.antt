@@ -12,12 +12,12 @@ use Rattle.go_judge.specs.Records.{HeaderData}
 use Rattle.go_judge.specs.Headers.{Headers, Outcomes}
 use Rattle.go_model.specs.Outcomes.Walk.{outcome}
 use Rattle.go_model.specs.Outcomes.Walked.{AreWalked}
-use Rattle.go_model.specs.Phases.{BreaksShapes, BreaksValues}
-use Rattle.go_model.specs.Values.ByValue.{AreContained, broken_contained}
-use Rattle.go_model.specs.Values.Headers.{Known}
+use Rattle.go_report.specs.Phases.{BreaksShapes, BreaksValues}
+use Rattle.go_values.specs.ByValue.{AreContained, broken_contained}
+use Rattle.go_values.specs.Headers.{Known}
 use Rattle.go_judge.specs.Naming.{Naming}
-use Rattle.go_model.specs.Values.Naming.{names_in}
-use Rattle.go_model.specs.Values.Rules.{broken_values}
+use Rattle.go_model.specs.Naming.{names_in}
+use Rattle.go_values.specs.Rules.{broken_values}
 use Rattle.go_decl.specs.Broken.{AreBroken}
 
 -- lists of the same members, one behind another

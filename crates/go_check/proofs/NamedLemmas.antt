@@ -5,10 +5,10 @@ use Rattle.std.proofs.lemmas.List.{append-nil, drop_all}
 use Rattle.indexmap.specs.IndexMap.{insert_all}
 use Rattle.go_base.specs.declared.ids.ObjId.{ObjId}
 use Rattle.go_module.specs.Scopes.{same_object}
-use Rattle.go_model.specs.declared.lines.Line.{Line}
-use Rattle.go_model.specs.Outline.{Outline, named_by}
-use Rattle.go_model.specs.PackageLines.{named_in, objects_in_what}
-use Rattle.go_model.specs.Report.{LineData, NamedData, line_view}
+use Rattle.go_report.specs.declared.lines.Line.{Line}
+use Rattle.go_report.specs.Outline.{Outline, named_by}
+use Rattle.go_report.specs.PackageLines.{named_in, objects_in_what}
+use Rattle.go_report.specs.Report.{LineData, NamedData, line_view}
 
 first_parts : {A B C : Type 0} (f : A → C) (entries : List (A × B)) → map f (map (λ e. e.0) entries) ≡ map (λ e. f e.0) entries
 first_parts f [] = refl

@@ -9,11 +9,11 @@ use Rattle.std.specs.declared.cmp.Ordering.TheVariants.{Less, Equal, Greater}
 use Rattle.std.specs.Ordering.{is_lt, ordering_then}
 use Rattle.go_base.specs.declared.places.LineCol.{LineCol}
 use Rattle.go_names.proofs.InnerLemmas.{map-filter}
-use Rattle.go_model.specs.declared.lines.Line.{Line}
-use Rattle.go_model.specs.declared.lines.What.{What}
-use Rattle.go_model.specs.declared.lines.What.TheVariants.{Used, Expr}
-use Rattle.go_model.specs.LineOrder.{IsInOrder, end_of, is_before, place_cmp, start_of_line}
-use Rattle.go_model.specs.Report.{LineData, WhatData, defined, used, expression, line_view, what_view}
+use Rattle.go_report.specs.declared.lines.Line.{Line}
+use Rattle.go_report.specs.declared.lines.What.{What}
+use Rattle.go_report.specs.declared.lines.What.TheVariants.{Used, Expr}
+use Rattle.go_report.specs.LineOrder.{IsInOrder, end_of, is_before, place_cmp, start_of_line}
+use Rattle.go_report.specs.Report.{LineData, WhatData, defined, used, expression, line_view, what_view}
 
 -- an element of a list of views
 get-map : {X Y : Type 0} (f : X → Y) (xs : List X) (k : ℕ) (d : Y) (e : X) → k < length xs → get_or (map f xs) k d ≡ f (get_or xs k e)

@@ -14,10 +14,10 @@ use Rattle.go_judge.specs.Records.{HeaderData, RecData}
 use Rattle.go_judge.specs.Headers.{Headers, Outcomes}
 use Rattle.go_model.specs.Outcomes.Walk.{outcome}
 use Rattle.go_model.specs.Outcomes.Walked.{AreWalked}
-use Rattle.go_model.specs.Outline.{Outline}
-use Rattle.go_model.specs.Members.{members_of}
-use Rattle.go_model.specs.PackageLines.{declaration_defs, def_by, expr_at, expr_by, expr_end, line_at, member_def, member_defs, member_defs_by, record_line, told_as, written}
-use Rattle.go_model.specs.Report.{defined}
+use Rattle.go_report.specs.Outline.{Outline}
+use Rattle.go_report.specs.Members.{members_of}
+use Rattle.go_report.specs.PackageLines.{declaration_defs, def_by, expr_at, expr_by, expr_end, line_at, member_def, member_defs, member_defs_by, record_line, told_as, written}
+use Rattle.go_report.specs.Report.{defined}
 use Rattle.go_model.proofs.FlatLemmas.{filter_within, flat_cases, flat_contains, flat_map-same, map-same}
 use Rattle.go_expr.specs.Read.{nodes_under, outcome_read}
 use Rattle.go_expr.proofs.ReadLemmas.{read_is}

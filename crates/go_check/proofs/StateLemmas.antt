@@ -6,11 +6,13 @@ use Rattle.std.proofs.lemmas.List.{append_assoc}
 use Rattle.go_graph.specs.Graph.{is_marked}
 use Rattle.go_module.specs.declared.module.Module.{Module}
 use Rattle.go_module.specs.Modules.Module.{ModuleData, PackageData, module_view}
-use Rattle.go_model.specs.Phases.{AreReports, IsVerdict, all_told, skips, checks, imports_accepted, is_accepted, no_headers, package_report}
-use Rattle.go_model.specs.Report as report
-use Rattle.go_model.specs.Report.{VerdictData, skipped}
+use Rattle.go_report.specs.Phases.{AreReports, IsVerdict, all_told, skips, checks, imports_accepted, is_accepted, no_headers, package_report}
+use Rattle.go_report.specs.Report as report
+use Rattle.go_report.specs.Report.{VerdictData, skipped}
 use Rattle.go_judge.specs.Headers.{Headers}
 use Rattle.go_judge.specs.HeadersView.{headers_view}
+use Rattle.go_constructs.specs.Operators.Honest.{AreHonest}
+use Rattle.go_decl.proofs.HonestHeaders.{honest_none}
 use Rattle.go_check.specs.declared.module.State.{State}
 use Rattle.go_check.specs.declared.names.Names.{Names}
 use Rattle.go_check.specs.Packages.Names.{ImportsSound, sound_at}
@@ -78,6 +80,7 @@ module _ («module» : Module) (names : Names) where
     over = over;
     scopes = scopes;
     same = fun_ext (λ d. none d ∙ sym (vacant d));
+    honest = honest_none (headers_view s.book.judge.headers) vacant;
   }
 
   -- behind the last package all reports are told
@@ -115,8 +118,9 @@ module _ («module» : Module) (names : Names) (k : ℕ) (p : PackageData) (old 
       → (is_accepted verdict ≡ true → sound_at names.verdicts.items k ≡ true)
       → IsFront (module_view «module») (k + 1) (record { marks = old.marks.items ++ is_accepted verdict ∷ []; before = after; reports = map report.package_view old.reports.items ++ package_report p verdict ∷ [] })
       → new.book.judge.«module».now ≡ «module» → new.book.judge.scopes.now ≡ names.scopes.items → headers_view new.known ≡ headers_view new.book.judge.headers
+      → AreHonest (headers_view new.book.judge.headers)
       → IsState «module» names (k + 1) new
-  next_state state marks before reports sound front over scopes same = record {
+  next_state state marks before reports sound front over scopes same honest = record {
     marked = ap length marks ∙ one_longer old.marks.items (is_accepted verdict) ∙ ap (λ n. n + 1) state.marked;
     accepted_sound = λ q e. by_mark q (marked_cases old.marks.items (is_accepted verdict) q (ap (λ l. is_marked l q) (sym marks) ∙ e));
     front =
@@ -126,6 +130,7 @@ module _ («module» : Module) (names : Names) (k : ℕ) (p : PackageData) (old 
     over = over;
     scopes = scopes;
     same = same;
+    honest = honest;
   }
     where
       by_mark : (q : ℕ) → (is_marked old.marks.items q ≡ true) ⊎ ((q ≡ length old.marks.items) × (is_accepted verdict ≡ true)) → sound_at names.verdicts.items q ≡ true

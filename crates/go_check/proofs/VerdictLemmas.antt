@@ -12,11 +12,11 @@ use Rattle.go_module.specs.Names.Rules.BrokenNames.{broken_names}
 use Rattle.go_module.specs.Order.{IsListOf}
 use Rattle.go_module.specs.Places.{placed_by}
 use Rattle.go_module.specs.declared.scopes.Scopes.{Scopes}
-use Rattle.go_model.specs.Outline.{outline_of}
-use Rattle.go_model.specs.PackageLines.{AreLines}
-use Rattle.go_model.specs.Phases.{ArePackageLines, BreaksShapes, BreaksValues, IsVerdict, by_names, by_shapes, by_values, denoted_in, sound}
-use Rattle.go_model.specs.Report.{VerdictData, refused}
-use Rattle.go_model.specs.Values.Naming.{names_in}
+use Rattle.go_report.specs.Outline.{outline_of}
+use Rattle.go_report.specs.PackageLines.{AreLines}
+use Rattle.go_report.specs.Phases.{ArePackageLines, BreaksShapes, BreaksValues, IsVerdict, by_names, by_shapes, by_values, denoted_in, sound}
+use Rattle.go_report.specs.Report.{VerdictData, refused}
+use Rattle.go_model.specs.Naming.{names_in}
 use Rattle.go_judge.specs.Naming.{no_names}
 use Rattle.go_judge.specs.Headers.{Headers}
 use Rattle.go_scope.specs.Collecting.{IsBrokenNames}

@@ -6,15 +6,16 @@ ghost use Rattle.go_tree.specs.Tree.{tree_of};
 ghost use Rattle.go_module.specs.Modules.Module.{file_view, module_view};
 ghost use Rattle.go_module.specs.NodeParts.{first_part};
 ghost use Rattle.go_module.specs.Scopes.{same_object};
-ghost use Rattle.go_model.specs.Outline as spec;
+ghost use Rattle.go_report.specs.Outline as spec;
 ghost use Rattle.go_names.specs.Views.{declaration_view, trees_at};
 ghost use Rattle.go_check.specs.Lines.Found.{declared_in_file, own_file_view, own_files_view};
 
 use crate::own_file::{OwnFile, own_files};
 use go_base::NoMemory;
-use go_model::{DeclaredObject, NumberHasher};
+use go_model::NumberHasher;
 use go_module::{Module, ObjId, first_part, text_name};
 use go_names::{Declaration, declarations_in};
+use go_report::DeclaredObject;
 use go_tree::Node;
 use indexmap::IndexMap;
 use std::alloc::Global;

@@ -1,10 +1,10 @@
 // The order of lines: by their places, of two nodes that start at one place the longer one first.
 ghost use Rattle.std.specs.Prelude.{◌≡◌, OnOk, map};
-ghost use Rattle.go_model.specs.LineOrder as spec;
-ghost use Rattle.go_model.specs.Report.{line_view, what_view};
+ghost use Rattle.go_report.specs.LineOrder as spec;
+ghost use Rattle.go_report.specs.Report.{line_view, what_view};
 
 use go_base::{LineCol, NoMemory};
-use go_model::{Line, What};
+use go_report::{Line, What};
 use std::cmp::Reverse;
 
 /// Puts the lines of a kind that were found in a file in their order. An error is want of memory.

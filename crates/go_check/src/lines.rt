@@ -1,9 +1,9 @@
 // The lines of an accepted package.
 ghost use Rattle.std.specs.Prelude.{◌≡◌, ◌++◌, ℕ, IfOk, OnOk, map};
 ghost use Rattle.go_module.specs.Modules.Module.{PackageData};
-ghost use Rattle.go_model.specs.LineOrder.{AreInOrder};
-ghost use Rattle.go_model.specs.PackageLines as spec;
-ghost use Rattle.go_model.specs.Report.{line_view};
+ghost use Rattle.go_report.specs.LineOrder.{AreInOrder};
+ghost use Rattle.go_report.specs.PackageLines as spec;
+ghost use Rattle.go_report.specs.Report.{line_view};
 ghost use Rattle.go_check.specs.Lines.Found.{def_lines, expr_lines, own_files_in, own_files_view, use_lines};
 ghost use Rattle.go_check.specs.Lines.Ordered.{AddsInOrder};
 ghost use Rattle.go_judge.specs.Naming.{Naming};
@@ -23,7 +23,7 @@ use crate::rulebook::Rulebook;
 use crate::uses::found_uses;
 use go_base::NoMemory;
 use go_expr::Walker;
-use go_model::Line;
+use go_report::Line;
 use std::alloc::Global;
 
 /// The lines of a package with these files, by the outcomes of its nodes: one for each declared name, then one for each

@@ -3,11 +3,11 @@ ghost use Rattle.std.specs.Prelude.{◌≡◌, ◌∷◌, ◌++◌, ◌+◌, ◌
 ghost use Rattle.std.specs.List.{list_all};
 ghost use Rattle.go_graph.specs.Graph as marking;
 ghost use Rattle.go_module.specs.Modules.Module.{module_view, package_view};
-ghost use Rattle.go_model.specs.Outline.{outline_of};
+ghost use Rattle.go_report.specs.Outline.{outline_of};
 ghost use Rattle.go_model.specs.Outcomes.Walked.{NodesAreNumbered};
-ghost use Rattle.go_model.specs.Phases as phases;
-ghost use Rattle.go_model.specs.Report.{report_view, verdict_view};
-ghost use Rattle.go_model.specs.Report as reports;
+ghost use Rattle.go_report.specs.Phases as phases;
+ghost use Rattle.go_report.specs.Report.{report_view, verdict_view};
+ghost use Rattle.go_report.specs.Report as reports;
 ghost use Rattle.go_check.specs.Packages.Names.{AreNames};
 ghost use Rattle.go_check.specs.Packages.State.{IsState};
 ghost use Rattle.go_check.specs.View.{outline_view};
@@ -19,8 +19,9 @@ use crate::package::check_package;
 use crate::rulebook::Rulebook;
 use go_base::{NoMemory, Steps};
 use go_graph::is_marked;
-use go_model::{Headers, PackageReport, Report, Verdict};
+use go_model::Headers;
 use go_module::{Module, Package};
+use go_report::{PackageReport, Report, Verdict};
 use std::alloc::Global;
 use std::sync::ledger::Ledger;
 

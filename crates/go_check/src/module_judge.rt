@@ -60,6 +60,13 @@ impl Forms for ModuleJudge<'_> {
         }
     }
 
+    fn iota_of(&self, id: NodeId) -> Option<usize> {
+        match self.scopes.get(self.place) {
+            Some(scopes) => scopes.iota_of(id),
+            None => None,
+        }
+    }
+
     fn object(&self, d: ObjId) -> &Object {
         self.scopes[self.place].object(d)
     }

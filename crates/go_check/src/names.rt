@@ -66,6 +66,7 @@ fn shrunk(scopes: Scopes) -> Scopes
     let mut shrunk = scopes;
     shrunk.objects.shrink_to_fit();
     shrunk.uses.shrink_to_fit();
+    shrunk.iotas.shrink_to_fit();
     shrunk
 }
 

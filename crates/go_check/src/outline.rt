@@ -1,14 +1,14 @@
 // What the lines of a package need of the module around it (Go specification, "Declarations and scope", "Import
 // declarations").
 ghost use Rattle.std.specs.Prelude.{◌≡◌, [], false, IfOk, None};
-ghost use Rattle.go_model.specs.Outline as spec;
-ghost use Rattle.go_model.specs.Report.{named_view};
+ghost use Rattle.go_report.specs.Outline as spec;
+ghost use Rattle.go_report.specs.Report.{named_view};
 ghost use Rattle.go_check.specs.View.{outline_view};
 
 use crate::declared::DeclaredObjects;
 use go_base::{Name, NoMemory};
-use go_model::NamedObject;
 use go_module::{At, FIRST_NUMBER, ObjId, Package, universe};
+use go_report::NamedObject;
 use std::alloc::Global;
 
 /// The packages of a module, and where its objects are declared.

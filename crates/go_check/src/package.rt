@@ -4,14 +4,15 @@ ghost use Rattle.std.specs.Prelude.{◌≡◌, ◌<◌, [], ℕ, true, IfOk, OnO
 ghost use Rattle.go_module.specs.Modules.Module.{ModuleData, PackageData, module_view, package_view};
 ghost use Rattle.go_module.specs.Names.Imports.{known_in};
 ghost use Rattle.go_module.specs.Names.Rules.BrokenNames.{broken_names};
-ghost use Rattle.go_model.specs.Outline.{outline_of};
+ghost use Rattle.go_report.specs.Outline.{outline_of};
 ghost use Rattle.go_judge.specs.Headers.{Headers as Known};
 ghost use Rattle.go_model.specs.Outcomes.Walked.{AreWalked, NodesAreNumbered, nodes_of};
-ghost use Rattle.go_model.specs.Phases as phases;
-ghost use Rattle.go_model.specs.Report.{verdict_view};
+ghost use Rattle.go_report.specs.Phases as phases;
+ghost use Rattle.go_report.specs.Report.{verdict_view};
 ghost use Rattle.go_judge.specs.HeadersView.{headers_view};
 ghost use Rattle.go_judge.specs.Naming.{AreThere, Naming};
-ghost use Rattle.go_model.specs.Values.Naming.{names_in};
+ghost use Rattle.go_constructs.specs.Operators.Honest.{AreHonest};
+ghost use Rattle.go_model.specs.Naming.{names_in};
 ghost use Rattle.go_expr.specs.Walker.{outcomes_view};
 ghost use Rattle.go_check.specs.Packages.Book.{book_names, denotes_by, names_at};
 ghost use Rattle.go_check.specs.Packages.Names.{AreNames, ImportsSound, sound_at};
@@ -28,14 +29,16 @@ use crate::rulebook::Rulebook;
 use crate::values::broken_values;
 use go_base::{Broken, NoMemory, Steps};
 use go_cycles::shapes;
-use go_model::{Headers, Records, Verdict};
+use go_model::Headers;
 use go_module::{Package, breaks_none};
+use go_report::{Records, Verdict};
 use std::alloc::Global;
 use std::sync::ledger::Ledger;
 
 /// The verdict on the package at a place of the module, whose imports are accepted. The rulebook has the headers of the
 /// packages before whose values were asked, and `known` the same; both get those of the package where its names break
-/// no rule. An error is want of memory.
+/// no rule. It asks that each constant that is known is represented by its type, which stays so. An error is want of
+/// memory.
 pub fn check_package<L: Ledger>(
     alloc: Global,
     names: &Names,
@@ -52,6 +55,7 @@ pub fn check_package<L: Ledger>(
     requires outline { outline_view outline.now ≡ outline_of (module_view book.old.judge.«module».now) }
     requires numbered { NodesAreNumbered (module_view book.old.judge.«module».now) }
     requires same { headers_view known.old ≡ headers_view book.old.judge.headers }
+    requires honest { AreHonest (headers_view book.old.judge.headers) }
     requires imports { (p : PackageData) → slice_get (module_view book.old.judge.«module».now).packages place ≡ Some p
         → ImportsSound names.now.verdicts.items place p }
     ensures verdict { IfOk result (λ verdict. (p : PackageData)
@@ -61,6 +65,7 @@ pub fn check_package<L: Ledger>(
     ensures sound { IfOk result (λ verdict. phases.is_accepted (verdict_view verdict) ≡ true
         → sound_at names.now.verdicts.items place ≡ true) }
     ensures known { OnOk result (headers_view known.new ≡ headers_view book.new.judge.headers) }
+    ensures honest { AreHonest (headers_view book.new.judge.headers) }
     ensures module { book.new.judge.«module».now ≡ book.old.judge.«module».now }
     ensures scopes { book.new.judge.scopes.now ≡ book.old.judge.scopes.now }
 {
@@ -90,6 +95,7 @@ fn check_shapes<L: Ledger>(
     requires there { AreThere (names_at book.old.judge.«module».now book.old.judge.scopes.now place) }
     requires numbered { NodesAreNumbered (module_view book.old.judge.«module».now) }
     requires same { headers_view known.old ≡ headers_view book.old.judge.headers }
+    requires honest { AreHonest (headers_view book.old.judge.headers) }
     ensures verdict { IfOk result (λ verdict. (p : PackageData)
         → slice_get (module_view book.old.judge.«module».now).packages place ≡ Some p
         → outline_view outline.now ≡ outline_of (module_view book.old.judge.«module».now)
@@ -98,6 +104,7 @@ fn check_shapes<L: Ledger>(
         → phases.IsVerdict (module_view book.old.judge.«module».now) place p (headers_view book.old.judge.headers)
         (verdict_view verdict) (headers_view book.new.judge.headers)) }
     ensures known { OnOk result (headers_view known.new ≡ headers_view book.new.judge.headers) }
+    ensures honest { AreHonest (headers_view book.new.judge.headers) }
     ensures module { book.new.judge.«module».now ≡ book.old.judge.«module».now }
     ensures scopes { book.new.judge.scopes.now ≡ book.old.judge.scopes.now }
 {
@@ -123,6 +130,7 @@ fn check_values<L: Ledger>(
     requires there { AreThere (names_at book.old.judge.«module».now book.old.judge.scopes.now place) }
     requires numbered { NodesAreNumbered (module_view book.old.judge.«module».now) }
     requires same { headers_view known.old ≡ headers_view book.old.judge.headers }
+    requires honest { AreHonest (headers_view book.old.judge.headers) }
     ensures verdict { IfOk result (λ verdict. (p : PackageData)
         → slice_get (module_view book.old.judge.«module».now).packages place ≡ Some p
         → outline_view outline.now ≡ outline_of (module_view book.old.judge.«module».now)
@@ -131,6 +139,7 @@ fn check_values<L: Ledger>(
         → phases.IsVerdict (module_view book.old.judge.«module».now) place p (headers_view book.old.judge.headers)
         (verdict_view verdict) (headers_view book.new.judge.headers)) }
     ensures known { OnOk result (headers_view known.new ≡ headers_view book.new.judge.headers) }
+    ensures honest { AreHonest (headers_view book.new.judge.headers) }
     ensures module { book.new.judge.«module».now ≡ book.old.judge.«module».now }
     ensures scopes { book.new.judge.scopes.now ≡ book.old.judge.scopes.now }
 {

@@ -95,6 +95,10 @@ impl Forms for Rulebook<'_> {
         self.judge.resolve(id)
     }
 
+    fn iota_of(&self, id: NodeId) -> Option<usize> {
+        self.judge.iota_of(id)
+    }
+
     fn object(&self, d: ObjId) -> &Object {
         self.judge.object(d)
     }

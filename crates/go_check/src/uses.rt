@@ -4,9 +4,9 @@ ghost use Rattle.std.specs.Prelude.{◌≡◌, ◌++◌, IfOk, OnOk, map, is_non
 ghost use Rattle.std.specs.List.{flat_map};
 ghost use Rattle.go_module.specs.Modules.Module.{file_view};
 ghost use Rattle.go_module.specs.Names.Occurrences.{names_in_parts};
-ghost use Rattle.go_model.specs.Outline as outlines;
-ghost use Rattle.go_model.specs.PackageLines as rule;
-ghost use Rattle.go_model.specs.Report.{line_view, used};
+ghost use Rattle.go_report.specs.Outline as outlines;
+ghost use Rattle.go_report.specs.PackageLines as rule;
+ghost use Rattle.go_report.specs.Report.{line_view, used};
 ghost use Rattle.go_names.specs.Views.{specs_view};
 ghost use Rattle.go_check.specs.Lines.Found.{own_file_view, use_lines};
 ghost use Rattle.go_check.specs.Packages.Book.{denotes_by};
@@ -16,9 +16,10 @@ use crate::outline::Outline;
 use crate::own_file::OwnFile;
 use crate::rulebook::Rulebook;
 use go_base::{Name, NoMemory};
-use go_model::{Forms, Line, What};
+use go_model::Forms;
 use go_module::{ObjId, Occurrence, Selected};
 use go_names::{Spec, names_in_specs};
+use go_report::{Line, What};
 use go_tree::NodeId;
 use std::alloc::Global;
 

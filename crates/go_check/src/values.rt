@@ -2,10 +2,11 @@
 ghost use Rattle.std.specs.Prelude.{◌≡◌, ◌↔◌, ◌<◌, [], ℕ, Some, IfOk, OnOk, length, slice_get};
 ghost use Rattle.go_module.specs.Modules.Module.{PackageData, module_view};
 ghost use Rattle.go_model.specs.Outcomes.Walked.{AreWalked, NodesAreNumbered, nodes_of};
-ghost use Rattle.go_model.specs.Phases.{BreaksShapes, BreaksValues};
+ghost use Rattle.go_report.specs.Phases.{BreaksShapes, BreaksValues};
 ghost use Rattle.go_judge.specs.HeadersView.{AreOwnHeaders, headers_as};
 ghost use Rattle.go_judge.specs.Naming.{AreThere};
-ghost use Rattle.go_model.specs.Values.Naming.{names_in};
+ghost use Rattle.go_constructs.specs.Operators.Honest.{AreHonest};
+ghost use Rattle.go_model.specs.Naming.{names_in};
 
 use go_base::{Broken, NoMemory, Steps};
 use go_by_value::by_value;
@@ -18,7 +19,8 @@ use std::sync::ledger::Ledger;
 
 /// Finds the headers of the package at a place of the module, and tells them to the rules and to `known`, which have the
 /// same headers before; and answers what the values and the types of the package break over them, as the list of a
-/// report. It asks what `rounds` of go_decl does. An error is want of memory.
+/// report. It asks what `rounds` of go_decl does; that each constant that is known is represented by its type stays so.
+/// An error is want of memory.
 pub fn broken_values<R: Rules, L: Ledger>(
     alloc: Global,
     rules: &mut R,
@@ -30,6 +32,7 @@ pub fn broken_values<R: Rules, L: Ledger>(
 ) -> Result<Vec<Broken>, NoMemory>
     requires within { «package» < length «module».now.packages.items }
     requires there { AreThere (R.names rules.old) }
+    requires honest { AreHonest (R.headers rules.old) }
     requires numbered { NodesAreNumbered (module_view «module».now) }
     requires same { headers_as (R.tree rules.old) known.old ≡ R.headers rules.old }
     requires own { AreOwnHeaders (R.is_type rules.old) known.old }
@@ -41,6 +44,7 @@ pub fn broken_values<R: Rules, L: Ledger>(
     ensures nodes { OnOk result ((p : PackageData) → slice_get (module_view «module».now).packages «package» ≡ Some p
         → AreWalked (R.names rules.old) (R.headers rules.new) (nodes_of p) (R.outcomes rules.new)) }
     ensures known { OnOk result (headers_as (R.tree rules.new) known.new ≡ R.headers rules.new) }
+    ensures honest { AreHonest (R.headers rules.new) }
     ensures names { R.names rules.new ≡ R.names rules.old }
     ensures world { R.world rules.new ≡ R.world rules.old }
 {

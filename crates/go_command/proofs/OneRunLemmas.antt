@@ -3,11 +3,11 @@ use Rattle.std.proofs.Common.{◌≡◌, ℕ, List, Some, ap, subst}
 use Rattle.go_base.specs.declared.status.Status.{Status}
 use Rattle.go_base.specs.declared.tree.MemFile.{MemFile}
 use Rattle.go_load.proofs.OneLoadLemmas.{one_load}
-use Rattle.go_model.proofs.OneReportLemmas.{one_report}
-use Rattle.go_model.specs.Phases.{ReportOf}
-use Rattle.go_model.specs.Report.{ReportData}
-use Rattle.go_model.specs.Status.{refusal_of, verdict_of}
-use Rattle.go_model.specs.Text.Lines.{first_text, report_text}
+use Rattle.go_report.proofs.OneReportLemmas.{one_report}
+use Rattle.go_report.specs.Phases.{ReportOf}
+use Rattle.go_report.specs.Report.{ReportData}
+use Rattle.go_report.specs.Status.{refusal_of, verdict_of}
+use Rattle.go_report.specs.Text.Lines.{first_text, report_text}
 use Rattle.go_module.specs.Modules.Module.{ModuleData}
 use Rattle.go_command.specs.Headline.{RunOf, first, whole}
 use Rattle.go_command.specs.Words.{Roots}

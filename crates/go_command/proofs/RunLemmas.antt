@@ -5,7 +5,7 @@ use Rattle.go_base.specs.declared.tree.MemFile.{MemFile}
 use Rattle.go_module.specs.declared.places.Placed.{Placed}
 use Rattle.go_load.specs.Loading.{LoadsBroken, LoadsModule}
 use Rattle.go_module.specs.Modules.Module.{ModuleData}
-use Rattle.go_model.specs.Status.{refusal_of, verdict_of}
+use Rattle.go_report.specs.Status.{refusal_of, verdict_of}
 use Rattle.go_command.specs.Headline.{RunOf, first, whole, IsRunText}
 use Rattle.go_command.specs.Runs.{IsFirst, IsWhole}
 use Rattle.go_command.specs.Words.{Roots}

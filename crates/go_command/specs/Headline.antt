@@ -9,10 +9,10 @@ use Rattle.go_base.specs.Sink.{Adds}
 use Rattle.go_module.specs.declared.places.Placed.{Placed}
 use Rattle.go_load.specs.Loading.{LoadsBroken, LoadsModule}
 use Rattle.go_module.specs.Modules.Module.{ModuleData}
-use Rattle.go_model.specs.Phases.{ReportOf}
-use Rattle.go_model.specs.Report.{ReportData}
-use Rattle.go_model.specs.Status.{refusal_of, verdict_of}
-use Rattle.go_model.specs.Text.Lines.{first_text, report_text}
+use Rattle.go_report.specs.Phases.{ReportOf}
+use Rattle.go_report.specs.Report.{ReportData}
+use Rattle.go_report.specs.Status.{refusal_of, verdict_of}
+use Rattle.go_report.specs.Text.Lines.{first_text, report_text}
 use Rattle.go_command.specs.Words.{Roots}
 
 -- the text and the status of a run that writes its text whole: those of the rules of the first phase of loading that breaks any, or else

@@ -4,10 +4,10 @@ use Rattle.go_base.specs.declared.status.Status.{Status}
 use Rattle.go_base.specs.Status.{IsReport}
 use Rattle.go_module.specs.declared.places.Placed.{Placed}
 use Rattle.go_module.specs.Modules.Module.{ModuleData}
-use Rattle.go_model.specs.Phases.{ReportOf}
-use Rattle.go_model.specs.Report.{ReportData}
-use Rattle.go_model.specs.Text.Lines.{first_text, report_text}
-use Rattle.go_model.specs.Status.{refusal_of, verdict_of}
+use Rattle.go_report.specs.Phases.{ReportOf}
+use Rattle.go_report.specs.Report.{ReportData}
+use Rattle.go_report.specs.Text.Lines.{first_text, report_text}
+use Rattle.go_report.specs.Status.{refusal_of, verdict_of}
 
 -- the text and the status of rules that are broken before packages are checked
 pub record IsFirst (list : List Placed) (text : List ℕ) (status : Status) : Type 0 where

@@ -14,7 +14,7 @@ abbrev pub length_of : ℤ → Option ℕ
 length_of (pos n) = if nat_lt n (2 ^ 63) then Some n else None
 length_of (negsuc n) = None
 
--- of an untyped integer constant; other constants are not built yet
+-- of an untyped integer or rune constant; constants of other types are not built yet
 abbrev pub length_in : RecData → Option ℕ
 length_in r = option_and_then length_of (integer_in r)
 

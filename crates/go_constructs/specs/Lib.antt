@@ -11,7 +11,6 @@ pub mod Literal
 pub mod Name
 pub mod Selector
 pub mod Parentheses
-pub mod Sum
 pub mod Operators
 -- what they share
 pub mod Meaning

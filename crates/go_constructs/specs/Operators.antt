@@ -11,4 +11,5 @@ pub mod Binary
 pub mod Unary
 pub mod Pointers
 pub mod Channels
+pub mod Nodes
 pub mod Honest

@@ -4,7 +4,7 @@
 use Rattle.std.specs.Prelude.{false, [], ◌∷◌}
 use Rattle.go_module.specs.Rules.{unbuilt_form}
 use Rattle.go_constructs.specs.declared.meaning.Meaning.{Meaning}
-use Rattle.go_constructs.specs.declared.meaning.Meaning.TheVariants.{AnyType, BasicType, Declared, DefinedType, Other, Predeclared}
+use Rattle.go_constructs.specs.declared.meaning.Meaning.TheVariants.{AnyType, BasicType, Declared, DefinedType, Iota, Other, Predeclared, Truth}
 use Rattle.go_judge.specs.Judged.{Construct}
 use Rattle.go_constructs.specs.Name.{name}
 use Rattle.go_judge.specs.Operands.{at_whole, of_one}
@@ -17,4 +17,6 @@ selector (Declared d) = name (Declared d)
 selector (DefinedType d) = name (DefinedType d)
 selector (BasicType d basic) = name (BasicType d basic)
 selector (AnyType d) = name (AnyType d)
+selector (Truth d truth) = name (Truth d truth)
+selector (Iota d n) = name (Iota d n)
 selector Predeclared = name Predeclared

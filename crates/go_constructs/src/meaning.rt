@@ -14,6 +14,10 @@ pub enum Meaning {
     BasicType(ObjId, Basic),
     /// `any`
     AnyType(ObjId),
+    /// `true`, `false`
+    Truth(ObjId, bool),
+    /// `iota`, with the number of the constant spec around it, where one stands around it
+    Iota(ObjId, Option<usize>),
     /// any other predeclared identifier
     Predeclared,
     /// nothing that has a header or is a type: the name of a package, or nothing at all

@@ -1,4 +1,6 @@
 pub mod FindLemmas
+pub mod HonestHeaderLemmas
+pub mod HonestHeaders
 pub mod KnownLemmas
 pub mod ListLemmas
 pub mod NamedLemmas

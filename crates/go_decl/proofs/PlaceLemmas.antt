@@ -10,7 +10,7 @@ use Rattle.indexmap.specs.IndexMap.{insert_entry}
 use Rattle.go_base.specs.declared.ids.ObjId.{ObjId}
 use Rattle.go_module.specs.Names.Declarations.{Declaration, number_of, numbers_of}
 use Rattle.go_module.specs.Scopes.{same_object}
-use Rattle.go_model.specs.Values.Declared.{declared_as}
+use Rattle.go_values.specs.Declared.{declared_as}
 use Rattle.go_decl.specs.Places.{place_among}
 use Rattle.go_judge.proofs.EntryLemmas.{found_behind, same_is}
 

@@ -18,15 +18,15 @@ use Rattle.go_operands.specs.Operands.{expressions_in, expressions_in_parts}
 use Rattle.go_module.proofs.MemberLemmas.{cons_cases, contains_head, contains_none, contains_tail}
 use Rattle.go_judge.specs.Naming.{Naming}
 use Rattle.go_judge.specs.Judged.{OutcomeData}
-use Rattle.go_model.specs.Outcomes.Readings.{broken_spots, record_in}
+use Rattle.go_model.specs.Outcomes.Readings.{broken_spots, record_by, record_in}
 use Rattle.go_judge.specs.Records.{RecData}
 use Rattle.go_judge.specs.Kinds.{no_type, no_value}
 use Rattle.go_judge.specs.Operands.{is_constant, is_type}
 use Rattle.go_judge.specs.Headers.{Headers, Outcomes}
 use Rattle.go_model.specs.Outcomes.Walk.{outcome}
 use Rattle.go_model.specs.Outcomes.Walked.{AreWalked, nodes_of}
-use Rattle.go_model.specs.Values.Records.{header_by, header_over, record_by, record_of, tells_by, told_by}
-use Rattle.go_model.specs.Values.Rules.{broken_by, broken_in, broken_node, broken_spec, broken_spec_by, has_record, others_by, others_by_kind, unequal_at, unequal_by, unequal_by_kind, unequal_sides}
+use Rattle.go_values.specs.Records.{header_by, header_over, record_of, tells_by, told_by}
+use Rattle.go_values.specs.Rules.{broken_by, broken_in, broken_node, broken_spec, broken_spec_by, has_record, others_by, others_by_kind, unequal_at, unequal_by, unequal_by_kind, unequal_sides}
 use Rattle.go_model.proofs.FlatLemmas.{flat_cases, flat_contains, flat_map-same, map_cases, only_is}
 use Rattle.go_expr.specs.Read.{nodes_under, outcome_read}
 use Rattle.go_expr.proofs.ReadLemmas.{read_is}

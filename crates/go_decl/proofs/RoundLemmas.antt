@@ -13,11 +13,11 @@ use Rattle.go_judge.specs.Naming.{Naming}
 use Rattle.go_module.specs.Names.Declarations.{Declaration, number_of}
 use Rattle.go_judge.specs.Records.{HeaderData, header_as}
 use Rattle.go_judge.specs.Headers.{Headers, headers_of}
-use Rattle.go_model.specs.Values.Declared.{declared_as}
-use Rattle.go_model.specs.Values.Records.{header_over}
-use Rattle.go_model.specs.Values.Headers.{Justified, Follows, Known}
+use Rattle.go_values.specs.Declared.{declared_as}
+use Rattle.go_values.specs.Records.{header_over}
+use Rattle.go_values.specs.Headers.{Justified, Follows, Known}
 use Rattle.go_judge.specs.Quests.{IsPart}
-use Rattle.go_model.proofs.HeaderLemmas.{Follows-part, Follows-same, has_all, headers_of-here, headers_of-there, kept, stays}
+use Rattle.go_values.proofs.HeaderLemmas.{Follows-part, Follows-same, has_all, headers_of-here, headers_of-there, kept, stays}
 use Rattle.go_decl.specs.Places.{ArePlaces}
 use Rattle.go_decl.specs.Rounds.{IsBacked, IsSettled, IsToldOrNot, and_open, not_told, open_in, told}
 use Rattle.go_decl.proofs.PlaceLemmas.{place_declared}

@@ -16,8 +16,8 @@ use Rattle.go_model.specs.Outcomes.Readings.{awaited_in}
 use Rattle.go_judge.specs.Headers.{Headers, Outcomes}
 use Rattle.go_model.specs.Outcomes.Walk.{outcome}
 use Rattle.go_model.specs.Outcomes.Walked.{AreWalked}
-use Rattle.go_model.specs.Values.Waiting.{Chain, Waits, awaited_among, awaited_by, awaited_by_nodes, awaited_under, more, one}
-use Rattle.go_model.specs.Values.Declared.{declared_as}
+use Rattle.go_values.specs.Waiting.{Chain, Waits, awaited_among, awaited_by, awaited_by_nodes, awaited_under, more, one}
+use Rattle.go_values.specs.Declared.{declared_as}
 use Rattle.go_model.proofs.FlatLemmas.{flat_contains, flat_map-same, map-same}
 use Rattle.go_expr.proofs.ReadLemmas.{read_is}
 use Rattle.go_expr.specs.Read.{nodes_under, outcome_read}

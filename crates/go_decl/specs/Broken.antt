@@ -6,8 +6,8 @@ use Rattle.go_module.specs.Names.Declarations.{declarations_of}
 use Rattle.go_module.specs.Order.{IsListOf}
 use Rattle.go_judge.specs.Naming.{Naming}
 use Rattle.go_judge.specs.Headers.{Headers}
-use Rattle.go_model.specs.Values.Rules.{broken_values}
-use Rattle.go_model.specs.Values.Waiting.{Chain}
+use Rattle.go_values.specs.Rules.{broken_values}
+use Rattle.go_values.specs.Waiting.{Chain}
 
 -- the list of a report has exactly what the values of a package break over these headers, by which declarations wait for
 -- themselves

@@ -15,7 +15,7 @@ use Rattle.go_judge.specs.Judged.{OutcomeData}
 use Rattle.go_judge.specs.Records.{RecData}
 use Rattle.go_judge.specs.Headers.{Headers}
 use Rattle.go_model.specs.Outcomes.Walk.{outcome}
-use Rattle.go_model.specs.Values.Rules.{broken_by, others_by_kind, unequal_by}
+use Rattle.go_values.specs.Rules.{broken_by, others_by_kind, unequal_by}
 use Rattle.go_names.specs.Views.{declaration_view, spec_view}
 use Rattle.go_decl.specs.declared.parts.FoundPart.{FoundPart}
 

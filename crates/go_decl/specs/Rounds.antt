@@ -4,7 +4,7 @@ use Rattle.go_module.specs.Names.Declarations.{Declaration, number_of}
 use Rattle.go_judge.specs.Naming.{Naming}
 use Rattle.go_judge.specs.Records.{HeaderData}
 use Rattle.go_judge.specs.Headers.{Headers, headers_of}
-use Rattle.go_model.specs.Values.Headers.{Follows, Justified}
+use Rattle.go_values.specs.Headers.{Follows, Justified}
 
 -- these headers are those of some justified list
 pub record IsBacked (before : Headers) (naming : Naming) (declarations : List Declaration) (headers : Headers) : Type 0 where

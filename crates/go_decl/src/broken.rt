@@ -11,7 +11,7 @@ ghost use Rattle.go_expr.specs.Read.{outcome_read};
 ghost use Rattle.go_operands.specs.Operands.{operands_of};
 ghost use Rattle.go_judge.specs.Kinds.{no_type, no_value};
 ghost use Rattle.go_judge.specs.Operands.{is_constant, is_type};
-ghost use Rattle.go_model.specs.Values.Rules.{are_unequal_by, broken_by, broken_spec_by, has_record, others_by, others_by_kind, unequal_by};
+ghost use Rattle.go_values.specs.Rules.{are_unequal_by, broken_by, broken_spec_by, has_record, others_by, others_by_kind, unequal_by};
 ghost use Rattle.go_decl.specs.Parts.{broken_under, unequal_for};
 
 use crate::rules::UNEQUAL_SIDES;

@@ -10,15 +10,16 @@ ghost use Rattle.go_judge.specs.Records.{header_as};
 ghost use Rattle.go_model.specs.Outcomes.Walked.{AreNumbered, NodesAreNumbered};
 ghost use Rattle.go_judge.specs.Types.Own.{IsOwnHeader, KeepsTypes};
 ghost use Rattle.go_judge.specs.Naming.{AreThere};
-ghost use Rattle.go_model.specs.Values.Records.{header_over};
+ghost use Rattle.go_constructs.specs.Operators.Honest.{AreHonest};
+ghost use Rattle.go_values.specs.Records.{header_over};
 ghost use Rattle.go_expr.specs.Read.{nodes_under, outcome_read};
 ghost use Rattle.go_decl.specs.Parts.{Part, broken_part, broken_part_by, part_named, part_view};
 
 use crate::broken::push_part;
+use crate::header::header_by;
 use crate::parts::{FoundPart, part_named};
 use crate::walked::walk_parts;
 use go_base::{Broken, NoMemory, Steps};
-use go_expr::header_by;
 use go_model::{ExprWalk, Header, Rules};
 use go_module::{Module, ObjId, Scopes, ordered, with_numbers};
 use std::alloc::Global;
@@ -35,8 +36,9 @@ pub struct Elaborated {
 /// Walks once over the type and the expressions on which the header of a declaration of the module rests, and answers
 /// what follows over the headers that are known, which stay: its header, whose types are the rules' own, and what it
 /// breaks. Identifiers mean what the rules say, which so have to speak of the package of the declaration. It asks that
-/// each object that is denoted is there, and that no two nodes of a package have one number. Of several declarations
-/// with one number the first is meant. A call is a step. An error is want of memory.
+/// each object that is denoted is there, that no two nodes of a package have one number, and that each constant that is
+/// known is represented by its type. Of several declarations with one number the first is meant. A call is a step. An
+/// error is want of memory.
 pub fn elaborate<R: Rules, L: Ledger>(
     alloc: Global,
     d: ObjId,
@@ -46,6 +48,7 @@ pub fn elaborate<R: Rules, L: Ledger>(
     steps: &mut Steps<L>,
 ) -> Result<Elaborated, NoMemory>
     requires there { AreThere (R.names rules.old) }
+    requires honest { AreHonest (R.headers rules.old) }
     requires numbered { NodesAreNumbered (module_view «module».now) }
     ensures header { IfOk result (λ made. (part : Part) → part_named (module_view «module».now) d.0 ≡ Some part
         → option_map (header_as (R.tree rules.new)) made.header
@@ -80,6 +83,7 @@ fn elaborate_part<R: Rules>(
     part: &FoundPart,
 ) -> Result<Elaborated, NoMemory>
     requires there { AreThere (R.names rules.old) }
+    requires honest { AreHonest (R.headers rules.old) }
     requires declared { Contains (declared_in (part_view part.now).spec) (part_view part.now).declaration }
     requires numbered { AreNumbered (nodes_under (part_view part.now).declaration) }
     ensures header { IfOk result (λ made. option_map (header_as (R.tree rules.new)) made.header

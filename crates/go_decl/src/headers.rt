@@ -5,17 +5,18 @@ ghost use Rattle.go_base.specs.declared.ids.ObjId.{ObjId as Object};
 ghost use Rattle.go_module.specs.Scopes.{same_object};
 ghost use Rattle.go_judge.specs.Records.{HeaderData, header_as};
 ghost use Rattle.go_judge.specs.Types.Own.{IsOwnHeader, KeepsTypes};
-ghost use Rattle.go_model.specs.Values.Headers.{Known};
+ghost use Rattle.go_values.specs.Headers.{Known};
 ghost use Rattle.go_judge.specs.Headers.{headers_of};
 ghost use Rattle.go_judge.specs.HeadersView.{AreOwnHeaders, header_in, headers_as};
 ghost use Rattle.go_judge.specs.Naming.{AreThere};
+ghost use Rattle.go_constructs.specs.Operators.Honest.{AreHonest, IsHonestHeader};
 ghost use Rattle.go_decl.specs.Places.{ArePlaces};
 ghost use Rattle.go_decl.specs.Rounds.{IsBacked, IsSettled, IsToldOrNot, open_in};
 ghost use Rattle.go_names.specs.Views.{declarations_view};
 
+use crate::header::header_over;
 use crate::places::Places;
 use go_base::{NoMemory, Steps};
-use go_expr::header_over;
 use go_model::{Header, Headers, Rules};
 use go_module::ObjId;
 use go_names::Declaration;
@@ -23,7 +24,8 @@ use std::alloc::Global;
 use std::sync::ledger::Ledger;
 
 /// Goes round until a round adds no header. The rules and `known` have the same headers, whose types are the rules' own.
-/// An error is want of memory; some headers may be known then, and no others.
+/// It asks that each object that is denoted is there, and that each constant that is known is represented by its type,
+/// which stays so. An error is want of memory; some headers may be known then, and no others.
 pub fn add_rounds<R: Rules, L: Ledger>(
     alloc: Global,
     rules: &mut R,
@@ -33,6 +35,7 @@ pub fn add_rounds<R: Rules, L: Ledger>(
     steps: &mut Steps<L>,
 ) -> Result<(), NoMemory>
     requires there { AreThere (R.names rules.old) }
+    requires honest { AreHonest (R.headers rules.old) }
     requires same { headers_as (R.tree rules.old) known.old ≡ R.headers rules.old }
     requires own { AreOwnHeaders (R.is_type rules.old) known.old }
     requires places { ArePlaces (declarations_view declarations.now) places.now.entries }
@@ -44,6 +47,7 @@ pub fn add_rounds<R: Rules, L: Ledger>(
     ensures own { AreOwnHeaders (R.is_type rules.new) known.new }
     ensures kept { OnErr result (IsBacked (R.headers rules.old) (R.names rules.old)
         (declarations_view declarations.now) (headers_as (R.tree rules.new) known.new)) }
+    ensures honest { AreHonest (R.headers rules.new) }
     ensures names { R.names rules.new ≡ R.names rules.old }
     ensures world { R.world rules.new ≡ R.world rules.old }
     ensures types { KeepsTypes (R.is_type rules.old) (R.is_type rules.new) (R.tree rules.old) (R.tree rules.new) }
@@ -62,6 +66,7 @@ fn add_round<R: Rules, L: Ledger>(
     steps: &mut Steps<L>,
 ) -> Result<bool, NoMemory>
     requires there { AreThere (R.names rules.old) }
+    requires honest { AreHonest (R.headers rules.old) }
     requires same { headers_as (R.tree rules.old) known.old ≡ R.headers rules.old }
     requires own { AreOwnHeaders (R.is_type rules.old) known.old }
     requires places { ArePlaces (declarations_view declarations.now) places.now.entries }
@@ -76,6 +81,7 @@ fn add_round<R: Rules, L: Ledger>(
     ensures own { AreOwnHeaders (R.is_type rules.new) known.new }
     ensures kept { OnErr result (IsBacked (R.headers rules.old) (R.names rules.old)
         (declarations_view declarations.now) (headers_as (R.tree rules.new) known.new)) }
+    ensures honest { AreHonest (R.headers rules.new) }
     ensures names { R.names rules.new ≡ R.names rules.old }
     ensures world { R.world rules.new ≡ R.world rules.old }
     ensures types { KeepsTypes (R.is_type rules.old) (R.is_type rules.new) (R.tree rules.old) (R.tree rules.new) }
@@ -100,6 +106,7 @@ fn add_one<R: Rules, L: Ledger>(
     steps: &mut Steps<L>,
 ) -> Result<bool, NoMemory>
     requires there { AreThere (R.names rules.old) }
+    requires honest { AreHonest (R.headers rules.old) }
     requires same { headers_as (R.tree rules.old) known.old ≡ R.headers rules.old }
     requires own { AreOwnHeaders (R.is_type rules.old) known.old }
     requires places { ArePlaces (declarations_view declarations.now) places.now.entries }
@@ -117,6 +124,7 @@ fn add_one<R: Rules, L: Ledger>(
     ensures own { AreOwnHeaders (R.is_type rules.new) known.new }
     ensures kept { OnErr result (IsBacked (R.headers rules.old) (R.names rules.old)
         (declarations_view declarations.now) (headers_as (R.tree rules.new) known.new)) }
+    ensures honest { AreHonest (R.headers rules.new) }
     ensures names { R.names rules.new ≡ R.names rules.old }
     ensures world { R.world rules.new ≡ R.world rules.old }
     ensures types { KeepsTypes (R.is_type rules.old) (R.is_type rules.new) (R.tree rules.old) (R.tree rules.new) }
@@ -146,17 +154,20 @@ fn is_known(known: &Headers, d: ObjId) -> bool
     known.get(d).is_some()
 }
 
-// Tells the rules a header with types of their own, and keeps it.
+// Tells the rules a header with types of their own, and keeps it. Each constant that is known is represented by its type
+// as before, where this one is.
 fn tell<R: Rules>(
     rules: &mut R,
     known: &mut Headers,
     d: ObjId,
     header: Header,
 ) -> Result<(), NoMemory>
+    requires honest { AreHonest (R.headers rules.old) }
     requires vacant { R.headers rules.old d.0 ≡ None }
     requires same { headers_as (R.tree rules.old) known.old ≡ R.headers rules.old }
     requires own { AreOwnHeaders (R.is_type rules.old) known.old }
     requires header { IsOwnHeader (R.is_type rules.old) header }
+    requires represented { IsHonestHeader (R.headers rules.old) (header_as (R.tree rules.old) header) }
     ensures learned { OnOk result ((e : ℕ) → R.headers rules.new e
         ≡ headers_of (R.headers rules.old) ((d.0, header_as (R.tree rules.old) header) ∷ []) e) }
     ensures err { OnErr result (IsToldOrNot (R.headers rules.old) d.0 (header_as (R.tree rules.old) header)
@@ -164,6 +175,7 @@ fn tell<R: Rules>(
     ensures known { OnOk result (headers_as (R.tree rules.new) known.new ≡ R.headers rules.new) }
     ensures own { AreOwnHeaders (R.is_type rules.new) known.new }
     ensures kept { OnErr result (headers_as (R.tree rules.new) known.new ≡ headers_as (R.tree rules.old) known.old) }
+    ensures honest { AreHonest (R.headers rules.new) }
     ensures names { R.names rules.new ≡ R.names rules.old }
     ensures world { R.world rules.new ≡ R.world rules.old }
     ensures types { KeepsTypes (R.is_type rules.old) (R.is_type rules.new) (R.tree rules.old) (R.tree rules.new) }

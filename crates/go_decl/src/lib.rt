@@ -9,7 +9,8 @@
 
 mod rules;
 
-// Headers, in rounds.
+// Headers: of one declaration, and in rounds.
+mod header;
 mod headers;
 mod places;
 
@@ -27,4 +28,5 @@ mod elaborated;
 mod parts;
 
 pub use elaborated::{Elaborated, elaborate};
+pub use header::header_by;
 pub use package::rounds;

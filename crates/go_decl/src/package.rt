@@ -6,9 +6,10 @@ ghost use Rattle.go_module.specs.Names.Declarations.{declarations_of, specs_of};
 ghost use Rattle.go_judge.specs.Records.{HeaderData};
 ghost use Rattle.go_model.specs.Outcomes.Walked.{AreNumbered, AreWalked, NodesAreNumbered, nodes_of};
 ghost use Rattle.go_judge.specs.Types.Own.{KeepsTypes};
-ghost use Rattle.go_model.specs.Values.Headers.{Known};
+ghost use Rattle.go_values.specs.Headers.{Known};
 ghost use Rattle.go_judge.specs.HeadersView.{AreOwnHeaders, headers_as};
 ghost use Rattle.go_judge.specs.Naming.{AreThere};
+ghost use Rattle.go_constructs.specs.Operators.Honest.{AreHonest};
 ghost use Rattle.go_names.specs.Views.{specs_view};
 ghost use Rattle.go_decl.specs.Broken.{AreBroken};
 ghost use Rattle.go_decl.specs.Rounds.{IsBacked};
@@ -29,9 +30,10 @@ use std::sync::ledger::Ledger;
 /// which have the same headers before, with types of the rules' own; then walks once over all that stands behind the
 /// names of its specs, and answers what its values break, as the list of a report: each declaration that waits for its
 /// own header, and each rule that a spec or a node breaks over these headers. Identifiers mean what the rules say,
-/// which so have to speak of this package. It asks that each object that is denoted is there, and that no two nodes of
-/// a package have one number. Of several declarations with one number the first is meant. Each try to find a header is
-/// a step. An error is want of memory; some of these headers may be known then, and no others.
+/// which so have to speak of this package. It asks that each object that is denoted is there, that no two nodes of a
+/// package have one number, and that each constant that is known is represented by its type, which stays so. Of several
+/// declarations with one number the first is meant. Each try to find a header is a step. An error is want of memory;
+/// some of these headers may be known then, and no others.
 pub fn rounds<R: Rules, L: Ledger>(
     alloc: Global,
     rules: &mut R,
@@ -43,6 +45,7 @@ pub fn rounds<R: Rules, L: Ledger>(
 ) -> Result<Vec<Broken>, NoMemory>
     requires within { «package» < length «module».now.packages.items }
     requires there { AreThere (R.names rules.old) }
+    requires honest { AreHonest (R.headers rules.old) }
     requires numbered { NodesAreNumbered (module_view «module».now) }
     requires same { headers_as (R.tree rules.old) known.old ≡ R.headers rules.old }
     requires own { AreOwnHeaders (R.is_type rules.old) known.old }
@@ -59,6 +62,7 @@ pub fn rounds<R: Rules, L: Ledger>(
     ensures err { OnErr result ((p : PackageData) → slice_get (module_view «module».now).packages «package» ≡ Some p
         → IsBacked (R.headers rules.old) (R.names rules.old) (declarations_of p)
         (headers_as (R.tree rules.new) known.new)) }
+    ensures honest { AreHonest (R.headers rules.new) }
     ensures names { R.names rules.new ≡ R.names rules.old }
     ensures world { R.world rules.new ≡ R.world rules.old }
     ensures types { KeepsTypes (R.is_type rules.old) (R.is_type rules.new) (R.tree rules.old) (R.tree rules.new) }
@@ -75,6 +79,7 @@ fn rounds_in<R: Rules, L: Ledger>(
     steps: &mut Steps<L>,
 ) -> Result<Vec<Broken>, NoMemory>
     requires there { AreThere (R.names rules.old) }
+    requires honest { AreHonest (R.headers rules.old) }
     requires numbered { AreNumbered (nodes_of (package_view own.now)) }
     requires same { headers_as (R.tree rules.old) known.old ≡ R.headers rules.old }
     requires own { AreOwnHeaders (R.is_type rules.old) known.old }
@@ -88,6 +93,7 @@ fn rounds_in<R: Rules, L: Ledger>(
         (package_view own.now) list.items) }
     ensures err { OnErr result (IsBacked (R.headers rules.old) (R.names rules.old)
         (declarations_of (package_view own.now)) (headers_as (R.tree rules.new) known.new)) }
+    ensures honest { AreHonest (R.headers rules.new) }
     ensures names { R.names rules.new ≡ R.names rules.old }
     ensures world { R.world rules.new ≡ R.world rules.old }
     ensures types { KeepsTypes (R.is_type rules.old) (R.is_type rules.new) (R.tree rules.old) (R.tree rules.new) }

@@ -3,7 +3,7 @@ ghost use Rattle.std.specs.Prelude.{◌≡◌, IfOk, find};
 ghost use Rattle.std.specs.Option.{option_map};
 ghost use Rattle.go_module.specs.Modules.Module.{module_view, package_view};
 ghost use Rattle.go_module.specs.Names.Declarations.{declared_in};
-ghost use Rattle.go_model.specs.Values.Declared.{declared_as};
+ghost use Rattle.go_values.specs.Declared.{declared_as};
 ghost use Rattle.go_names.specs.Views.{declaration_view, declarations_view, spec_view};
 ghost use Rattle.go_decl.specs.Parts.{is_numbered, part_named, part_view, parts_of};
 

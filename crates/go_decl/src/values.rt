@@ -5,13 +5,13 @@ ghost use Rattle.std.specs.List.{flat_map};
 ghost use Rattle.go_module.specs.Order.{IsListOf};
 ghost use Rattle.go_module.specs.Modules.Module.{package_view};
 ghost use Rattle.go_module.specs.Names.Declarations.{declarations_of, specs_of};
-ghost use Rattle.go_model.specs.Values.Rules as rules;
+ghost use Rattle.go_values.specs.Rules as rules;
 ghost use Rattle.go_names.specs.Views.{declaration_view, declarations_view, specs_view};
 ghost use Rattle.go_judge.specs.Naming.{Naming};
 ghost use Rattle.go_judge.specs.Headers.{Headers};
 ghost use Rattle.go_model.specs.Outcomes.Walked.{AreWalked, nodes_of};
 ghost use Rattle.go_expr.specs.Read.{outcome_read};
-ghost use Rattle.go_model.specs.Values.Rules.{broken_spec_by};
+ghost use Rattle.go_values.specs.Rules.{broken_spec_by};
 ghost use Rattle.go_decl.specs.Places.{placed_by};
 ghost use Rattle.go_decl.specs.Waits.{marked_by};
 

@@ -7,7 +7,7 @@ ghost use Rattle.go_judge.specs.Naming.{Naming};
 ghost use Rattle.go_model.specs.Outcomes.Readings.{awaited_in};
 ghost use Rattle.go_judge.specs.Headers.{Headers};
 ghost use Rattle.go_model.specs.Outcomes.Walked.{AreWalked};
-ghost use Rattle.go_model.specs.Values.Waiting.{Chain, awaited_among, awaited_under};
+ghost use Rattle.go_values.specs.Waiting.{Chain, awaited_among, awaited_under};
 ghost use Rattle.go_decl.specs.Places.{ArePlaces, placed_by};
 ghost use Rattle.go_decl.specs.Waits.{awaited_places, marked_by, place_list, waits_of};
 ghost use Rattle.go_expr.specs.Read.{nodes_under, outcome_read};

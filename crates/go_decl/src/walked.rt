@@ -6,6 +6,7 @@ ghost use Rattle.go_operands.specs.Operands.{expressions_in, expressions_in_part
 ghost use Rattle.go_model.specs.Outcomes.Walked.{walked_over};
 ghost use Rattle.go_judge.specs.Types.Own.{KeepsTypes};
 ghost use Rattle.go_judge.specs.Naming.{AreThere};
+ghost use Rattle.go_constructs.specs.Operators.Honest.{AreHonest};
 ghost use Rattle.go_names.specs.Views.{specs_view};
 
 use go_base::NoMemory;
@@ -14,10 +15,11 @@ use go_names::Spec;
 use go_tree::Node;
 use std::alloc::Global;
 
-/// Walks over these specs, the last first. It asks that each object that is denoted is there. An error is want of
-/// memory.
+/// Walks over these specs, the last first. It asks that each object that is denoted is there, and that each constant that
+/// is known is represented by its type. An error is want of memory.
 pub fn walk_specs<W: ExprWalk>(alloc: Global, walks: &mut W, specs: &[Spec]) -> Result<(), NoMemory>
-    requires { AreThere (W.names walks.old) }
+    requires there { AreThere (W.names walks.old) }
+    requires honest { AreHonest (W.headers walks.old) }
     ensures reached { OnOk result ((n : ℕ) → W.outcomes walks.new n
         ≡ walked_over (W.names walks.old) (W.headers walks.old)
         (flat_map expressions_in_parts (specs_view specs.now)) (W.outcomes walks.old) n) }
@@ -33,15 +35,16 @@ pub fn walk_specs<W: ExprWalk>(alloc: Global, walks: &mut W, specs: &[Spec]) -> 
     Ok(())
 }
 
-/// Walks over these types and these expressions, the last first. It asks that each object that is denoted is there. An
-/// error is want of memory.
+/// Walks over these types and these expressions, the last first. It asks that each object that is denoted is there, and
+/// that each constant that is known is represented by its type. An error is want of memory.
 pub fn walk_parts<W: ExprWalk>(
     alloc: Global,
     walks: &mut W,
     types: &[Node],
     values: &[Node],
 ) -> Result<(), NoMemory>
-    requires { AreThere (W.names walks.old) }
+    requires there { AreThere (W.names walks.old) }
+    requires honest { AreHonest (W.headers walks.old) }
     ensures reached { OnOk result ((n : ℕ) → W.outcomes walks.new n
         ≡ walked_over (W.names walks.old) (W.headers walks.old)
         (flat_map expressions_in (map tree_of types.now ++ map tree_of values.now)) (W.outcomes walks.old) n) }
@@ -56,7 +59,8 @@ pub fn walk_parts<W: ExprWalk>(
 
 // Walks over these expressions and types, the last first.
 fn walk_nodes<W: ExprWalk>(alloc: Global, walks: &mut W, nodes: &[Node]) -> Result<(), NoMemory>
-    requires { AreThere (W.names walks.old) }
+    requires there { AreThere (W.names walks.old) }
+    requires honest { AreHonest (W.headers walks.old) }
     ensures reached { OnOk result ((n : ℕ) → W.outcomes walks.new n
         ≡ walked_over (W.names walks.old) (W.headers walks.old) (flat_map expressions_in (map tree_of nodes.now))
         (W.outcomes walks.old) n) }
@@ -73,7 +77,8 @@ fn walk_nodes<W: ExprWalk>(alloc: Global, walks: &mut W, nodes: &[Node]) -> Resu
 
 // Walks over an expression or a type.
 fn walk_one<W: ExprWalk>(alloc: Global, walks: &mut W, node: &Node) -> Result<(), NoMemory>
-    requires { AreThere (W.names walks.old) }
+    requires there { AreThere (W.names walks.old) }
+    requires honest { AreHonest (W.headers walks.old) }
     ensures reached { OnOk result ((n : ℕ) → W.outcomes walks.new n
         ≡ walked_over (W.names walks.old) (W.headers walks.old) (expressions_in (tree_of node.now))
         (W.outcomes walks.old) n) }

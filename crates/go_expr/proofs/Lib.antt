@@ -1,11 +1,13 @@
-pub mod BasicLemmas
+pub mod HonestLemmas
 pub mod GivenLemmas
 pub mod InterfaceLemmas
 pub mod NodeOutcomeLemmas
 pub mod OwnOutcomesLemmas
+pub mod MeaningLemmas
 pub mod ReadLemmas
 pub mod ResultLemmas
 pub mod SignatureLemmas
 pub mod StructLemmas
 pub mod TypedLemmas
+pub mod StepLemmas
 pub mod WalkerLemmas

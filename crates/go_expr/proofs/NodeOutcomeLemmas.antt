@@ -1,27 +1,33 @@
 -- The outcome of a node as the code finds it is that by its construct.
 use Rattle.std.proofs.Common.{◌≡◌, ◌≤◌, ◌<◌, ℕ, ℤ, pos, negsuc, ◌^◌, nat_lt, Bool, true, false, cond, Option, Some, None, List, [], ◌∷◌, get_or, drop, length, refl, sym, ap, ◌∙◌, arith}
-use Rattle.std.specs.Prelude.{◌&&◌, is_some, not}
-use Rattle.go_num.specs.Arithmetic.{binary_value, limited}
-use Rattle.go_num.specs.declared.arithmetic.IntOp.TheVariants.{Add}
+use Rattle.std.specs.Prelude.{◌&&◌, if◌then◌else◌, is_some, nat_le, not}
+use Rattle.go_num.specs.Arithmetic.{limited}
+use Rattle.go_num.specs.Text.{most_text}
+use Rattle.go_num.specs.declared.value.Value.TheVariants.{Int, Text}
+use Rattle.go_term.specs.Types.{TypeData, basic_type}
+use Rattle.go_term.specs.declared.basic.Basic.TheVariants.{UntypedString}
 use Rattle.go_tree.specs.declared.node_kind.NodeKind.{NodeKind}
 use Rattle.go_tree.specs.declared.node_kind.NodeKind.TheVariants.{ArrowExpr, ChanType}
 use Rattle.go_tree.specs.Tree.{Tree, Trees, branch, end_of, id_of, kind_of, more_trees, no_trees, parts_of, start_of, text_of}
-use Rattle.go_module.specs.Rules.{unbuilt_form}
-use Rattle.go_judge.specs.declared.outcome.Spot.TheVariants.{Part}
+use Rattle.go_judge.specs.declared.outcome.Spot.TheVariants.{Whole}
 use Rattle.go_constructs.specs.Channel.{channel}
-use Rattle.go_judge.specs.Kinds.{no_value}
 use Rattle.go_judge.specs.Limits.{wide_integer}
-use Rattle.go_constructs.specs.Sum.{sum}
-use Rattle.go_judge.specs.Judged.{Asks, Found, Nothing, OutcomeData, asked, judged, tested, with_records}
-use Rattle.go_judge.specs.Operands.{at_whole, is_value}
-use Rattle.go_constructs.specs.Integers.{integers_ask, integer_in, integer_record}
-use Rattle.go_judge.specs.Records.{HeaderData, RecData}
+use Rattle.go_constructs.specs.Literal.{bytes_literal}
+use Rattle.go_constructs.specs.Operators.Constants.{constant_record}
+use Rattle.go_constructs.specs.Operators.Rules.{long_text}
+use Rattle.go_judge.specs.Judged.{Broken, Found, OutcomeData, judged, tested}
+use Rattle.go_judge.specs.Operands.{at_whole}
+use Rattle.go_constructs.specs.Integers.{untyped_int}
+use Rattle.go_constructs.specs.Name.{name}
+use Rattle.go_constructs.specs.declared.meaning.Meaning.TheVariants.{Iota}
+use Rattle.go_judge.specs.Records.{HeaderData, RecData, typed_record}
+use Rattle.go_judge.specs.declared.rec.Mode.TheVariants.{Const}
+use Rattle.go_base.specs.declared.ids.ObjId.{ObjId}
 use Rattle.go_judge.specs.Headers.{Headers}
 use Rattle.go_model.specs.Outcomes.Walk.{construct}
 use Rattle.go_judge.specs.Naming.{Naming}
 use Rattle.go_judge.specs.Quests.{Done}
-use Rattle.go_judge.proofs.ExactWaitLemmas.{joined_gone}
-use Rattle.go_expr.specs.Outcomes.{direction_by, first_kind, limited_view, operand_in, sum_by_kinds}
+use Rattle.go_expr.specs.Outcomes.{direction_by, first_kind, iota_view, limited_view, text_view}
 
 -- the first item of a list, and the first two
 
@@ -45,71 +51,33 @@ limited_is : (x y : ℤ) → limited x ≡ Some y → x ≡ y
 limited_is (pos n) y e = cond_some (nat_lt n (2 ^ 127)) (pos n) y e
 limited_is (negsuc n) y e = cond_some (nat_lt n (2 ^ 127)) (negsuc n) y e
 
-by_limit : (headers : Headers) (x : ℤ) (o : Option ℤ) → limited x ≡ o → limited_view o ≡ tested headers (at_whole wide_integer (Done (is_some o)) ∷ []) (Done (integer_record x))
-by_limit headers x None e = refl
-by_limit headers x (Some y) e = ap (λ v. Found (integer_record v)) (sym (limited_is x y e))
+by_limit : (headers : Headers) (kind : TypeData) (x : ℤ) (o : Option ℤ) → limited x ≡ o → limited_view kind o ≡ tested headers (at_whole wide_integer (Done (is_some o)) ∷ []) (Done (constant_record kind (Int x)))
+by_limit headers kind x None e = refl
+by_limit headers kind x (Some y) e = ap (λ v. Found (constant_record kind (Int v))) (sym (limited_is x y e))
 
 -- what is asked whether it is within the limits, and then given
-pub limited_outcome : (headers : Headers) (x : ℤ) → limited_view (limited x) ≡ tested headers (at_whole wide_integer (Done (is_some (limited x))) ∷ []) (Done (integer_record x))
-limited_outcome headers x = by_limit headers x (limited x) refl
+pub limited_outcome : (headers : Headers) (kind : TypeData) (x : ℤ) → limited_view kind (limited x) ≡ tested headers (at_whole wide_integer (Done (is_some (limited x))) ∷ []) (Done (constant_record kind (Int x)))
+limited_outcome headers kind x = by_limit headers kind x (limited x) refl
 
--- SUMS
+-- strings within the limits
 
--- what is asked of a sum of two integers
-abbrev sum_asks : ℤ → ℤ → Asks HeaderData RecData
-sum_asks x y = record { tests = at_whole wide_integer (Done (is_some (limited (binary_value Add x y)))) ∷ []; gives = Done (integer_record (binary_value Add x y)) }
+by_length : (headers : Headers) (bytes : List ℕ) (b : Bool)
+    → (if b then Found (constant_record (basic_type UntypedString) (Text bytes)) else Broken long_text (Whole ∷ []))
+    ≡ tested headers (at_whole long_text (Done b) ∷ []) (Done (constant_record (basic_type UntypedString) (Text bytes)))
+by_length headers bytes true = refl
+by_length headers bytes false = refl
 
-abbrev taken : Bool → Option ℤ → Bool
-taken value x = not (value && not (is_some x))
+pub text_outcome : (headers : Headers) (bytes : List ℕ) (parts : List (OutcomeData RecData)) → text_view bytes ≡ judged headers (bytes_literal bytes) parts
+text_outcome headers bytes parts = by_length headers bytes (nat_le (length bytes) most_text)
 
--- and of operands that are values or not, and such integers
-abbrev kinds_ask : Bool → Bool → Option ℤ → Option ℤ → Asks HeaderData RecData
-kinds_ask v w (Some a) (Some b) = sum_asks a b
-kinds_ask v w x y = record {
-  tests = at_whole unbuilt_form (Done (taken v x && taken w y))
-      ∷ (record { rule = no_value; spots = record { spot = Part 0; holds = Done v } ∷ (record { spot = Part 1; holds = Done w } ∷ []) } ∷ []);
-  gives = Done (integer_record (pos 0));
-}
+-- IOTA
 
-by_kinds : (headers : Headers) (v w : Bool) (x y : Option ℤ) → sum_by_kinds (record { value = v; integer = x }) (record { value = w; integer = y }) ≡ asked headers (Some (kinds_ask v w x y))
-by_kinds headers v w (Some a) (Some b) = limited_outcome headers (binary_value Add a b)
-by_kinds headers true true (Some a) None = refl
-by_kinds headers true false (Some a) None = refl
-by_kinds headers false true (Some a) None = refl
-by_kinds headers false false (Some a) None = refl
-by_kinds headers true true None (Some b) = refl
-by_kinds headers true false None (Some b) = refl
-by_kinds headers false true None (Some b) = refl
-by_kinds headers false false None (Some b) = refl
-by_kinds headers true true None None = refl
-by_kinds headers true false None None = refl
-by_kinds headers false true None None = refl
-by_kinds headers false false None None = refl
+iota_by_limit : (headers : Headers) (d : ObjId) (x : ℤ) (o : Option ℤ) → limited x ≡ o → iota_view d o ≡ tested headers (at_whole wide_integer (Done (is_some o)) ∷ []) (Done (record (typed_record d Const untyped_int) { value = Some (Int x) }))
+iota_by_limit headers d x None e = refl
+iota_by_limit headers d x (Some y) e = ap (λ v. Found (record (typed_record d Const untyped_int) { value = Some (Int v) })) (sym (limited_is x y e))
 
-kinds_are : (a b : RecData) (x y : Option ℤ) → x ≡ integer_in a → y ≡ integer_in b → kinds_ask (is_value a) (is_value b) x y ≡ integers_ask sum_asks a b x y
-kinds_are a b (Some m) (Some n) e f = refl
-kinds_are a b (Some m) None e f = (λ i. record {
-  tests = at_whole unbuilt_form (Done (taken (is_value a) (e i) && taken (is_value b) (f i)))
-      ∷ (record { rule = no_value; spots = record { spot = Part 0; holds = Done (is_value a) } ∷ (record { spot = Part 1; holds = Done (is_value b) } ∷ []) } ∷ []);
-  gives = Done (integer_record (pos 0));
-})
-kinds_are a b None y e f = (λ i. record {
-  tests = at_whole unbuilt_form (Done (taken (is_value a) (e i) && taken (is_value b) (f i)))
-      ∷ (record { rule = no_value; spots = record { spot = Part 0; holds = Done (is_value a) } ∷ (record { spot = Part 1; holds = Done (is_value b) } ∷ []) } ∷ []);
-  gives = Done (integer_record (pos 0));
-})
-
--- a sum whose operands have these records
-pub sum_of_records : (headers : Headers) (a b : RecData) (parts : List (OutcomeData RecData)) → sum_by_kinds (operand_in a) (operand_in b) ≡ judged headers sum (Found a ∷ (Found b ∷ parts))
-sum_of_records headers a b parts =
-    by_kinds headers (is_value a) (is_value b) (integer_in a) (integer_in b)
-    ∙ ap (λ asks. asked headers (Some asks)) (kinds_are a b (integer_in a) (integer_in b) refl refl)
-
--- a sum of less than two operands
-pub sum_of_few : (headers : Headers) (xs : List (OutcomeData RecData)) → length xs < 2 → Nothing ≡ judged headers sum xs
-sum_of_few headers [] lt = refl
-sum_of_few headers (x ∷ []) lt = ap (λ operands. with_records headers operands sum.asks) (sym (joined_gone x))
-sum_of_few headers (x ∷ (y ∷ xs)) lt = absurd (omega (arith, lt))
+pub iota_outcome : (headers : Headers) (d : ObjId) (n : ℕ) (parts : List (OutcomeData RecData)) → iota_view d (limited (pos n)) ≡ judged headers (name (Iota d (Some n))) parts
+iota_outcome headers d n parts = iota_by_limit headers d (pos n) (limited (pos n)) refl
 
 -- NODES OF A KIND
 

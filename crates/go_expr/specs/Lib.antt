@@ -4,5 +4,6 @@ pub mod Walker
 pub mod Read
 -- what inner functions promise each other
 pub mod Given
+pub mod Operator
 pub mod Elements
 pub mod TypeLiteral

@@ -1,4 +1,4 @@
-// Untyped integer constants (Go specification, "Constants").
+// Untyped integer and rune constants (Go specification, "Constants").
 ghost use Rattle.std.specs.Prelude.{◌≡◌, IfOk, Some};
 ghost use Rattle.go_term.specs.Shapes.{shape_tree};
 ghost use Rattle.go_term.specs.Types.{TypeData, basic_type};
@@ -13,7 +13,7 @@ use go_num::Value;
 use go_term::{Basic, Shape};
 use std::alloc::Global;
 
-/// The value of a record that is one of an untyped integer constant. An error is want of memory.
+/// The value of a record that is one of an untyped integer or rune constant. An error is want of memory.
 pub fn integer_in<J: Judge>(
     alloc: Global,
     judge: &mut J,
@@ -35,7 +35,7 @@ pub fn integer_in<J: Judge>(
     }
 }
 
-// The value, where its type is that of an untyped integer.
+// The value, where its type is that of an untyped integer or rune.
 fn integer_of(shape: &Shape, value: &Option<Value>) -> Option<i128>
     ensures { (tree : Term → TypeData) → result ≡ integer_by (Some (shape_tree tree shape.now)) value.now }
 {
@@ -56,15 +56,14 @@ fn integer_of(shape: &Shape, value: &Option<Value>) -> Option<i128>
     }
 }
 
-// The value of a basic type, where that is the kind of an untyped integer.
-#[tactic(auto, using(crate::proofs::BasicLemmas::other_basic))]
+// The value of a basic type, where that is the kind of an untyped integer or rune.
 fn basic_integer(basic: Basic, value: &Option<Value>) -> Option<i128>
     ensures { result ≡ integer_by (Some (basic_type basic)) value.now }
 {
-    if basic == Basic::UntypedInt {
-        integer(value)
-    } else {
-        None
+    match basic {
+        Basic::UntypedInt => integer(value),
+        Basic::UntypedRune => integer(value),
+        _ => None,
     }
 }
 

@@ -3,8 +3,7 @@
 //! A `Walker` walks over expressions and types and keeps the outcome of each node, by the node's number: a judge
 //! answers which headers are known and what identifiers denote, makes each type and sees its form, and each construct
 //! has a file of its own, which says its outcome by those of its operands.
-//! `header_over` reads the header of a declaration off a walk, `header_by` off outcomes that are kept. How headers are
-//! found is left to go_decl, which rules are told where to go_check.
+//! How headers are found is left to go_decl, which rules are told where to go_check.
 #![tactic(auto)]
 
 // What identifiers mean.
@@ -16,12 +15,12 @@ mod integer;
 mod types;
 
 // What a node comes to: each construct.
-mod broken;
 mod literal;
 mod name;
+mod operator;
 mod parentheses;
+mod rune_literal;
 mod selector;
-mod sum;
 
 // Type literals: what they share, and each construct.
 mod array;
@@ -38,8 +37,6 @@ mod type_literal;
 mod typed;
 
 // Walks over expressions and types, and what is read off them.
-mod headers;
 mod walker;
 
-pub use headers::{header_by, header_over};
 pub use walker::Walker;

@@ -1,11 +1,10 @@
 // What identifiers mean (Go specification, "Declarations and scope", "Predeclared identifiers").
-ghost use Rattle.std.specs.Prelude.{◌≡◌, ℕ, Option, Some};
-ghost use Rattle.go_module.specs.declared.object.Object.{Object as ObjectData};
+ghost use Rattle.std.specs.Prelude.{◌≡◌, IsSome};
 ghost use Rattle.go_constructs.specs.Meaning as spec;
 ghost use Rattle.go_judge.specs.Naming.{AreThere};
 
 use go_model::{Forms, Meaning};
-use go_module::{FIRST_NUMBER, ObjId, ObjKind, Object};
+use go_module::{FIRST_NUMBER, ObjId, ObjKind};
 use go_term::Basic;
 use go_tree::NodeId;
 
@@ -15,28 +14,29 @@ pub fn meaning<F: Forms>(forms: &F, id: NodeId) -> Meaning
     ensures { result ≡ spec.meaning_by (F.names forms.now) id.0 }
 {
     match forms.resolve(id) {
-        Some(d) => object_meaning(d, forms.object(d)),
+        Some(d) => object_meaning(forms, id, d),
         None => Meaning::Other,
     }
 }
 
-// What an object means.
-fn object_meaning(d: ObjId, object: &Object) -> Meaning
-    ensures { (objects : ℕ → Option ObjectData) → objects d.0 ≡ Some object.now
-        → result ≡ spec.object_meaning objects d }
+// What an object means that an identifier denotes.
+fn object_meaning<F: Forms>(forms: &F, id: NodeId, d: ObjId) -> Meaning
+    requires { IsSome ((F.names forms.now).objects d.0) }
+    ensures { result ≡ spec.object_meaning (F.names forms.now).objects ((F.names forms.now).iota id.0) d }
 {
     if d.0 < FIRST_NUMBER {
-        predeclared_meaning(d)
+        predeclared_meaning(forms.iota_of(id), d)
     } else {
-        kind_meaning(d, object.kind)
+        kind_meaning(d, forms.object(d).kind)
     }
 }
 
-// What a universe name means: the types are listed in the order of `PREDECLARED` of go_module.
-fn predeclared_meaning(d: ObjId) -> Meaning
-    ensures { result ≡ spec.predeclared_meaning d }
+// What a universe name means, of iota by the number of the constant spec around it: the types and the constants are
+// listed in the order of `PREDECLARED` of go_module.
+fn predeclared_meaning(iota: Option<usize>, d: ObjId) -> Meaning
+    ensures { result ≡ spec.predeclared_meaning iota d }
 {
-    let types = [
+    let meanings = [
         Meaning::AnyType(d),
         Meaning::BasicType(d, Basic::Bool),
         Meaning::BasicType(d, Basic::Uint8),
@@ -59,8 +59,11 @@ fn predeclared_meaning(d: ObjId) -> Meaning
         Meaning::BasicType(d, Basic::Uint32),
         Meaning::BasicType(d, Basic::Uint64),
         Meaning::BasicType(d, Basic::Uintptr),
+        Meaning::Truth(d, true),
+        Meaning::Truth(d, false),
+        Meaning::Iota(d, iota),
     ];
-    match types.get(d.0) {
+    match meanings.get(d.0) {
         Some(meaning) => *meaning,
         None => Meaning::Predeclared,
     }

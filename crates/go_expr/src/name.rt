@@ -1,6 +1,7 @@
-// Identifiers (Go specification, "Operands", "Predeclared identifiers").
-ghost use Rattle.std.specs.Prelude.{◌≡◌, List, IfOk, IfSome};
+// Identifiers (Go specification, "Operands", "Predeclared identifiers", "Iota").
+ghost use Rattle.std.specs.Prelude.{◌≡◌, List, Some, IfOk, IfSome, pos};
 ghost use Rattle.std.specs.Option.{option_map};
+ghost use Rattle.go_num.specs.Arithmetic.{limited};
 ghost use Rattle.go_constructs.specs.declared.meaning.Meaning.TheVariants as meanings;
 ghost use Rattle.go_constructs.specs.Name as spec;
 ghost use Rattle.go_judge.specs.declared.rec.Mode.TheVariants as modes;
@@ -8,18 +9,21 @@ ghost use Rattle.go_judge.specs.Judged as outcomes;
 ghost use Rattle.go_judge.specs.Judged.{OutcomeData, judged};
 ghost use Rattle.go_judge.specs.Records.{RecData, header_as, named_record, rec_as, typed_record};
 ghost use Rattle.go_judge.specs.View.{outcome_as};
+ghost use Rattle.go_judge.specs.Headers as known;
 ghost use Rattle.go_judge.specs.Types.Own.{IsOwnHeader, IsOwnOutcome, IsOwnRec, Keeps};
+ghost use Rattle.go_expr.specs.Outcomes.{iota_view};
 
 use crate::types::{any_type, basic_type, named_type};
 use go_base::NoMemory;
-use go_model::{Header, Judge, Meaning, Mode, Outcome, Rec, broken};
+use go_model::{Header, Judge, Meaning, Mode, NO_VALUE, Outcome, Rec, WIDE_INTEGER, broken};
 use go_module::{ObjId, UNBUILT_FORM};
-use go_term::Ty;
+use go_num::Value;
+use go_term::{Basic, Ty};
 use std::alloc::Global;
 
 /// An identifier by its meaning: a constant, a variable and an alias have the record that their header gives, or wait for
-/// it; a type that is defined or predeclared is itself; another predeclared identifier breaks U0. An error is want of
-/// memory.
+/// it; a type that is defined or predeclared, and a truth value, is itself; iota is the number of the constant spec around
+/// it, and breaks R1 where none stands around it; another predeclared identifier breaks U0. An error is want of memory.
 pub fn name<J: Judge>(alloc: Global, judge: &mut J, meaning: Meaning) -> Result<Outcome, NoMemory>
     ensures outcome { IfOk result (λ outcome. (parts : List (OutcomeData RecData))
         → outcome_as (J.tree judge.new) outcome ≡ judged (J.headers judge.old) (spec.name meaning) parts) }
@@ -46,6 +50,11 @@ pub fn name<J: Judge>(alloc: Global, judge: &mut J, meaning: Meaning) -> Result<
             let ty = any_type(alloc, judge)?;
             Ok(name_of_type(judge, d, ty))
         }
+        Meaning::Truth(d, truth) => {
+            let ty = basic_type(alloc, judge, Basic::UntypedBool)?;
+            Ok(name_of_constant(judge, d, ty, Value::Bool(truth)))
+        }
+        Meaning::Iota(d, number) => iota(alloc, judge, d, number),
         Meaning::Predeclared => broken(alloc, judge, UNBUILT_FORM),
         Meaning::Other => Ok(Outcome::Nothing),
     }
@@ -59,6 +68,74 @@ fn name_of_type<J: Judge>(judge: &J, d: ObjId, ty: Ty) -> Outcome
     ensures own { IsOwnOutcome (J.is_type judge.now) result }
 {
     Outcome::Found(typed_record(judge, d, Mode::IsType, ty))
+}
+
+// The name of a constant of this type and with this value.
+fn name_of_constant<J: Judge>(judge: &J, d: ObjId, ty: Ty, value: Value) -> Outcome
+    requires { J.is_type judge.now ty }
+    ensures outcome { outcome_as (J.tree judge.now) result
+        ≡ outcomes.Found (record (typed_record d modes.Const (J.tree judge.now ty)) { value = Some value }) }
+    ensures own { IsOwnOutcome (J.is_type judge.now) result }
+{
+    Outcome::Found(Rec {
+        mode: Mode::Const,
+        ty: Some(ty),
+        value: Some(value),
+        object: Some(d),
+        span: None,
+    })
+}
+
+// The predeclared iota, by the number of the constant spec around it, where one stands around it. An error is want of
+// memory.
+fn iota<J: Judge>(
+    alloc: Global,
+    judge: &mut J,
+    d: ObjId,
+    number: Option<usize>,
+) -> Result<Outcome, NoMemory>
+    ensures outcome { IfOk result (λ outcome. (headers : known.Headers) (parts : List (OutcomeData RecData))
+        → outcome_as (J.tree judge.new) outcome ≡ judged headers (spec.name (meanings.Iota d number)) parts) }
+    ensures own { IfOk result (IsOwnOutcome (J.is_type judge.new)) }
+    ensures keeps { Keeps (J.headers judge.old) (J.headers judge.new) (J.names judge.old) (J.names judge.new)
+        (J.outcomes judge.old) (J.outcomes judge.new) (J.is_spent judge.old) (J.is_spent judge.new)
+        (J.world judge.old) (J.world judge.new) (J.is_type judge.old) (J.is_type judge.new)
+        (J.tree judge.old) (J.tree judge.new) }
+{
+    match number {
+        Some(n) => numbered(alloc, judge, d, number_of_spec(n)),
+        None => broken(alloc, judge, NO_VALUE),
+    }
+}
+
+// The predeclared iota with this value: L2 where it is outside the limits. An error is want of memory.
+fn numbered<J: Judge>(
+    alloc: Global,
+    judge: &mut J,
+    d: ObjId,
+    value: Option<i128>,
+) -> Result<Outcome, NoMemory>
+    ensures outcome { IfOk result (λ outcome. outcome_as (J.tree judge.new) outcome ≡ iota_view d value) }
+    ensures own { IfOk result (IsOwnOutcome (J.is_type judge.new)) }
+    ensures keeps { Keeps (J.headers judge.old) (J.headers judge.new) (J.names judge.old) (J.names judge.new)
+        (J.outcomes judge.old) (J.outcomes judge.new) (J.is_spent judge.old) (J.is_spent judge.new)
+        (J.world judge.old) (J.world judge.new) (J.is_type judge.old) (J.is_type judge.new)
+        (J.tree judge.old) (J.tree judge.new) }
+{
+    match value {
+        Some(value) => {
+            let ty = basic_type(alloc, judge, Basic::UntypedInt)?;
+            Ok(name_of_constant(judge, d, ty, Value::Int(value)))
+        }
+        None => broken(alloc, judge, WIDE_INTEGER),
+    }
+}
+
+// The number of a constant spec, as a value within the limits.
+fn number_of_spec(n: usize) -> Option<i128>
+    ensures { result ≡ limited (pos n) }
+{
+    i128::try_from(n).ok()
 }
 
 // A declaration, by the header that it may have. An error is want of memory.

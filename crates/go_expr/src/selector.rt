@@ -2,10 +2,10 @@
 ghost use Rattle.std.specs.Prelude.{◌≡◌, List, ◌∷◌, IfOk, map};
 ghost use Rattle.go_constructs.specs.declared.meaning.Meaning.TheVariants as meanings;
 ghost use Rattle.go_constructs.specs.Selector as spec;
-ghost use Rattle.go_judge.specs.Headers.{Headers};
 ghost use Rattle.go_judge.specs.Judged.{OutcomeData, judged};
 ghost use Rattle.go_judge.specs.Records.{RecData};
 ghost use Rattle.go_judge.specs.View.{outcome_as};
+ghost use Rattle.go_judge.specs.Headers as known;
 ghost use Rattle.go_judge.specs.Types.Own.{IsOwnOutcome, Keeps};
 
 use crate::name::name;
@@ -36,13 +36,15 @@ pub fn selector<J: Judge>(
         Meaning::DefinedType(_) => name(alloc, judge, meaning),
         Meaning::BasicType(_, _) => name(alloc, judge, meaning),
         Meaning::AnyType(_) => name(alloc, judge, meaning),
+        Meaning::Truth(_, _) => name(alloc, judge, meaning),
+        Meaning::Iota(_, _) => name(alloc, judge, meaning),
         Meaning::Predeclared => name(alloc, judge, meaning),
     }
 }
 
 // A selector of a value, by the outcome of its operand, the first of these.
 fn of_first<J: Judge>(alloc: Global, judge: &J, outcomes: &[Outcome]) -> Result<Outcome, NoMemory>
-    ensures outcome { IfOk result (λ outcome. (headers : Headers) → outcome_as (J.tree judge.now) outcome
+    ensures outcome { IfOk result (λ outcome. (headers : known.Headers) → outcome_as (J.tree judge.now) outcome
         ≡ judged headers (spec.selector meanings.Other) (map (outcome_as (J.tree judge.now)) outcomes.now)) }
     ensures own { IfOk result (IsOwnOutcome (J.is_type judge.now)) }
 {
@@ -54,7 +56,7 @@ fn of_first<J: Judge>(alloc: Global, judge: &J, outcomes: &[Outcome]) -> Result<
 
 // A selector of a value, by the outcome of its operand.
 fn of_value<J: Judge>(alloc: Global, judge: &J, operand: &Outcome) -> Result<Outcome, NoMemory>
-    ensures outcome { IfOk result (λ outcome. (headers : Headers) (parts : List (OutcomeData RecData))
+    ensures outcome { IfOk result (λ outcome. (headers : known.Headers) (parts : List (OutcomeData RecData))
         → outcome_as (J.tree judge.now) outcome
         ≡ judged headers (spec.selector meanings.Other) (outcome_as (J.tree judge.now) operand.now ∷ parts)) }
     ensures own { IfOk result (IsOwnOutcome (J.is_type judge.now)) }

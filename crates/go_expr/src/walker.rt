@@ -14,6 +14,7 @@ ghost use Rattle.go_judge.specs.View.{outcome_as};
 ghost use Rattle.go_model.specs.Outcomes.Walk as walk;
 ghost use Rattle.go_model.specs.Outcomes.Walked.{ArePartly, walked_over};
 ghost use Rattle.go_judge.specs.Types.Own.{IsOwnOutcome, Keeps, KeepsTypes};
+ghost use Rattle.go_constructs.specs.Operators.Honest.{AreHonest, GivesHonest};
 ghost use Rattle.go_judge.specs.Naming.{AreThere};
 ghost use Rattle.go_expr.specs.Outcomes.{arrow_by, direction_by, first_kind};
 ghost use Rattle.go_expr.specs.Walker.{AreOwnOutcomes, outcome_in, outcomes_as};
@@ -22,16 +23,16 @@ use crate::array::array_type;
 use crate::channel::channel_type;
 use crate::function::function_type;
 use crate::interface::interface_type;
-use crate::literal::literal;
+use crate::literal::{integer_literal, rune_literal, string_literal};
 use crate::map_type::map_type;
 use crate::meaning::meaning;
 use crate::name::name;
+use crate::operator::operator;
 use crate::parentheses::parentheses;
 use crate::pointer::pointer_to;
 use crate::selector::selector;
 use crate::slice::slice_type;
 use crate::struct_type::struct_type;
-use crate::sum::sum;
 use go_base::NoMemory;
 use go_model::{Judge, NumberHasher, Outcome, Rec};
 use go_module::part_list;
@@ -70,6 +71,7 @@ impl Walker {
         _want: Option<Ty>,
     ) -> Result<Outcome, NoMemory>
         requires there { AreThere (J.names judge.old) }
+        requires honest { AreHonest (J.headers judge.old) }
         requires wanted { IfSome _want (J.is_type judge.old) }
         requires own { AreOwnOutcomes (J.is_type judge.old) self.old }
         ensures outcome { IfOk result (λ found. outcome_as (J.tree judge.new) found
@@ -121,6 +123,7 @@ fn walk<J: Judge>(
     walker: &mut Walker,
 ) -> Result<Outcome, NoMemory>
     requires there { AreThere (J.names judge.old) }
+    requires honest { AreHonest (J.headers judge.old) }
     requires own { AreOwnOutcomes (J.is_type judge.old) walker.old }
     ensures outcome { IfOk result (λ found. outcome_as (J.tree judge.new) found
         ≡ walk.outcome (J.names judge.old) (J.headers judge.old) (tree_of node.now)) }
@@ -157,6 +160,8 @@ fn step_and_keep<J: Judge>(
     requires there { AreThere (J.names judge.old) }
     requires many { length outcomes.now ≡ length (operands_of (tree_of node.now)) }
     requires parts { AllByRecursion (IsOwnOutcome (J.is_type judge.old)) outcomes.now }
+    requires honest { AllByRecursion (GivesHonest (J.headers judge.old))
+        (map (outcome_as (J.tree judge.old)) outcomes.now) }
     requires own { AreOwnOutcomes (J.is_type judge.old) walker.old }
     ensures outcome { IfOk result (λ found. outcome_as (J.tree judge.new) found
         ≡ judged (J.headers judge.old) (walk.construct (J.names judge.old) (tree_of node.now))
@@ -207,6 +212,8 @@ fn step<J: Judge>(
     requires there { AreThere (J.names judge.old) }
     requires many { length outcomes.now ≡ length (operands_of (tree_of node.now)) }
     requires own { AllByRecursion (IsOwnOutcome (J.is_type judge.old)) outcomes.now }
+    requires honest { AllByRecursion (GivesHonest (J.headers judge.old))
+        (map (outcome_as (J.tree judge.old)) outcomes.now) }
     ensures outcome { IfOk result (λ found. outcome_as (J.tree judge.new) found
         ≡ judged (J.headers judge.old) (walk.construct (J.names judge.old) (tree_of node.now))
         (map (outcome_as (J.tree judge.old)) outcomes.now)) }
@@ -217,7 +224,9 @@ fn step<J: Judge>(
         (J.tree judge.old) (J.tree judge.new) }
 {
     match node.kind() {
-        NodeKind::IntLit => literal(alloc, judge, node.text()),
+        NodeKind::IntLit => integer_literal(alloc, judge, node.text()),
+        NodeKind::RuneLit => rune_literal(alloc, judge, node.text()),
+        NodeKind::StringLit => string_literal(alloc, judge, node.text()),
         NodeKind::Name => {
             let meaning = meaning(judge, node.id());
             name(alloc, judge, meaning)
@@ -230,7 +239,6 @@ fn step<J: Judge>(
             None => Ok(Outcome::Nothing),
         },
         NodeKind::ParenExpr => parentheses(judge, outcomes),
-        NodeKind::AddExpr => sum(alloc, judge, outcomes),
         NodeKind::StarExpr => pointer_to(alloc, judge, outcomes),
         NodeKind::EmbeddedPointer => pointer_to(alloc, judge, outcomes),
         NodeKind::SliceType => slice_type(alloc, judge, outcomes),
@@ -241,7 +249,7 @@ fn step<J: Judge>(
         NodeKind::FuncType => function(alloc, judge, node, outcomes),
         NodeKind::StructType => struct_type(alloc, judge, node, outcomes),
         NodeKind::InterfaceType => interface_type(alloc, judge, node, outcomes),
-        _ => Ok(Outcome::Nothing),
+        kind => operator(alloc, judge, kind, outcomes),
     }
 }
 

@@ -6,8 +6,8 @@ use Rattle.go_tree.specs.Tree.{Tree, branch, Trees, no_trees, more_trees, kind_o
 use Rattle.go_tree.proofs.TreeLemmas.{count-parts}
 use Rattle.go_form.specs.declared.parts.Parts.TheVariants.{NotBuilt, NoParts, One, Two, Three, OneAndEach, NamesAndType}
 use Rattle.go_form.specs.declared.role.Role.{Role}
-use Rattle.go_form.specs.declared.role.Role.TheVariants.{ExpressionList, Identifier, IdentifierList, Unbuilt}
-use Rattle.go_form.specs.BuiltForms.{constant_parts, parts_as, variable_parts, with_type, with_values}
+use Rattle.go_form.specs.declared.role.Role.TheVariants.{ExpressionList, Identifier, Unbuilt}
+use Rattle.go_form.specs.BuiltForms.{constant_parts, copied_parts, parts_as, variable_parts, with_type, with_type_and_values, with_values}
 use Rattle.go_form.specs.BuiltTypes.{arrow_parts, one_or_two, received_parts}
 use Rattle.go_form.specs.Unbuilt.{are_none, unbuilt_as, unbuilt_behind_name, unbuilt_each, unbuilt_parts}
 
@@ -102,6 +102,20 @@ variable_other (more_trees a (more_trees b (more_trees c ts))) two = refl
 
 pub ruleset variable_lemmas = (variable_two, variable_other)
 
+pub copied_one : (t a : Tree) → parts_of t ≡ more_trees a no_trees → copied_parts (parts_of t) ≡ One ExpressionList
+copied_one t a e = ap copied_parts e
+
+pub copied_two : (t a b : Tree) → parts_of t ≡ more_trees a (more_trees b no_trees) → copied_parts (parts_of t) ≡ Two Unbuilt ExpressionList
+copied_two t a b e = ap copied_parts e
+
+pub copied_other : (ts : Trees) → IsNotOne ts → IsNotTwo ts → copied_parts ts ≡ NotBuilt
+copied_other no_trees one two = refl
+copied_other (more_trees a no_trees) one two = absurd (one a refl)
+copied_other (more_trees a (more_trees b no_trees)) one two = absurd (two a b refl)
+copied_other (more_trees a (more_trees b (more_trees c ts))) one two = refl
+
+pub ruleset copied_lemmas = (copied_one, copied_two, copied_other)
+
 -- ONE OR TWO
 
 pub one_of_two : (r s : Role) (t a : Tree) → parts_of t ≡ more_trees a no_trees → one_or_two r s (parts_of t) ≡ One r
@@ -128,10 +142,10 @@ three_other r s u n (more_trees a (more_trees b (more_trees c (more_trees d ts))
 
 pub ruleset three_lemmas = (three_count, three_is, three_other)
 
-pub constant_two : (t a b : Tree) → parts_of t ≡ more_trees a (more_trees b no_trees) → constant_parts (parts_of t) ≡ with_values (kind_of b) (Two IdentifierList ExpressionList)
+pub constant_two : (t a b : Tree) → parts_of t ≡ more_trees a (more_trees b no_trees) → constant_parts (parts_of t) ≡ with_values (kind_of b)
 constant_two t a b e = ap constant_parts e
 
-pub constant_three : (t a b c : Tree) → parts_of t ≡ more_trees a (more_trees b (more_trees c no_trees)) → constant_parts (parts_of t) ≡ with_values (kind_of c) (Three IdentifierList Unbuilt ExpressionList)
+pub constant_three : (t a b c : Tree) → parts_of t ≡ more_trees a (more_trees b (more_trees c no_trees)) → constant_parts (parts_of t) ≡ with_type_and_values (kind_of c)
 constant_three t a b c e = ap constant_parts e
 
 pub constant_other : (ts : Trees) → IsNotTwo ts → IsNotThree ts → constant_parts ts ≡ NotBuilt

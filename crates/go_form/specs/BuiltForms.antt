@@ -8,8 +8,9 @@ use Rattle.go_tree.specs.Tree.{Trees, no_trees, more_trees, kind_of}
 use Rattle.go_form.specs.declared.parts.Parts.{Parts}
 use Rattle.go_form.specs.declared.parts.Parts.TheVariants.{NotBuilt, AnyParts, NoParts, One, Two, Three, Each, OneAndEach}
 use Rattle.go_form.specs.declared.role.Role.{Role}
-use Rattle.go_form.specs.declared.role.Role.TheVariants.{AnyType, ConstSpec, Declaration, ChannelElement, Expression, ExpressionList, FieldDecl, Identifier, IdentifierList, InterfaceElem, ParameterDecl, Parameters, ReceiveChannel, Results, Signature, SourceFile, Tag, TypeSpec, Unbuilt, VarSpec}
-use Rattle.go_form.specs.BuiltTypes.{literal_parts, type_parts, channel_element_parts, receive_channel_parts, signature_parts, parameters_parts, result_parts, parameter_parts, field_parts, tag_parts, interface_element_parts}
+use Rattle.go_form.specs.declared.role.Role.TheVariants.{AnyType, ConstCopy, ConstSpec, Declaration, ChannelElement, Expression, ExpressionList, FieldDecl, Identifier, IdentifierList, InterfaceElem, ParameterDecl, Parameters, ReceiveChannel, Results, Signature, SourceFile, Tag, TypeSpec, Unbuilt, VarSpec}
+use Rattle.go_form.specs.BuiltOperators.{operator_parts}
+use Rattle.go_form.specs.BuiltTypes.{type_parts, channel_element_parts, receive_channel_parts, signature_parts, parameters_parts, result_parts, parameter_parts, field_parts, tag_parts, interface_element_parts}
 
 -- DECLARATIONS
 
@@ -34,18 +35,33 @@ declaration_parts kind = NotBuilt
 
 -- SPECS
 
--- those of a spec of constants whose last part is of that kind: values that are written. The copy of a list that a spec
--- omits is none.
-abbrev pub with_values : NodeKind → Parts → Parts
-with_values k.ExprList parts = parts
-with_values kind parts = NotBuilt
+-- those of a spec of constants without a type, behind whose names that stands: values, or the copy of a list that is
+-- omitted
+abbrev pub with_values : NodeKind → Parts
+with_values k.ExprList = Two IdentifierList ExpressionList
+with_values k.ConstCopy = Two IdentifierList ConstCopy
+with_values kind = NotBuilt
 
--- IdentifierList [ [ Type ] "=" ExpressionList ], with values. The type is not built.
+-- and of one with a type, which is not built
+abbrev pub with_type_and_values : NodeKind → Parts
+with_type_and_values k.ExprList = Three IdentifierList Unbuilt ExpressionList
+with_type_and_values kind = NotBuilt
+
+-- IdentifierList [ [ Type ] "=" ExpressionList ]
 abbrev pub constant_parts : Trees → Parts
-constant_parts (more_trees names (more_trees values no_trees)) = with_values (kind_of values) (Two IdentifierList ExpressionList)
-constant_parts (more_trees names (more_trees type (more_trees values no_trees))) =
-    with_values (kind_of values) (Three IdentifierList Unbuilt ExpressionList)
+constant_parts (more_trees names (more_trees values no_trees)) = with_values (kind_of values)
+constant_parts (more_trees names (more_trees type (more_trees values no_trees))) = with_type_and_values (kind_of values)
 constant_parts parts = NotBuilt
+
+-- "the first preceding non-empty expression list and its type if any": the type is not built
+abbrev pub copied_parts : Trees → Parts
+copied_parts (more_trees values no_trees) = One ExpressionList
+copied_parts (more_trees type (more_trees values no_trees)) = Two Unbuilt ExpressionList
+copied_parts parts = NotBuilt
+
+abbrev pub const_copy_parts : NodeKind → Trees → Parts
+const_copy_parts k.ConstCopy parts = copied_parts parts
+const_copy_parts kind parts = NotBuilt
 
 -- ConstSpec = IdentifierList [ [ Type ] "=" ExpressionList ] .
 abbrev pub const_spec_parts : NodeKind → Trees → Parts
@@ -92,18 +108,17 @@ abbrev pub identifier_parts : NodeKind → Parts
 identifier_parts k.Name = NoParts
 identifier_parts kind = NotBuilt
 
--- A type literal is built where an expression is written: another rule speaks of it, as of a floating-point literal.
 abbrev pub expression_parts : NodeKind → Trees → Parts
--- Operand = Literal | OperandName [ TypeArgs ] | "(" Expression ")" .
+-- Operand = Literal | OperandName [ TypeArgs ] | "(" Expression ")" . Another rule speaks of a floating-point literal.
 expression_parts k.IntLit parts = NoParts
 expression_parts k.FloatLit parts = NoParts
+expression_parts k.RuneLit parts = NoParts
+expression_parts k.StringLit parts = NoParts
 expression_parts k.Name parts = NoParts
 -- QualifiedIdent = PackageName "." identifier .
 expression_parts k.SelectorExpr parts = Two Identifier Identifier
 expression_parts k.ParenExpr parts = One Expression
--- Expression = UnaryExpr | Expression binary_op Expression .
-expression_parts k.AddExpr parts = Two Expression Expression
-expression_parts kind parts = literal_parts kind parts
+expression_parts kind parts = operator_parts kind parts
 
 -- ALL
 
@@ -112,6 +127,7 @@ abbrev pub parts_as : Role → NodeKind → Trees → Parts
 parts_as SourceFile kind parts = file_parts kind
 parts_as Declaration kind parts = declaration_parts kind
 parts_as ConstSpec kind parts = const_spec_parts kind parts
+parts_as ConstCopy kind parts = const_copy_parts kind parts
 parts_as VarSpec kind parts = var_spec_parts kind parts
 parts_as TypeSpec kind parts = type_spec_parts kind
 parts_as IdentifierList kind parts = identifiers_parts kind

@@ -10,4 +10,5 @@ pub mod BuildConstraints
 -- forms that are not built yet
 pub mod Unbuilt
 pub mod BuiltForms
+pub mod BuiltOperators
 pub mod BuiltTypes

@@ -3,9 +3,10 @@ ghost use Rattle.std.specs.Prelude.{◌≡◌};
 ghost use Rattle.go_tree.specs.Tree.{tree_of, kind_of, parts_of};
 ghost use Rattle.go_form.specs.BuiltForms as rules;
 
+use crate::built_operators::operator_parts;
 use crate::built_types::{
-    channel_element_parts, field_parts, interface_element_parts, literal_parts, parameter_parts,
-    parameters_parts, receive_channel_parts, result_parts, signature_parts, tag_parts, type_parts,
+    channel_element_parts, field_parts, interface_element_parts, parameter_parts, parameters_parts,
+    receive_channel_parts, result_parts, signature_parts, tag_parts, type_parts,
 };
 use crate::parts::Parts;
 use crate::role::Role;
@@ -37,12 +38,25 @@ fn declaration_parts(kind: NodeKind) -> Parts
     }
 }
 
-// The parts of a spec of constants whose last part is of that kind.
-fn with_values(kind: NodeKind, parts: Parts) -> Parts
-    ensures { result ≡ rules.with_values kind parts }
+// The parts of a spec of constants without a type, by what stands behind its names.
+fn with_values(kind: NodeKind) -> Parts
+    ensures { result ≡ rules.with_values kind }
 {
     match kind {
-        NodeKind::ExprList => parts,
+        NodeKind::ExprList => Parts::Two(Role::IdentifierList, Role::ExpressionList),
+        NodeKind::ConstCopy => Parts::Two(Role::IdentifierList, Role::ConstCopy),
+        _ => Parts::NotBuilt,
+    }
+}
+
+// The parts of one with a type.
+fn with_type_and_values(kind: NodeKind) -> Parts
+    ensures { result ≡ rules.with_type_and_values kind }
+{
+    match kind {
+        NodeKind::ExprList => {
+            Parts::Three(Role::IdentifierList, Role::Unbuilt, Role::ExpressionList)
+        }
         _ => Parts::NotBuilt,
     }
 }
@@ -52,12 +66,10 @@ fn constant_parts(spec: &Node) -> Parts
     ensures { result ≡ rules.constant_parts (parts_of (tree_of spec.now)) }
 {
     if let Some((_, values)) = spec.both_parts() {
-        let parts = Parts::Two(Role::IdentifierList, Role::ExpressionList);
-        return with_values(values.kind(), parts);
+        return with_values(values.kind());
     }
     if let Some((_, _, values)) = three_parts(spec) {
-        let parts = Parts::Three(Role::IdentifierList, Role::Unbuilt, Role::ExpressionList);
-        return with_values(values.kind(), parts);
+        return with_type_and_values(values.kind());
     }
     Parts::NotBuilt
 }
@@ -67,6 +79,29 @@ fn const_spec_parts(node: &Node) -> Parts
 {
     match node.kind() {
         NodeKind::ConstSpec => constant_parts(node),
+        _ => Parts::NotBuilt,
+    }
+}
+
+// The parts of the copy of a list: the type if any and the values.
+#[tactic(auto, using(crate::proofs::UnbuiltLemmas::copied_lemmas))]
+fn copied_parts(copy: &Node) -> Parts
+    ensures { result ≡ rules.copied_parts (parts_of (tree_of copy.now)) }
+{
+    if let Some(_) = copy.only_part() {
+        return Parts::One(Role::ExpressionList);
+    }
+    if let Some(_) = copy.both_parts() {
+        return Parts::Two(Role::Unbuilt, Role::ExpressionList);
+    }
+    Parts::NotBuilt
+}
+
+fn const_copy_parts(node: &Node) -> Parts
+    ensures { result ≡ rules.const_copy_parts (kind_of (tree_of node.now)) (parts_of (tree_of node.now)) }
+{
+    match node.kind() {
+        NodeKind::ConstCopy => copied_parts(node),
         _ => Parts::NotBuilt,
     }
 }
@@ -145,11 +180,12 @@ fn expression_parts(node: &Node) -> Parts
     match node.kind() {
         NodeKind::IntLit => Parts::NoParts,
         NodeKind::FloatLit => Parts::NoParts,
+        NodeKind::RuneLit => Parts::NoParts,
+        NodeKind::StringLit => Parts::NoParts,
         NodeKind::Name => Parts::NoParts,
         NodeKind::SelectorExpr => Parts::Two(Role::Identifier, Role::Identifier),
         NodeKind::ParenExpr => Parts::One(Role::Expression),
-        NodeKind::AddExpr => Parts::Two(Role::Expression, Role::Expression),
-        _ => literal_parts(node),
+        _ => operator_parts(node),
     }
 }
 
@@ -161,6 +197,7 @@ pub fn parts_as(role: Role, node: &Node) -> Parts
         Role::SourceFile => file_parts(node.kind()),
         Role::Declaration => declaration_parts(node.kind()),
         Role::ConstSpec => const_spec_parts(node),
+        Role::ConstCopy => const_copy_parts(node),
         Role::VarSpec => var_spec_parts(node),
         Role::TypeSpec => type_spec_parts(node.kind()),
         Role::IdentifierList => identifiers_parts(node.kind()),

@@ -3,8 +3,8 @@
 //! `broken_forms` gives the list of all that a file breaks by its form: `at_node` asks the rules of each node
 //! that is written, a family in each of `parameters`, `declarations`, `guards`, `statements` and
 //! `switch_statements`; `unbuilt` finds the forms that are not built yet, by what each node stands for (`role`) and which
-//! parts it then has (`parts`), which `built_forms` and `built_types` say; `build_constraints` finds those before the
-//! package clause. `broken_by` gives the rule of a text that has no tree.
+//! parts it then has (`parts`), which `built_forms`, `built_operators` and `built_types` say; `build_constraints` finds
+//! those before the package clause. `broken_by` gives the rule of a text that has no tree.
 #![tactic(auto)]
 
 mod fault;
@@ -26,6 +26,7 @@ mod tell;
 // What stands before the package clause, and what is not built yet.
 mod build_constraints;
 mod built_forms;
+mod built_operators;
 mod built_types;
 mod parts;
 mod role;

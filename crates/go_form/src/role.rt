@@ -9,6 +9,8 @@ pub enum Role {
     Declaration,
     /// a spec of constants
     ConstSpec,
+    /// the copy of a list that a spec of constants omits
+    ConstCopy,
     /// a spec of variables
     VarSpec,
     /// a spec of a type

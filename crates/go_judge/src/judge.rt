@@ -28,6 +28,11 @@ pub trait Forms: Ask {
     fn resolve(&self, id: NodeId) -> Option<ObjId>
         ensures { result ≡ (Self.names self.now).denotes id.0 };
 
+    /// The number of the constant spec around an identifier `iota`, by its node (Go specification, "Iota"), None
+    /// exactly where none stands around it.
+    fn iota_of(&self, id: NodeId) -> Option<usize>
+        ensures { result ≡ (Self.names self.now).iota id.0 };
+
     /// The object of that number, which must be there.
     fn object(&self, d: ObjId) -> &Object
         requires { IsSome ((Self.names self.now).objects d.0) }

@@ -1,11 +1,14 @@
 -- Something is asked of each node of what is built, where its identifiers that are asked for records denote something.
-use Rattle.std.proofs.Common.{◌≡◌, ℕ, ◌<◌, Some, List, [], ◌∷◌, ◌⊎◌, inl, inr, length, Contains, refl, arith}
-use Rattle.go_tree.specs.declared.node_kind.NodeKind.TheVariants.{AddExpr, ArrayType, ArrowExpr, ChanType, EmbeddedPointer, FuncType, IntLit, InterfaceType, MapType, Name, ParenExpr, SelectorExpr, SliceType, StarExpr, StructType}
-use Rattle.go_tree.specs.Tree.{Tree, Trees, branch, id_of, more_trees, no_trees}
+use Rattle.std.proofs.Common.{◌≡◌, ℕ, ◌<◌, Option, Some, None, List, [], ◌∷◌, ◌⊎◌, inl, inr, length, Contains, refl, arith}
+use Rattle.go_tree.specs.declared.node_kind.NodeKind.TheVariants.{ArrayType, ArrowExpr, ChanType, EmbeddedPointer, FuncType, IntLit, InterfaceType, MapType, Name, ParenExpr, RuneLit, SelectorExpr, SliceType, StarExpr, StringLit, StructType}
+use Rattle.go_tree.specs.Tree.{Tree, Trees, branch, id_of, kind_of, more_trees, no_trees}
 use Rattle.go_module.proofs.MemberLemmas.{cons_cases, contains_none}
 use Rattle.go_constructs.specs.declared.meaning.Meaning.{Meaning}
-use Rattle.go_constructs.specs.declared.meaning.Meaning.TheVariants.{AnyType, BasicType, Declared, DefinedType, Other, Predeclared}
+use Rattle.go_constructs.specs.declared.meaning.Meaning.TheVariants.{AnyType, BasicType, Declared, DefinedType, Iota, Other, Predeclared, Truth}
 use Rattle.go_constructs.specs.Name.{name}
+use Rattle.go_constructs.specs.Operators.Nodes.{binary_of, by_operator, unary_of}
+use Rattle.go_constructs.specs.declared.operator.BinaryOp.{BinaryOp}
+use Rattle.go_constructs.specs.declared.operator.UnaryOp.{UnaryOp}
 use Rattle.go_constructs.specs.Selector.{selector}
 use Rattle.go_judge.specs.Judged.{Asks, Construct}
 use Rattle.go_judge.specs.Operands.{leaf, of_all, of_one, of_two}
@@ -14,7 +17,7 @@ use Rattle.go_model.specs.Outcomes.Walk.{construct, many_operands}
 use Rattle.go_judge.specs.Naming.{Naming}
 use Rattle.go_constructs.specs.Meaning.{meaning_by}
 use Rattle.go_model.proofs.FlatLemmas.{only_is}
-use Rattle.go_laws.specs.BuiltTrees.{HasForm, IsBuilt}
+use Rattle.go_laws.specs.BuiltTrees.{HasForm, IsBuilt, IsOperator}
 use Rattle.go_laws.specs.Complete.{asked_in}
 use Rattle.go_laws.proofs.Asked.{IsAsked}
 use Rattle.go_laws.proofs.AskedLemmas.{asked_are_expressions}
@@ -65,6 +68,9 @@ name_serves (Declared d) many denotes = leaf_serves _ many
 name_serves (DefinedType d) many denotes = leaf_serves _ many
 name_serves (BasicType d basic) many denotes = leaf_serves _ many
 name_serves (AnyType d) many denotes = leaf_serves _ many
+name_serves (Truth d truth) many denotes = leaf_serves _ many
+name_serves (Iota d (Some n)) many denotes = leaf_serves _ many
+name_serves (Iota d None) many denotes = leaf_serves _ many
 name_serves Predeclared many denotes = leaf_serves _ many
 name_serves Other many denotes = absurd (denotes refl)
 
@@ -73,8 +79,16 @@ selector_serves (Declared d) many is = leaf_serves _ many
 selector_serves (DefinedType d) many is = leaf_serves _ many
 selector_serves (BasicType d basic) many is = leaf_serves _ many
 selector_serves (AnyType d) many is = leaf_serves _ many
+selector_serves (Truth d truth) many is = leaf_serves _ many
+selector_serves (Iota d (Some n)) many is = leaf_serves _ many
+selector_serves (Iota d None) many is = leaf_serves _ many
 selector_serves Predeclared many is = leaf_serves _ many
 selector_serves Other many is = one_serves _ many is
+
+operator_serves : (op : Option BinaryOp) (other : Option UnaryOp) (many : ℕ) → IsOperator op other many → Serves (by_operator op other) many
+operator_serves (Some op) other many is = two_serves _ many is
+operator_serves None (Some op) many is = one_serves _ many is
+operator_serves None None many is = absurd is
 
 -- EACH NODE
 
@@ -85,10 +99,11 @@ module _ (naming : Naming) where
 
   form_serves : (t : Tree) → HasForm t (many_operands t) → Denotes t → Serves (construct naming t) (many_operands t)
   form_serves (branch id from to IntLit text parts) form denotes = leaf_serves _ _
+  form_serves (branch id from to RuneLit text parts) form denotes = leaf_serves _ _
+  form_serves (branch id from to StringLit text parts) form denotes = leaf_serves _ _
   form_serves (branch id from to Name text parts) form denotes = name_serves (meaning_by naming id) _ (denotes id from to text parts refl)
   form_serves (branch id from to SelectorExpr text (more_trees x (more_trees f no_trees))) form denotes = selector_serves (meaning_by naming (id_of f)) _ refl
   form_serves (branch id from to ParenExpr text parts) form denotes = one_serves _ _ form
-  form_serves (branch id from to AddExpr text parts) form denotes = two_serves _ _ form
   form_serves (branch id from to StarExpr text parts) form denotes = one_serves _ _ form
   form_serves (branch id from to EmbeddedPointer text parts) form denotes = one_serves _ _ form
   form_serves (branch id from to SliceType text parts) form denotes = one_serves _ _ form
@@ -100,7 +115,7 @@ module _ (naming : Naming) where
   form_serves (branch id from to FuncType text (more_trees signature parts)) form denotes = all_serve _ _
   form_serves (branch id from to StructType text decls) form denotes = all_serve _ _
   form_serves (branch id from to InterfaceType text elems) form denotes = all_serve _ _
-  form_serves t form denotes = absurd form
+  form_serves t form denotes = operator_serves (binary_of (kind_of t)) (unary_of (kind_of t)) _ form
 
   pub built_asked : (t : Tree) → IsBuilt t → (s : Tree) → Denotes s → Contains (asked_in naming t) s → IsAsked naming s
   built_asked t built s denotes h =

@@ -36,15 +36,15 @@ abbrev IsBuiltFile : Tree → Type 0
 IsBuiltFile tree = (file : ℕ) (d : Spec) → Contains (specs_in_file file tree) d → HasBuiltParts d
 
 module _ (file first : ℕ) (path bytes : List ℕ) where
-  tree_built : (tree : Tree) (list : List Broken) → list ≡ [] → AreBrokenWith file path bytes tree list → IsBuiltFile tree
-  tree_built tree list e with =
+  tree_built : (tree : Tree) (list : List Broken) → list ≡ [] → IsFileOf bytes first tree → AreBrokenWith file path bytes tree list → IsBuiltFile tree
+  tree_built tree list e is with =
       let none = none_found (broken_path file path ++ broken_forms file with.constraints tree) (subst (λ (bs : List Broken). IsListOf (broken_path file path ++ broken_forms file with.constraints tree) bs) e with.is_list) in
-      form_built file with.constraints tree (right_is_empty (broken_path file path) (broken_forms file with.constraints tree) none)
+      form_built bytes first file with.constraints tree is (right_is_empty (broken_path file path) (broken_forms file with.constraints tree) none)
 
   source_built : (list : List Broken) → list ≡ [] → SourceBreaks file first path bytes list → (tree : Tree) → IsFileOf bytes first tree → IsBuiltFile tree
   source_built list e (too_long lt) tree is = absurd (cc e)
   source_built list e (no_tree fault b le at told) tree is = absurd (cc e)
-  source_built list e (by_form other found le it with) tree is = subst IsBuiltFile (one_file_lem bytes first other tree it is) (tree_built other list e with)
+  source_built list e (by_form other found le it with) tree is = subst IsBuiltFile (one_file_lem bytes first other tree it is) (tree_built other list e it with)
 
 -- the numbers of the next text go on behind the last node
 numbers_on : (first : ℕ) (bytes : List ℕ) (list : List Broken) (mid : ℕ) (tree : Tree) → list ≡ [] → NumbersOn first bytes list mid → IsFileOf bytes first tree → mid ≡ id_of tree + 1

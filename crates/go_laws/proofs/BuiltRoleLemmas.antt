@@ -7,10 +7,10 @@ use Rattle.go_tree.specs.declared.node_kind.NodeKind.{NodeKind}
 use Rattle.go_tree.specs.declared.node_kind.NodeKind.TheVariants as k
 use Rattle.go_tree.specs.Tree.{Tree, Trees, branch, kind_of, list_of, more_trees, no_trees, parts_of}
 use Rattle.go_module.specs.Names.Inner.{inner_parts, is_tag_kind, last_alone}
-use Rattle.go_module.proofs.MemberLemmas.{cons_cases, contains_head, contains_none}
+use Rattle.go_module.proofs.MemberLemmas.{cons_cases, contains_none}
 use Rattle.go_form.specs.declared.role.Role.TheVariants as r
+use Rattle.go_form.specs.BuiltOperators.{operator_parts}
 use Rattle.go_form.specs.BuiltTypes.{literal_parts}
-use Rattle.go_form.specs.Whole.{written_among}
 use Rattle.go_operands.specs.Operands.{held_of, operands_from, operands_of, passes}
 use Rattle.go_operands.proofs.OperandLemmas.{operands-inner}
 use Rattle.go_model.specs.Outcomes.Walk.{many_operands}
@@ -19,7 +19,8 @@ use Rattle.go_laws.specs.BuiltTrees.{HasForm, IsBuilt, IsIdentifier, identifier,
 use Rattle.go_laws.proofs.BuiltPartLemmas.{Formed, IsHanded, IsHolding, built_by, each_of, handed_held, handed_itself, holding_by, operands_within}
 use Rattle.go_laws.proofs.OperandNameLemmas.{inner_part, self_expression}
 use Rattle.go_laws.proofs.PickedLemmas.{picked_contains, picked_last}
-use Rattle.go_laws.proofs.BuiltRoles.{AllStand, AreFieldParts, HasParts, HasPartsAs, IsOneHanded, NoFloats, each_stands}
+use Rattle.go_laws.proofs.BuiltRoles.{AllStand, AreFieldParts, HasParts, HasPartsAs, IsOneHanded, each_stands}
+use Rattle.go_laws.proofs.FloatLemmas.{is_float}
 
 -- OPERANDS OF ONE PART OR TWO
 
@@ -245,19 +246,64 @@ as_interface_elem t h = absurd h
 
 -- EXPRESSIONS
 
-pub as_expression : (t : Tree) → NoFloats t → HasPartsAs r.Expression t → IsBuilt t
-as_expression (branch id from to k.IntLit text no_trees) floats h =
-    built_by _ refl (λ part among. absurd (contains_none part among))
-as_expression (branch id from to k.FloatLit text parts) floats h =
-    let t = branch id from to k.FloatLit text parts in
-    absurd (let never : from ∷ [] ≡ [] = floats t (contains_head t (written_among parts) t refl) in cc)
-as_expression (branch id from to k.Name text no_trees) floats h = name_built id from to text
-as_expression (branch id from to k.SelectorExpr text (more_trees x (more_trees f no_trees))) floats h =
-    selector_built id from to text x f h.0 h.1
-as_expression (branch id from to k.ParenExpr text (more_trees x no_trees)) floats h = built_of_one _ x refl refl refl h
-as_expression (branch id from to k.AddExpr text (more_trees x (more_trees y no_trees))) floats h =
+leaf_built : (t : Tree) → HasForm t (many_operands t) → inner_parts t ≡ [] → IsBuilt t
+leaf_built t form inner = built_by t form (λ part h. absurd (contains_none part (subst (λ (us : List Tree). Contains us part) inner h)))
+
+as_operator : (t : Tree) → HasParts (operator_parts (kind_of t) (parts_of t)) (parts_of t) → IsBuilt t
+as_operator (branch id from to k.LogicalOrExpr text (more_trees x (more_trees y no_trees))) h =
     built_of_two _ x y refl refl refl refl h.0 h.1
-as_expression t floats h = as_literal t h
+as_operator (branch id from to k.LogicalAndExpr text (more_trees x (more_trees y no_trees))) h =
+    built_of_two _ x y refl refl refl refl h.0 h.1
+as_operator (branch id from to k.EqualExpr text (more_trees x (more_trees y no_trees))) h =
+    built_of_two _ x y refl refl refl refl h.0 h.1
+as_operator (branch id from to k.NotEqualExpr text (more_trees x (more_trees y no_trees))) h =
+    built_of_two _ x y refl refl refl refl h.0 h.1
+as_operator (branch id from to k.LessExpr text (more_trees x (more_trees y no_trees))) h =
+    built_of_two _ x y refl refl refl refl h.0 h.1
+as_operator (branch id from to k.LessEqualExpr text (more_trees x (more_trees y no_trees))) h =
+    built_of_two _ x y refl refl refl refl h.0 h.1
+as_operator (branch id from to k.GreaterExpr text (more_trees x (more_trees y no_trees))) h =
+    built_of_two _ x y refl refl refl refl h.0 h.1
+as_operator (branch id from to k.GreaterEqualExpr text (more_trees x (more_trees y no_trees))) h =
+    built_of_two _ x y refl refl refl refl h.0 h.1
+as_operator (branch id from to k.AddExpr text (more_trees x (more_trees y no_trees))) h =
+    built_of_two _ x y refl refl refl refl h.0 h.1
+as_operator (branch id from to k.SubExpr text (more_trees x (more_trees y no_trees))) h =
+    built_of_two _ x y refl refl refl refl h.0 h.1
+as_operator (branch id from to k.OrExpr text (more_trees x (more_trees y no_trees))) h =
+    built_of_two _ x y refl refl refl refl h.0 h.1
+as_operator (branch id from to k.XorExpr text (more_trees x (more_trees y no_trees))) h =
+    built_of_two _ x y refl refl refl refl h.0 h.1
+as_operator (branch id from to k.MulExpr text (more_trees x (more_trees y no_trees))) h =
+    built_of_two _ x y refl refl refl refl h.0 h.1
+as_operator (branch id from to k.QuoExpr text (more_trees x (more_trees y no_trees))) h =
+    built_of_two _ x y refl refl refl refl h.0 h.1
+as_operator (branch id from to k.RemExpr text (more_trees x (more_trees y no_trees))) h =
+    built_of_two _ x y refl refl refl refl h.0 h.1
+as_operator (branch id from to k.ShlExpr text (more_trees x (more_trees y no_trees))) h =
+    built_of_two _ x y refl refl refl refl h.0 h.1
+as_operator (branch id from to k.ShrExpr text (more_trees x (more_trees y no_trees))) h =
+    built_of_two _ x y refl refl refl refl h.0 h.1
+as_operator (branch id from to k.AndExpr text (more_trees x (more_trees y no_trees))) h =
+    built_of_two _ x y refl refl refl refl h.0 h.1
+as_operator (branch id from to k.AndNotExpr text (more_trees x (more_trees y no_trees))) h =
+    built_of_two _ x y refl refl refl refl h.0 h.1
+as_operator (branch id from to k.PlusExpr text (more_trees x no_trees)) h = built_of_one _ x refl refl refl h
+as_operator (branch id from to k.MinusExpr text (more_trees x no_trees)) h = built_of_one _ x refl refl refl h
+as_operator (branch id from to k.NotExpr text (more_trees x no_trees)) h = built_of_one _ x refl refl refl h
+as_operator (branch id from to k.ComplementExpr text (more_trees x no_trees)) h = built_of_one _ x refl refl refl h
+as_operator t h = as_literal t h
+
+pub as_expression : (t : Tree) → is_float (kind_of t) ≡ false → HasPartsAs r.Expression t → IsBuilt t
+as_expression (branch id from to k.IntLit text no_trees) plain h = leaf_built _ refl refl
+as_expression (branch id from to k.FloatLit text parts) plain h = absurd (let never : true ≡ false = plain in cc)
+as_expression (branch id from to k.RuneLit text no_trees) plain h = leaf_built _ refl refl
+as_expression (branch id from to k.StringLit text no_trees) plain h = leaf_built _ refl refl
+as_expression (branch id from to k.Name text no_trees) plain h = leaf_built _ refl refl
+as_expression (branch id from to k.SelectorExpr text (more_trees x (more_trees f no_trees))) plain h =
+    selector_built id from to text x f h.0 h.1
+as_expression (branch id from to k.ParenExpr text (more_trees x no_trees)) plain h = built_of_one _ x refl refl refl h
+as_expression t plain h = as_operator t h
 
 pub as_identifier : (t : Tree) → HasPartsAs r.Identifier t → IsIdentifier t
 as_identifier (branch id from to k.Name text no_trees) h = identifier id from to text

@@ -4,7 +4,7 @@ use Rattle.std.proofs.Common.{◌≡◌, ℕ, false, [], ◌++◌, length, Conta
 use Rattle.go_tree.specs.declared.node_kind.NodeKind.{NodeKind}
 use Rattle.go_tree.specs.declared.node_kind.NodeKind.TheVariants as k
 use Rattle.go_tree.specs.Tree.{Tree, Trees, kind_of, list_of, more_trees, no_trees, parts_of}
-use Rattle.go_module.specs.Names.Declarations.{Spec, const_spec, specs_in, specs_in_file, type_spec, var_spec}
+use Rattle.go_module.specs.Names.Declarations.{Spec, const_spec, specs_in, specs_in_file, type_spec, types_behind, values_behind, var_spec}
 use Rattle.go_module.specs.Names.Inner.{is_tag_kind}
 use Rattle.go_module.specs.declared.object.ObjKind.TheVariants.{Const}
 use Rattle.go_module.proofs.MemberLemmas.{cons_cases, contains_none}
@@ -13,8 +13,6 @@ use Rattle.go_form.specs.declared.parts.Parts.TheVariants.{AnyParts, Each, Names
 use Rattle.go_form.specs.declared.role.Role.{Role}
 use Rattle.go_form.specs.declared.role.Role.TheVariants as r
 use Rattle.go_form.specs.BuiltForms.{parts_as}
-use Rattle.go_form.specs.Families.Declarations.{float_literal_at}
-use Rattle.go_form.specs.Whole.{written}
 use Rattle.go_operands.specs.Operands.{operands_from}
 use Rattle.go_laws.specs.BuiltTrees.{IsBuilt, IsBuiltSpec, IsIdentifier}
 use Rattle.go_laws.proofs.BuiltPartLemmas.{IsHanded, IsHolding}
@@ -29,6 +27,11 @@ pub record AreValues (list : Tree) : Type 0 where
   pub some : IsBuiltSpec Const [] (list_of (parts_of list))
   pub built : (t : Tree) → Contains (list_of (parts_of list)) t → IsBuilt t
 
+-- the copy of the list that a spec of constants omits
+pub record AreCopied (copy : Tree) : Type 0 where
+  pub some : IsBuiltSpec Const (types_behind (list_of (parts_of copy))) (values_behind (list_of (parts_of copy)))
+  pub built : (t : Tree) → Contains (types_behind (list_of (parts_of copy)) ++ values_behind (list_of (parts_of copy))) t → IsBuilt t
+
 -- a spec
 pub record HasBuiltParts (spec : Spec) : Type 0 where
   pub is : IsBuiltSpec spec.kind spec.types spec.values
@@ -39,6 +42,7 @@ abbrev pub Stands : Role → Tree → Type 0
 Stands r.SourceFile t = (file : ℕ) (d : Spec) → Contains (specs_in_file file t) d → HasBuiltParts d
 Stands r.Declaration t = (file : ℕ) (d : Spec) → Contains (specs_in file t) d → HasBuiltParts d
 Stands r.ConstSpec t = (file : ℕ) → HasBuiltParts (const_spec file t)
+Stands r.ConstCopy t = AreCopied t
 Stands r.VarSpec t = (file : ℕ) → HasBuiltParts (var_spec file t)
 Stands r.TypeSpec t = (file : ℕ) (d : Spec) → Contains (type_spec file t) d → HasBuiltParts d
 Stands r.IdentifierList t = Unit {0}
@@ -88,7 +92,3 @@ each_stands role (more_trees x ts) all t h =
     (λ (here : x ≡ t). subst (Stands role) here all.0)
     (λ (there : Contains (list_of ts) t). each_stands role ts all.1 t there)
     (cons_cases x (list_of ts) t h)
-
--- no node that is written is a float literal
-abbrev pub NoFloats : Tree → Type 0
-NoFloats t = (s : Tree) → Contains (written t) s → float_literal_at s ≡ []

@@ -1,8 +1,8 @@
 -- A spec, a declaration and a file is what it stands for, where its parts are what they stand for; and so of all nodes.
-use Rattle.std.proofs.Common.{◌≡◌, ℕ, List, [], ◌∷◌, map, Contains, subst, ⊎_elim}
+use Rattle.std.proofs.Common.{◌≡◌, ℕ, false, List, [], ◌∷◌, map, Contains, subst, ⊎_elim}
 use Rattle.std.specs.List.{flat_map}
 use Rattle.go_tree.specs.declared.node_kind.NodeKind.TheVariants as k
-use Rattle.go_tree.specs.Tree.{Tree, branch, list_of, more_trees, no_trees}
+use Rattle.go_tree.specs.Tree.{Tree, branch, kind_of, list_of, more_trees, no_trees}
 use Rattle.go_module.specs.Names.Declarations.{Spec, const_spec, specs_in, specs_in_file, type_spec, var_spec}
 use Rattle.go_module.proofs.MemberLemmas.{cons_cases, contains_none}
 use Rattle.go_form.specs.declared.role.Role.{Role}
@@ -10,7 +10,8 @@ use Rattle.go_form.specs.declared.role.Role.TheVariants as r
 use Rattle.go_model.proofs.FlatLemmas.{flat_cases, map_cases, only_is}
 use Rattle.go_laws.specs.BuiltTrees.{IsBuilt, IsIdentifier, identifier}
 use Rattle.go_laws.proofs.BuiltRoleLemmas.{as_channel_element, as_expression, as_field, as_identifier, as_interface_elem, as_parameter, as_parameters, as_receive_channel, as_result, as_signature, as_type}
-use Rattle.go_laws.proofs.BuiltRoles.{AreValues, HasBuiltParts, HasPartsAs, NoFloats, Stands, each_stands}
+use Rattle.go_laws.proofs.BuiltRoles.{AreCopied, AreValues, HasBuiltParts, HasPartsAs, Stands, each_stands}
+use Rattle.go_laws.proofs.FloatLemmas.{is_float}
 
 -- SPECS
 
@@ -21,12 +22,18 @@ as_values (branch id from to k.ExprList text (more_trees x parts)) h = record {
 }
 as_values t h = absurd h
 
--- of constants, behind whose names stand values alone, or a type too
+as_const_copy : (t : Tree) → HasPartsAs r.ConstCopy t → AreCopied t
+as_const_copy (branch id from to k.ConstCopy text (more_trees list no_trees)) h = record { some = h.some; built = h.built }
+as_const_copy (branch id from to k.ConstCopy text (more_trees type (more_trees list no_trees))) h = absurd h.0
+as_const_copy t h = absurd h
+
+-- of constants, behind whose names stand values alone, written or copied, or a type too
 untyped_spec : (id from to : ℕ) (text : List ℕ) (names list : Tree)
     → HasPartsAs r.ConstSpec (branch id from to k.ConstSpec text (more_trees names (more_trees list no_trees)))
     → (file : ℕ)
     → HasBuiltParts (const_spec file (branch id from to k.ConstSpec text (more_trees names (more_trees list no_trees))))
 untyped_spec id from to text names (branch i a b k.ExprList name values) h file = record { is = h.1.some; built = h.1.built }
+untyped_spec id from to text names (branch i a b k.ConstCopy name parts) h file = record { is = h.1.some; built = h.1.built }
 untyped_spec id from to text names list h file = absurd h
 
 typed_spec : (id from to : ℕ) (text : List ℕ) (names type list : Tree)
@@ -102,24 +109,25 @@ as_file t h file d among = absurd h
 
 -- ALL
 
-pub stands_by : (role : Role) (t : Tree) → NoFloats t → HasPartsAs role t → Stands role t
-stands_by r.SourceFile t floats h = as_file t h
-stands_by r.Declaration t floats h = as_declaration t h
-stands_by r.ConstSpec t floats h = as_const_spec t h
-stands_by r.VarSpec t floats h = as_var_spec t h
-stands_by r.TypeSpec t floats h = as_type_spec t h
-stands_by r.IdentifierList t floats h = tt
-stands_by r.ExpressionList t floats h = as_values t h
-stands_by r.Identifier t floats h = as_identifier t h
-stands_by r.Expression t floats h = as_expression t floats h
-stands_by r.AnyType t floats h = as_type t h
-stands_by r.ChannelElement t floats h = as_channel_element t h
-stands_by r.ReceiveChannel t floats h = as_receive_channel t h
-stands_by r.Signature t floats h = as_signature t h
-stands_by r.Parameters t floats h = as_parameters t h
-stands_by r.Results t floats h = as_result t h
-stands_by r.ParameterDecl t floats h = as_parameter t h
-stands_by r.FieldDecl t floats h = as_field t h
-stands_by r.Tag t floats h = tt
-stands_by r.InterfaceElem t floats h = as_interface_elem t h
-stands_by r.Unbuilt t floats h = h
+pub stands_by : (role : Role) (t : Tree) → is_float (kind_of t) ≡ false → HasPartsAs role t → Stands role t
+stands_by r.SourceFile t plain h = as_file t h
+stands_by r.Declaration t plain h = as_declaration t h
+stands_by r.ConstSpec t plain h = as_const_spec t h
+stands_by r.ConstCopy t plain h = as_const_copy t h
+stands_by r.VarSpec t plain h = as_var_spec t h
+stands_by r.TypeSpec t plain h = as_type_spec t h
+stands_by r.IdentifierList t plain h = tt
+stands_by r.ExpressionList t plain h = as_values t h
+stands_by r.Identifier t plain h = as_identifier t h
+stands_by r.Expression t plain h = as_expression t plain h
+stands_by r.AnyType t plain h = as_type t h
+stands_by r.ChannelElement t plain h = as_channel_element t h
+stands_by r.ReceiveChannel t plain h = as_receive_channel t h
+stands_by r.Signature t plain h = as_signature t h
+stands_by r.Parameters t plain h = as_parameters t h
+stands_by r.Results t plain h = as_result t h
+stands_by r.ParameterDecl t plain h = as_parameter t h
+stands_by r.FieldDecl t plain h = as_field t h
+stands_by r.Tag t plain h = tt
+stands_by r.InterfaceElem t plain h = as_interface_elem t h
+stands_by r.Unbuilt t plain h = h

@@ -2,15 +2,14 @@
 -- node stands for.
 use Rattle.std.proofs.Common.{◌≡◌, ℕ, Bool, true, false, cond, List, [], ◌∷◌, ◌++◌, Contains, refl, sym, ◌∙◌, subst, ⊎_elim}
 use Rattle.std.specs.List.{flat_map}
-use Rattle.std.proofs.lemmas.List.Elements.{Contains-append_left, Contains-append_right}
-use Rattle.go_tree.specs.declared.node_kind.NodeKind.{NodeKind}
 use Rattle.go_tree.specs.declared.node_kind.NodeKind.TheVariants as k
 use Rattle.go_tree.specs.Tree.{Tree, Trees, branch, end_of, kind_of, list_of, more_trees, no_trees}
+use Rattle.go_text.specs.Files.{IsFileOf}
 use Rattle.go_module.specs.Broken.{broken_at, told}
 use Rattle.go_module.specs.Names.Declarations.{Spec, specs_in_file}
 use Rattle.go_module.specs.Names.Inner.{is_tag_kind}
 use Rattle.go_module.specs.Rules.{unbuilt_form}
-use Rattle.go_module.proofs.MemberLemmas.{cons_cases, contains_none, contains_tail}
+use Rattle.go_module.proofs.MemberLemmas.{cons_cases, contains_none}
 use Rattle.go_form.specs.declared.parts.Parts.{Parts}
 use Rattle.go_form.specs.declared.parts.Parts.TheVariants.{AnyParts, Each, NamesAndType, NoParts, One, OneAndEach, Three, Two, TypeArguments}
 use Rattle.go_form.specs.declared.role.Role.{Role}
@@ -20,36 +19,15 @@ use Rattle.go_form.specs.BuiltForms.{parts_as}
 use Rattle.go_form.specs.Families.Declarations.{float_literal_at}
 use Rattle.go_form.specs.Rules as rule
 use Rattle.go_form.specs.Unbuilt.{ends_field, unbuilt_as, unbuilt_behind_name, unbuilt_each, unbuilt_in, unbuilt_parts}
-use Rattle.go_form.specs.Whole.{broken_forms, written, written_among}
+use Rattle.go_form.specs.Whole.{broken_forms, written}
 use Rattle.go_model.proofs.FlatLemmas.{only_is}
 use Rattle.go_laws.specs.BuiltTrees.{IsBuilt, IsIdentifier}
 use Rattle.go_laws.proofs.BuiltRoleLemmas.{identifier_built}
-use Rattle.go_laws.proofs.BuiltRoles.{AllStand, AreFieldParts, HasBuiltParts, HasParts, NoFloats, Stands}
+use Rattle.go_laws.proofs.BuiltRoles.{AllStand, AreFieldParts, HasBuiltParts, HasParts, Stands}
 use Rattle.go_laws.proofs.BuiltSpecLemmas.{stands_by}
+use Rattle.go_laws.proofs.CopyFreeLemmas.{AreFree, IsFree}
+use Rattle.go_laws.proofs.FloatLemmas.{file_float_free, is_float}
 use Rattle.go_laws.proofs.ListLemmas.{left_is_empty, map_is_empty, none_of_each, right_is_empty}
-
--- FLOAT LITERALS: none is written in a node, so none in its parts
-
-abbrev NoFloatsAmong : Trees → Type 0
-NoFloatsAmong ts = (s : Tree) → Contains (written_among ts) s → float_literal_at s ≡ []
-
-first_floats : (t : Tree) (ts : Trees) → NoFloatsAmong (more_trees t ts) → NoFloats t
-first_floats t ts floats s h = floats s (Contains-append_left (written t) (written_among ts) s h)
-
-other_floats : (t : Tree) (ts : Trees) → NoFloatsAmong (more_trees t ts) → NoFloatsAmong ts
-other_floats t ts floats s h = floats s (Contains-append_right (written t) (written_among ts) s h)
-
--- the copy of a list is no built form
-copy_unbuilt : (role : Role) (from : ℕ) (parts : Trees) → unbuilt_parts (parts_as role k.ConstCopy parts) from parts ≡ [] → ⊥
-copy_unbuilt SourceFile from parts none = let never : from ∷ [] ≡ [] = none in cc
-copy_unbuilt role from parts none = let never : from ∷ [] ≡ [] = none in cc
-
-part_floats : (role : Role) (id from to : ℕ) (kind : NodeKind) (text : List ℕ) (parts : Trees)
-    → unbuilt_parts (parts_as role kind parts) from parts ≡ [] → NoFloats (branch id from to kind text parts)
-    → NoFloatsAmong parts
-part_floats role id from to k.ConstCopy text parts none floats = absurd (copy_unbuilt role from parts none)
-part_floats role id from to kind text parts none floats =
-    λ s h. floats s (contains_tail (branch id from to kind text parts) (written_among parts) s h)
 
 -- FIELDS
 
@@ -78,60 +56,56 @@ field_parts t ts type name others false ends none is_type is_name rest u h plain
     (λ (there : Contains (list_of ts) u). rest (right_is_empty name others none) u there plain)
     (cons_cases t (list_of ts) u h)
 
--- WHERE NO FORM IS UNBUILT
+-- WHERE NO FORM IS UNBUILT, and no node is a floating-point literal
 
 mutual
-  stands : (role : Role) (t : Tree) → unbuilt_as role t ≡ [] → NoFloats t → Stands role t
-  stands role (branch id from to kind text parts) none floats =
-      stands_by role (branch id from to kind text parts) floats
-      (have_parts (parts_as role kind parts) from parts none (part_floats role id from to kind text parts none floats))
+  stands : (role : Role) (t : Tree) → unbuilt_as role t ≡ [] → IsFree is_float t → Stands role t
+  stands role (branch id from to kind text parts) none free =
+      stands_by role (branch id from to kind text parts) free.0 (have_parts (parts_as role kind parts) from parts none free.1)
 
-  have_parts : (are : Parts) (from : ℕ) (parts : Trees) → unbuilt_parts are from parts ≡ [] → NoFloatsAmong parts
+  have_parts : (are : Parts) (from : ℕ) (parts : Trees) → unbuilt_parts are from parts ≡ [] → AreFree is_float parts
       → HasParts are parts
-  have_parts AnyParts from parts none floats = tt
-  have_parts NoParts from no_trees none floats = tt
-  have_parts (One a) from (more_trees x no_trees) none floats = stands a x none (first_floats x no_trees floats)
-  have_parts (Two a b) from (more_trees x (more_trees y no_trees)) none floats = (
-    stands a x (left_is_empty (unbuilt_as a x) (unbuilt_as b y) none) (first_floats x (more_trees y no_trees) floats),
-    stands b y (right_is_empty (unbuilt_as a x) (unbuilt_as b y) none) (first_floats y no_trees (other_floats x (more_trees y no_trees) floats)),
+  have_parts AnyParts from parts none free = tt
+  have_parts NoParts from no_trees none free = tt
+  have_parts (One a) from (more_trees x no_trees) none free = stands a x none free.0
+  have_parts (Two a b) from (more_trees x (more_trees y no_trees)) none free = (
+    stands a x (left_is_empty (unbuilt_as a x) (unbuilt_as b y) none) free.0,
+    stands b y (right_is_empty (unbuilt_as a x) (unbuilt_as b y) none) free.1.0,
   )
-  have_parts (Three a b c) from (more_trees x (more_trees y (more_trees z no_trees))) none floats =
-      let behind = right_is_empty (unbuilt_as a x) (unbuilt_as b y ++ unbuilt_as c z) none in
-      let others = other_floats x (more_trees y (more_trees z no_trees)) floats in (
-        stands a x (left_is_empty (unbuilt_as a x) (unbuilt_as b y ++ unbuilt_as c z) none) (first_floats x (more_trees y (more_trees z no_trees)) floats),
-        stands b y (left_is_empty (unbuilt_as b y) (unbuilt_as c z) behind) (first_floats y (more_trees z no_trees) others),
-        stands c z (right_is_empty (unbuilt_as b y) (unbuilt_as c z) behind) (first_floats z no_trees (other_floats y (more_trees z no_trees) others)),
+  have_parts (Three a b c) from (more_trees x (more_trees y (more_trees z no_trees))) none free =
+      let behind = right_is_empty (unbuilt_as a x) (unbuilt_as b y ++ unbuilt_as c z) none in (
+        stands a x (left_is_empty (unbuilt_as a x) (unbuilt_as b y ++ unbuilt_as c z) none) free.0,
+        stands b y (left_is_empty (unbuilt_as b y) (unbuilt_as c z) behind) free.1.0,
+        stands c z (right_is_empty (unbuilt_as b y) (unbuilt_as c z) behind) free.1.1.0,
       )
-  have_parts (Each a) from no_trees none floats = tt
-  have_parts (Each a) from (more_trees x parts) none floats = (
-    stands a x (left_is_empty (unbuilt_as a x) (unbuilt_each a parts) none) (first_floats x parts floats),
-    all_stand a parts (right_is_empty (unbuilt_as a x) (unbuilt_each a parts) none) (other_floats x parts floats),
+  have_parts (Each a) from no_trees none free = tt
+  have_parts (Each a) from (more_trees x parts) none free = (
+    stands a x (left_is_empty (unbuilt_as a x) (unbuilt_each a parts) none) free.0,
+    all_stand a parts (right_is_empty (unbuilt_as a x) (unbuilt_each a parts) none) free.1,
   )
-  have_parts (OneAndEach a b) from (more_trees x parts) none floats = (
-    stands a x (left_is_empty (unbuilt_as a x) (unbuilt_each b parts) none) (first_floats x parts floats),
-    all_stand b parts (right_is_empty (unbuilt_as a x) (unbuilt_each b parts) none) (other_floats x parts floats),
+  have_parts (OneAndEach a b) from (more_trees x parts) none free = (
+    stands a x (left_is_empty (unbuilt_as a x) (unbuilt_each b parts) none) free.0,
+    all_stand b parts (right_is_empty (unbuilt_as a x) (unbuilt_each b parts) none) free.1,
   )
-  have_parts NamesAndType from (more_trees x parts) none floats = (
-    stands Identifier x (left_is_empty (unbuilt_as Identifier x) (unbuilt_behind_name from parts) none) (first_floats x parts floats),
-    behind_name from parts (right_is_empty (unbuilt_as Identifier x) (unbuilt_behind_name from parts) none) (other_floats x parts floats),
+  have_parts NamesAndType from (more_trees x parts) none free = (
+    stands Identifier x (left_is_empty (unbuilt_as Identifier x) (unbuilt_behind_name from parts) none) free.0,
+    behind_name from parts (right_is_empty (unbuilt_as Identifier x) (unbuilt_behind_name from parts) none) free.1,
   )
-  have_parts TypeArguments from (more_trees x arguments) none floats = absurd (let never : end_of x ∷ [] ≡ [] = none in cc)
-  have_parts other from parts none floats = absurd (let never : from ∷ [] ≡ [] = none in cc)
+  have_parts TypeArguments from (more_trees x arguments) none free = absurd (let never : end_of x ∷ [] ≡ [] = none in cc)
+  have_parts other from parts none free = absurd (let never : from ∷ [] ≡ [] = none in cc)
 
-  all_stand : (role : Role) (ts : Trees) → unbuilt_each role ts ≡ [] → NoFloatsAmong ts → AllStand role ts
-  all_stand role no_trees none floats = tt
-  all_stand role (more_trees x ts) none floats = (
-    stands role x (left_is_empty (unbuilt_as role x) (unbuilt_each role ts) none) (first_floats x ts floats),
-    all_stand role ts (right_is_empty (unbuilt_as role x) (unbuilt_each role ts) none) (other_floats x ts floats),
+  all_stand : (role : Role) (ts : Trees) → unbuilt_each role ts ≡ [] → AreFree is_float ts → AllStand role ts
+  all_stand role no_trees none free = tt
+  all_stand role (more_trees x ts) none free = (
+    stands role x (left_is_empty (unbuilt_as role x) (unbuilt_each role ts) none) free.0,
+    all_stand role ts (right_is_empty (unbuilt_as role x) (unbuilt_each role ts) none) free.1,
   )
 
-  behind_name : (from : ℕ) (ts : Trees) → unbuilt_behind_name from ts ≡ [] → NoFloatsAmong ts → AreFieldParts ts
-  behind_name from no_trees none floats = λ t h plain. absurd (contains_none t h)
-  behind_name from (more_trees x ts) none floats =
+  behind_name : (from : ℕ) (ts : Trees) → unbuilt_behind_name from ts ≡ [] → AreFree is_float ts → AreFieldParts ts
+  behind_name from no_trees none free = λ t h plain. absurd (contains_none t h)
+  behind_name from (more_trees x ts) none free =
       field_parts x ts (unbuilt_as AnyType x) (unbuilt_as Identifier x) (unbuilt_behind_name from ts) (ends_field ts) refl none
-      (λ type. stands AnyType x type (first_floats x ts floats))
-      (λ name. stands Identifier x name (first_floats x ts floats))
-      (λ others. behind_name from ts others (other_floats x ts floats))
+      (λ type. stands AnyType x type free.0) (λ name. stands Identifier x name free.0) (λ others. behind_name from ts others free.1)
 
 -- WHAT BREAKS NO RULE BY ITS FORM
 
@@ -143,11 +117,11 @@ no_float_at file t e =
     map_is_empty (λ offset. broken_at file offset rule.float_literal) (float_literal_at t)
     (left_is_empty (told file rule.float_literal (float_literal_at t)) _ forms)
 
-pub form_built : (number : ℕ) (constraints : List ℕ) (t : Tree) → broken_forms number constraints t ≡ []
-    → (file : ℕ) (d : Spec) → Contains (specs_in_file file t) d → HasBuiltParts d
-form_built number constraints t e =
+pub form_built : (bytes : List ℕ) (first number : ℕ) (constraints : List ℕ) (t : Tree) → IsFileOf bytes first t
+    → broken_forms number constraints t ≡ [] → (file : ℕ) (d : Spec) → Contains (specs_in_file file t) d → HasBuiltParts d
+form_built bytes first number constraints t is e =
     let in_tree = right_is_empty (told number rule.build_constraint constraints) _ e in
     let unbuilt = left_is_empty (told number unbuilt_form (unbuilt_in t)) (flat_map (broken_at_node number) (written t)) in_tree in
     let at_nodes = right_is_empty (told number unbuilt_form (unbuilt_in t)) (flat_map (broken_at_node number) (written t)) in_tree in
     stands SourceFile t (map_is_empty (λ offset. broken_at number offset unbuilt_form) (unbuilt_in t) unbuilt)
-    (λ s h. no_float_at number s (none_of_each (broken_at_node number) (written t) at_nodes s h))
+    (file_float_free bytes first t is (λ s h. no_float_at number s (none_of_each (broken_at_node number) (written t) at_nodes s h)))

@@ -5,7 +5,6 @@ use Rattle.std.specs.Prelude.{◌==◌, ◌&&◌, not, IsSome, length, option_an
 use Rattle.std.specs.Option.{option_map_or}
 use Rattle.std.specs.List.{flat_map, list_all}
 use Rattle.std.proofs.lemmas.List.Elements.{Contains-append_left, Contains-append_right}
-use Rattle.go_base.specs.declared.ids.ObjId.{ObjId}
 use Rattle.go_base.specs.declared.rule.Broken.{Broken as BrokenRule}
 use Rattle.go_base.specs.declared.rule.Rule.{Rule}
 use Rattle.go_tree.specs.Tree.{Tree, start_of}
@@ -19,38 +18,38 @@ use Rattle.go_module.specs.declared.declaration.Built.TheVariants.{Itself}
 use Rattle.go_module.specs.declared.object.ObjKind.{ObjKind}
 use Rattle.go_module.specs.declared.object.ObjKind.TheVariants.{Alias, Const, Defined, Var}
 use Rattle.go_operands.specs.Operands.{expressions_in}
-use Rattle.go_constructs.specs.declared.meaning.Meaning.TheVariants.{Declared}
 use Rattle.go_judge.specs.declared.outcome.Spot.{Spot}
 use Rattle.go_judge.specs.Kinds.{no_type, no_value}
 use Rattle.go_judge.specs.Judged.{Broken, Found, Waits, OutcomeData}
 use Rattle.go_judge.specs.Operands.{is_constant, is_type}
 use Rattle.go_model.specs.Outcomes.Readings.{awaited_in, broken_spots, record_in}
 use Rattle.go_judge.specs.Records.{HeaderData, RecData}
-use Rattle.go_model.specs.Values.Records.{declared_header, record_of, tells_by, told_by}
+use Rattle.go_values.specs.Records.{declared_header, record_of, tells_by, told_by}
 use Rattle.go_judge.specs.Headers.{Headers}
 use Rattle.go_model.specs.Outcomes.Walk.{outcome}
-use Rattle.go_model.specs.Phases.{HasHeaders, IsVerdict, sound}
-use Rattle.go_model.specs.Report.{LineData, NamedData, accepted}
-use Rattle.go_model.specs.Values.ByValue.{broken_contained}
-use Rattle.go_model.specs.Values.Declared.{declared_as}
+use Rattle.go_report.specs.Phases.{HasHeaders, IsVerdict, sound}
+use Rattle.go_report.specs.Report.{LineData, NamedData, accepted}
+use Rattle.go_values.specs.ByValue.{broken_contained}
+use Rattle.go_values.specs.Declared.{declared_as}
 use Rattle.go_judge.specs.Naming.{Naming}
-use Rattle.go_constructs.specs.Meaning.{meaning_by}
-use Rattle.go_model.specs.Values.Naming.{names_in}
-use Rattle.go_model.specs.Values.Rules.{are_unequal, broken_cycles, broken_in, broken_in_files, broken_node, broken_spec, broken_values, cyclic_at, has_record, others_by, others_by_kind, unequal_at, unequal_by_kind, unequal_sides}
-use Rattle.go_model.specs.Values.Waiting.{Chain, Waits as WaitsFor, awaited_by_nodes, more, one}
+use Rattle.go_model.specs.Naming.{names_in}
+use Rattle.go_values.specs.Rules.{are_unequal, broken_cycles, broken_in, broken_in_files, broken_node, broken_spec, broken_values, cyclic_at, has_record, others_by, others_by_kind, unequal_at, unequal_by_kind, unequal_sides}
+use Rattle.go_values.specs.Waiting.{Chain, Waits as WaitsFor, awaited_by_nodes, more, one}
 use Rattle.go_model.proofs.OutcomeExactLemmas.{outcome_exactly}
 use Rattle.go_model.proofs.OutcomeLemmas.{outcome_stays}
+use Rattle.go_same_laws.specs.Named.{AreGood}
 use Rattle.go_laws.specs.Complete.{IsComplete, asked_in, parts_in}
 use Rattle.go_laws.proofs.Asked.{AreAsked}
 use Rattle.go_laws.proofs.Declaring.{AllGiveHeaders, GivesHeaders, constants_by_values}
 use Rattle.go_laws.proofs.AskedLemmas.{IsGood, IsUnbroken, asked_are_expressions, each_good, self_asked}
 use Rattle.go_laws.proofs.DenotedLemmas.{declared_by_number}
-use Rattle.go_laws.proofs.Denoting.{ImportsHaveHeaders}
+use Rattle.go_laws.proofs.Denoting.{MeansGood}
 use Rattle.go_model.proofs.FlatLemmas.{flat_cases, flat_contains, map_cases}
 use Rattle.go_laws.proofs.ListLemmas.{left_is_empty, map_is_empty, none_of_each, not_told, right_is_empty}
-use Rattle.go_laws.proofs.MeantLemmas.{HasDeclaration, meant_known}
+use Rattle.go_laws.proofs.GoodHeaderLemmas.{headers_good}
+use Rattle.go_laws.proofs.MeantLemmas.{HasDeclaration}
 use Rattle.go_laws.proofs.OperandNameLemmas.{self_expression}
-use Rattle.go_laws.proofs.RecordLemmas.{awaited_means, constant_declared, record_whole}
+use Rattle.go_laws.proofs.RecordLemmas.{awaited_good, constant_declared, record_fine}
 use Rattle.go_laws.proofs.WalkLemmas.{no_walk}
 use Rattle.go_laws.proofs.FollowLemmas.{all_numbers, base, declared_names, follows_known, number_in}
 use Rattle.go_laws.proofs.SpecHeaderLemmas.{ByType, IsPair, of_alias, of_definition, of_variable, pair_is, type_declares, type_needed, type_tells, type_told}
@@ -67,7 +66,8 @@ module _ (before : Headers) (naming : Naming) (specs : List Spec) (give : AllGiv
     (has : HasHeaders before naming (declarations_in specs) headers cyclic)
     (no_cycles : broken_cycles cyclic (declarations_in specs) ≡ [])
     (no_broken : flat_map (broken_spec naming headers) specs ≡ [])
-    (named : (id : ℕ) (object : ObjId) → meaning_by naming id ≡ Declared object → HasDeclaration (declarations_in specs) object ⊎ IsSome (before object.0))
+    (good : ℕ → Type 0) (cause : (n : ℕ) → good n → HasDeclaration (declarations_in specs) n ⊎ IsSome (before n))
+    (means : MeansGood naming good) (known : AreGood good headers)
     (asked : AreAsked naming (flat_map (λ spec. spec.types ++ spec.values) specs)) where
   abbrev all : List Declaration
   all = declarations_in specs
@@ -115,8 +115,8 @@ module _ (before : Headers) (naming : Naming) (specs : List Spec) (give : AllGiv
       → (t : Tree) → Contains spec.types t → (r : RecData) → found t ≡ Found r → is_type r ≡ true
   type_type spec is kind = needed_says no_type is_type spec spec.types (sym kind ∙ left_is_empty (broken_others spec) (broken_parts spec) (spec_sound spec is))
 
-  good : (spec : Spec) → Contains specs spec → (t : Tree) → Contains (parts spec) t → (s : Tree) → Contains (asked_in naming t) s → IsGood naming headers (found s)
-  good spec is t among s h =
+  unbroken_good : (spec : Spec) → Contains specs spec → (t : Tree) → Contains (parts spec) t → (s : Tree) → Contains (asked_in naming t) s → IsGood naming headers (found s)
+  unbroken_good spec is t among s h =
       each_good naming headers t (λ r there. (asked t (flat_contains parts specs spec t is among) r there, unbroken spec is t among r (asked_are_expressions naming t r there))) s h
 
   -- WHAT HAS NO HEADER
@@ -126,20 +126,19 @@ module _ (before : Headers) (naming : Naming) (specs : List Spec) (give : AllGiv
     pub declaration : Declaration
     pub declared : declared_as all n ≡ Some declaration
 
-  own : (object : ObjId) → HasDeclaration all object ⊎ IsSome (before object.0) → headers object.0 ≡ None → HasDeclaration all object
-  own object (inl declared) missing = declared
-  own object (inr some) missing = absurd (none_before (before object.0) refl some)
+  own : (n : ℕ) → HasDeclaration all n ⊎ IsSome (before n) → headers n ≡ None → HasDeclaration all n
+  own n (inl declared) missing = declared
+  own n (inr some) missing = absurd (none_before (before n) refl some)
     where
-      none_before : (o : Option HeaderData) → before object.0 ≡ o → IsSome o → ⊥
-      none_before None e known = let never : false ≡ true = known in cc
-      none_before (Some h) e known = let never : Some h ≡ None = sym (base before naming all headers cyclic has object.0 h e) ∙ missing in cc
+      none_before : (o : Option HeaderData) → before n ≡ o → IsSome o → ⊥
+      none_before None e is = let never : false ≡ true = is in cc
+      none_before (Some h) e is = let never : Some h ≡ None = sym (base before naming all headers cyclic has n h e) ∙ missing in cc
 
   waits_lack : (t : Tree) (n : ℕ) → found t ≡ Waits n → Lacking n
   waits_lack t n e =
       let missing = (outcome_stays naming headers headers (λ _ _ q. q) t).lacks n e in
-      let meant = awaited_means naming headers t n e in
-      let is = own meant.object (named meant.id meant.object meant.means) (ap headers meant.number ∙ missing) in
-      record { missing = missing; declaration = is.0; declared = ap (declared_as all) (sym meant.number) ∙ is.1 }
+      let is = own n (cause n (awaited_good naming good means headers known t n e)) missing in
+      record { missing = missing; declaration = is.0; declared = is.1 }
 
   -- WAITS
 
@@ -203,9 +202,9 @@ module _ (before : Headers) (naming : Naming) (specs : List Spec) (give : AllGiv
       paired : IsPair spec spec.values l.declaration → Next n
       paired p =
           told_or_waits p.value (rests (p.value ∷ []) p.values_are p.value (contains_head p.value [] p.value refl))
-          (good spec is p.value (value_part p.value p.among) p.value (self_asked naming p.value))
+          (unbroken_good spec is p.value (value_part p.value p.among) p.value (self_asked naming p.value))
           (λ i. tells_by (constant i) (p.built i) l.declaration.types (p.values_are i))
-          (λ r recorded. told r (constant_declared r (record_whole naming headers p.value r recorded) (value_constant spec is kind p.value p.among r recorded)))
+          (λ r recorded. told r (constant_declared r (record_fine naming good means headers known p.value r recorded).1 (value_constant spec is kind p.value p.among r recorded)))
         where
           constant : own_kind ≡ Const
           constant = p.kind ∙ kind
@@ -215,7 +214,7 @@ module _ (before : Headers) (naming : Naming) (specs : List Spec) (give : AllGiv
 
       listed : (length spec.names == length spec.values) ≡ false → l.declaration.values ≡ spec.values → Next n
       listed unequal values =
-          by_records (all_or_wait spec.values (λ t among. good spec is t (value_part t among) t (self_asked naming t)) (λ t among. value_constant spec is kind t among))
+          by_records (all_or_wait spec.values (λ t among. unbroken_good spec is t (value_part t among) t (self_asked naming t)) (λ t among. value_constant spec is kind t among))
         where
           by_records : (list_all (has_record found is_constant) spec.values ≡ true) ⊎ AWait spec.values → Next n
           by_records (inl recorded) =
@@ -246,7 +245,7 @@ module _ (before : Headers) (naming : Naming) (specs : List Spec) (give : AllGiv
         let rests : Contains l.declaration.types t = subst (λ (us : List Tree). Contains us t) (sym own_types) (contains_head t ts t refl) in
         let others = ap (λ k. others_by_kind found k spec spec.types spec.values) same ∙ type_needed found by_type spec spec.types spec.values in
         told_or_waits t (Contains-append_left l.declaration.types l.declaration.values t rests)
-        (good spec is t (Contains-append_left spec.types spec.values t here) t (self_asked naming t))
+        (unbroken_good spec is t (Contains-append_left spec.types spec.values t here) t (self_asked naming t))
         ((λ i. tells_by (own i) (built i) (own_types i) l.declaration.values) ∙ type_tells by_type t ts l.declaration.values)
         (λ r recorded. (let told = type_told by_type r (type_type spec is others t here r recorded) in (told.0, ap (λ k. told_by k r) own ∙ told.1)))
 
@@ -295,26 +294,27 @@ module _ (before : Headers) (naming : Naming) (specs : List Spec) (give : AllGiv
   pub each_recorded : (t : Tree) → Contains (flat_map (λ spec. spec.types ++ spec.values) specs) t → (s : Tree) → Contains (asked_in naming t) s → IsSome (record_of naming headers s)
   each_recorded t among s h =
       let from = flat_cases parts specs t among in
-      by_outcome (good from.0 from.1 t from.2 s h)
+      by_outcome (unbroken_good from.0 from.1 t from.2 s h)
     where
       by_outcome : IsGood naming headers (found s) → IsSome (record_of naming headers s)
       by_outcome (inl is) = subst (λ (x : OutcomeData RecData). IsSome (record_in x)) (sym is.1) refl
       by_outcome (inr waits) = absurd (none_lacks waits.0 (waits_lack s waits.0 waits.1))
 
--- an accepted package whose specs give headers, and of which something is asked at each node that is asked for a record,
--- is complete
+-- an accepted package whose specs give headers, and of which something is asked at each node that is asked for a record, is
+-- complete, where all that its types can name has a header or is a declaration of the package
 pub complete_where_asked : (m : ModuleData) (k : ℕ) (p : PackageData) (before after : Headers) (lines : List LineData) (names : List NamedData)
-    → IsVerdict m k p before (accepted lines names) after → AllGiveHeaders (specs_of p) → ImportsHaveHeaders m p before → AreAsked (names_in m k p) (parts_in p)
-    → IsComplete (names_in m k p) after p
-complete_where_asked m k p before after lines names (sound headers _ breaks _) give imports asked =
+    → IsVerdict m k p before (accepted lines names) after → AllGiveHeaders (specs_of p)
+    → (good : ℕ → Type 0) → ((n : ℕ) → good n → HasDeclaration (declarations_of p) n ⊎ IsSome (before n)) → MeansGood (names_in m k p) good → AreGood good before
+    → AreAsked (names_in m k p) (parts_in p) → IsComplete (names_in m k p) after p
+complete_where_asked m k p before after lines names (sound headers _ breaks _) give good cause means known asked =
     let naming = names_in m k p in
     let values = broken_values naming headers breaks.cyclic p in
     let rest = broken_contained breaks.contained p ++ breaks.obliged in
     let none = map_is_empty (with_number p.files) (broken_in_files naming headers breaks.cyclic p) (left_is_empty values rest (none_found (values ++ rest) breaks.is_list)) in
     let no_cycles = left_is_empty (broken_cycles breaks.cyclic (declarations_of p)) (flat_map (broken_spec naming headers) (specs_of p)) none in
     let no_broken = right_is_empty (broken_cycles breaks.cyclic (declarations_of p)) (flat_map (broken_spec naming headers) (specs_of p)) none in
-    let named = meant_known m k p before imports in
+    let all_known = headers_good naming good means before known (declarations_of p) headers breaks.cyclic breaks.has_headers in
     record {
-      declared = each_declared before naming (specs_of p) give headers breaks.cyclic breaks.has_headers no_cycles no_broken named asked;
-      recorded = each_recorded before naming (specs_of p) give headers breaks.cyclic breaks.has_headers no_cycles no_broken named asked;
+      declared = each_declared before naming (specs_of p) give headers breaks.cyclic breaks.has_headers no_cycles no_broken good cause means all_known asked;
+      recorded = each_recorded before naming (specs_of p) give headers breaks.cyclic breaks.has_headers no_cycles no_broken good cause means all_known asked;
     }

@@ -20,7 +20,7 @@ use Rattle.go_module.specs.Names.Universe.{Predeclared, predeclared, universe, u
 use Rattle.go_module.specs.Scopes.{same_object}
 use Rattle.go_module.proofs.MemberLemmas.{cons_cases, contains_head, contains_none}
 use Rattle.go_module.proofs.TableLemmas.{object_declared}
-use Rattle.go_model.specs.Values.Declared.{declared_as}
+use Rattle.go_values.specs.Declared.{declared_as}
 use Rattle.go_laws.specs.NodeNumbers.{nodes_in_files, numbers_in_files}
 use Rattle.go_model.proofs.FlatLemmas.{flat_cases, map_cases, map_contains, only_is}
 use Rattle.go_laws.proofs.ListLemmas.{found_from}

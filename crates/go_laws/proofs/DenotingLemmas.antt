@@ -38,7 +38,7 @@ use Rattle.go_module.proofs.MemberLemmas.{contains_head}
 use Rattle.go_constructs.specs.declared.meaning.Meaning.TheVariants.{Other}
 use Rattle.go_judge.specs.Headers.{is_predeclared}
 use Rattle.go_constructs.specs.Meaning.{denoted_meaning, kind_meaning, meaning_by, predeclared_meaning}
-use Rattle.go_model.specs.Values.Naming.{names_in as package_names, objects_table}
+use Rattle.go_model.specs.Naming.{names_in as package_names, objects_table}
 use Rattle.go_laws.specs.BuiltTrees.{IsBuilt}
 use Rattle.go_laws.specs.Complete.{asked_in, parts_in}
 use Rattle.go_laws.specs.NodeNumbers.{NodeNumbersAscend, numbers_in_files}
@@ -68,10 +68,10 @@ none_found None e = refl
 none_found (Some x) e = absurd (let never : true ≡ false = e in cc)
 
 -- what an object means is not nothing where it is a universe name, or the table has one of that number that means something
-never_other : (a : Bool) (o : Option Object) (d : ObjId) → (a ≡ true) ⊎ ((x : Object) × (o ≡ Some x) × IsMeaning x.kind) → (if a then predeclared_meaning d else option_map_or (λ (x : Object). kind_meaning d x.kind) o Other) ≡ Other → ⊥
-never_other true o d fine e = let never : false ≡ true = ap is_universal (sym e) ∙ predeclared_universal d in cc
-never_other false o d (inl fine) e = let never : false ≡ true = fine in cc
-never_other false o d (inr found) e =
+never_other : (a : Bool) (o : Option Object) (iota : Option ℕ) (d : ObjId) → (a ≡ true) ⊎ ((x : Object) × (o ≡ Some x) × IsMeaning x.kind) → (if a then predeclared_meaning iota d else option_map_or (λ (x : Object). kind_meaning d x.kind) o Other) ≡ Other → ⊥
+never_other true o iota d fine e = let never : false ≡ true = ap is_universal (sym e) ∙ predeclared_universal iota d in cc
+never_other false o iota d (inl fine) e = let never : false ≡ true = fine in cc
+never_other false o iota d (inr found) e =
     found.2 d (sym (ap (λ (x : Option Object). option_map_or (λ (y : Object). kind_meaning d y.kind) x Other) found.1) ∙ e)
 
 module _ (m : ModuleData) (k : ℕ) (p : PackageData)
@@ -92,8 +92,8 @@ module _ (m : ModuleData) (k : ℕ) (p : PackageData)
 
   use_fine : (id : NodeId) (d : ObjId) → Contains (uses_of (known_in m) k p) (id, d) → IsFine d → meaning_by (package_names m k p) id.0 ≡ Other → ⊥
   use_fine id d used fine e =
-      never_other (is_predeclared d) (lookup (same_object d) (objects_table m k p)) d (by_cases fine)
-      (sym (ap (denoted_meaning (package_names m k p).objects) (use_found m k p (up.ascend k p here) id d used)) ∙ e)
+      never_other (is_predeclared d) (lookup (same_object d) (objects_table m k p)) ((package_names m k p).iota id.0) d (by_cases fine)
+      (sym (ap (denoted_meaning (package_names m k p).objects ((package_names m k p).iota id.0)) (use_found m k p (up.ascend k p here) id d used)) ∙ e)
     where
       by_cases : IsFine d → (is_predeclared d ≡ true) ⊎ ((x : Object) × (lookup (same_object d) (objects_table m k p) ≡ Some x) × IsMeaning x.kind)
       by_cases (inl predeclared) = inl predeclared

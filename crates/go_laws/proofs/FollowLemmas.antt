@@ -5,13 +5,13 @@ use Rattle.go_module.proofs.MemberLemmas.{cons_cases, contains_head, contains_no
 use Rattle.go_module.specs.Names.Declarations.{Declaration, number_of}
 use Rattle.go_judge.specs.Records.{HeaderData}
 use Rattle.go_judge.specs.Headers.{Headers, headers_of}
-use Rattle.go_model.specs.Phases.{HasHeaders}
-use Rattle.go_model.specs.Values.Declared.{declared_as}
-use Rattle.go_model.specs.Values.Headers.{Follows, Justified, Known}
+use Rattle.go_report.specs.Phases.{HasHeaders}
+use Rattle.go_values.specs.Declared.{declared_as}
+use Rattle.go_values.specs.Headers.{Follows, Justified, Known}
 use Rattle.go_judge.specs.Naming.{Naming}
 use Rattle.go_judge.specs.Quests.{IsPart}
-use Rattle.go_model.specs.Values.Records.{header_over}
-use Rattle.go_model.proofs.HeaderLemmas.{both_justified, closed_under, header_over-part, headers_of-here, kept, later_part, stays}
+use Rattle.go_values.specs.Records.{header_over}
+use Rattle.go_values.proofs.HeaderLemmas.{both_justified, closed_under, header_over-part, headers_of-here, kept, later_part, stays}
 use Rattle.go_model.proofs.FlatLemmas.{map_contains}
 
 -- what a number names is a declaration with that number

@@ -26,7 +26,7 @@ use Rattle.go_module.specs.Names.Universe.{universe}
 use Rattle.go_module.specs.Scopes.{same_object}
 use Rattle.go_module.proofs.MemberLemmas.{cons_cases, contains_head, contains_none, contains_tail}
 use Rattle.go_module.proofs.TableLemmas.{found_in, object_declared, present_in}
-use Rattle.go_model.specs.Values.Naming.{objects_table}
+use Rattle.go_model.specs.Naming.{objects_table}
 use Rattle.go_model.proofs.FlatLemmas.{filter_within, find_within, flat_cases, map_cases, map_contains, only_is}
 use Rattle.go_model.proofs.ThereLemmas.{object_self}
 use Rattle.go_laws.specs.NodeNumbers.{NodeNumbersAscend, numbers_in_files}

@@ -4,7 +4,11 @@ pub mod Declaring
 pub mod ListLemmas
 pub mod AskedLemmas
 pub mod PlainLemmas
+pub mod PlainTypeLemmas
+pub mod PlainOperatorLemmas
+pub mod PlainConstructLemmas
 pub mod RecordLemmas
+pub mod GoodHeaderLemmas
 pub mod WalkLemmas
 pub mod FollowLemmas
 pub mod SpecHeaderLemmas
@@ -24,9 +28,12 @@ pub mod MeantLemmas
 pub mod DenotingLemmas
 pub mod BuiltLemmas
 pub mod BuiltPartLemmas
+pub mod CopyFreeLemmas
+pub mod FloatLemmas
 pub mod BuiltRoles
 pub mod BuiltRoleLemmas
 pub mod BuiltSpecLemmas
+pub mod KnownLemmas
 pub mod ReachedLemmas
 pub mod BuiltTreeLemmas
 pub mod BuiltModuleLemmas

@@ -1,5 +1,5 @@
 -- An identifier that is asked for a record occurs: by itself, or before a `.` behind which no name of a package stands.
-use Rattle.std.proofs.Common.{◌≡◌, ℕ, true, false, Option, Some, List, [], ◌∷◌, ◌⊎◌, inl, inr, Contains, refl, sym, ap, ◌∙◌, subst}
+use Rattle.std.proofs.Common.{◌≡◌, ℕ, true, false, Option, Some, None, List, [], ◌∷◌, ◌⊎◌, inl, inr, Contains, refl, sym, ap, ◌∙◌, subst}
 use Rattle.std.specs.Prelude.{slice_get}
 use Rattle.std.proofs.lemmas.Option.{same_Some}
 use Rattle.go_tree.specs.declared.node_kind.NodeKind.TheVariants.{Name, SelectorExpr}
@@ -10,7 +10,7 @@ use Rattle.go_module.proofs.MemberLemmas.{contains_head, contains_none}
 use Rattle.go_operands.specs.Operands.{operands_of}
 use Rattle.go_operands.proofs.OperandLemmas.{by_operands}
 use Rattle.go_constructs.specs.declared.meaning.Meaning.{Meaning}
-use Rattle.go_constructs.specs.declared.meaning.Meaning.TheVariants.{AnyType, BasicType, Declared, DefinedType, Other, Predeclared}
+use Rattle.go_constructs.specs.declared.meaning.Meaning.TheVariants.{AnyType, BasicType, Declared, DefinedType, Iota, Other, Predeclared, Truth}
 use Rattle.go_constructs.specs.Name.{name}
 use Rattle.go_constructs.specs.Selector.{selector}
 use Rattle.go_model.specs.Outcomes.Walk.{many_operands}
@@ -30,6 +30,9 @@ no_operand (Declared d) n h = contains_none n h
 no_operand (DefinedType d) n h = contains_none n h
 no_operand (BasicType d basic) n h = contains_none n h
 no_operand (AnyType d) n h = contains_none n h
+no_operand (Truth d truth) n h = contains_none n h
+no_operand (Iota d (Some number)) n h = contains_none n h
+no_operand (Iota d None) n h = contains_none n h
 no_operand Predeclared n h = contains_none n h
 no_operand Other n h = contains_none n h
 
@@ -39,6 +42,9 @@ before_dot (Declared d) n h = absurd (contains_none n h)
 before_dot (DefinedType d) n h = absurd (contains_none n h)
 before_dot (BasicType d basic) n h = absurd (contains_none n h)
 before_dot (AnyType d) n h = absurd (contains_none n h)
+before_dot (Truth d truth) n h = absurd (contains_none n h)
+before_dot (Iota d (Some number)) n h = absurd (contains_none n h)
+before_dot (Iota d None) n h = absurd (contains_none n h)
 before_dot Predeclared n h = absurd (contains_none n h)
 before_dot Other n h = (refl, only_is 0 n h)
 

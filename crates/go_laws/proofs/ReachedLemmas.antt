@@ -1,25 +1,21 @@
 -- What is known in the states that the check of a module goes through; so each package that it accepts is complete, and
 -- it comes so to each that its report calls accepted.
-use Rattle.std.proofs.Common.{◌≡◌, ℕ, zero, suc, ◌+◌, Bool, true, false, Option, Some, None, List, [], ◌∷◌, ◌++◌, ◌⊎◌, inl, inr, length, Contains, refl, sym, ap, ◌∙◌, subst, arith}
-use Rattle.std.specs.Prelude.{IsSome, is_some, slice_get}
-use Rattle.std.proofs.lemmas.List.Elements.{All-contains}
-use Rattle.std.proofs.lemmas.List.Sums.{AllPass-from_list_all}
-use Rattle.std.proofs.lemmas.Option.{same_Some}
+use Rattle.std.proofs.Common.{◌≡◌, ℕ, zero, suc, ◌+◌, Bool, true, false, Some, None, List, [], ◌∷◌, ◌++◌, refl, ap, ◌∙◌, subst, arith}
+use Rattle.std.specs.Prelude.{slice_get}
+use Rattle.std.proofs.lemmas.Option.{none-some, same_Some}
 use Rattle.go_base.specs.declared.rule.Broken.{Broken}
-use Rattle.go_graph.specs.Graph.{is_marked}
 use Rattle.go_module.specs.Modules.Module.{ModuleData, PackageData}
 use Rattle.go_module.specs.Modules.ModuleLaws.{ImportsStandBefore}
-use Rattle.go_module.specs.Names.Declarations.{Declaration, declarations_of, number_of}
+use Rattle.go_module.specs.Names.Declarations.{declarations_of}
 use Rattle.go_module.specs.Names.Imports.{known_in}
 use Rattle.go_module.specs.Names.Rules.BrokenNames.{broken_names}
 use Rattle.go_mod.specs.Folders.{Folder}
 use Rattle.go_load.specs.Loading.{IsModule}
 use Rattle.go_load.proofs.ModuleLawLemmas.{stand_before}
-use Rattle.go_judge.specs.Records.{HeaderData}
 use Rattle.go_judge.specs.Headers.{Headers}
-use Rattle.go_model.specs.Phases.{AreReports, BreaksValues, IsVerdict, ReportOf, all_told, by_names, by_shapes, by_values, checks as checks_report, imports_accepted, is_accepted, package_report, skips as skips_report, sound}
-use Rattle.go_model.specs.Report.{LineData, NamedData, PackageReportData, ReportData, VerdictData, accepted, refused, skipped}
-use Rattle.go_model.specs.Values.Naming.{names_in}
+use Rattle.go_report.specs.Phases.{AreReports, BreaksValues, IsVerdict, ReportOf, all_told, by_names, by_shapes, by_values, checks as checks_report, imports_accepted, is_accepted, package_report, skips as skips_report, sound}
+use Rattle.go_report.specs.Report.{LineData, NamedData, PackageReportData, ReportData, VerdictData, accepted, refused, skipped}
+use Rattle.go_model.specs.Naming.{names_in}
 use Rattle.go_judge.specs.Quests.{IsPart}
 use Rattle.go_laws.specs.BuiltTrees.{PartsAreBuilt}
 use Rattle.go_laws.specs.Complete.{IsAcceptedAt, IsComplete, IsReached, checks, first, parts_in, skips}
@@ -29,75 +25,13 @@ use Rattle.go_laws.proofs.BuiltLemmas.{built_asked}
 use Rattle.go_laws.proofs.BuiltModuleLemmas.{parts_are_built, specs_give_headers}
 use Rattle.go_laws.proofs.CompleteLemmas.{complete_where_asked}
 use Rattle.go_laws.proofs.Declaring.{DeclareHeaders}
-use Rattle.go_laws.proofs.Denoting.{ImportsHaveHeaders}
 use Rattle.go_laws.proofs.DenotingLemmas.{names_denote}
+use Rattle.go_laws.proofs.GoodHeaderLemmas.{headers_good}
+use Rattle.go_laws.proofs.KnownLemmas.{IsKept, IsKnown, IsOwn, imports_kept, known_more, new_headers, not_accepted, own_cause, own_good, same_headers}
+use Rattle.go_laws.proofs.MeantLemmas.{meant_good}
 use Rattle.go_laws.proofs.NodeNumberLemmas.{node_numbers_ascend}
 
--- MARKS
-
--- one more mark
-marked_more : (marks : List Bool) (mark : Bool) (i : ℕ) → is_marked (marks ++ mark ∷ []) i ≡ true → (is_marked marks i ≡ true) ⊎ ((i ≡ length marks) × (mark ≡ true))
-marked_more [] mark zero is = inr (refl, is)
-marked_more [] mark (suc i) is = absurd (let never : false ≡ true = is in cc)
-marked_more (m ∷ marks) mark zero is = inl is
-marked_more (m ∷ marks) mark (suc i) is = by_cases (marked_more marks mark i is)
-  where
-    by_cases : (is_marked marks i ≡ true) ⊎ ((i ≡ length marks) × (mark ≡ true)) → (is_marked marks i ≡ true) ⊎ ((suc i ≡ suc (length marks)) × (mark ≡ true))
-    by_cases (inl there) = inl there
-    by_cases (inr here) = inr (ap suc here.0, here.1)
-
-more_marks : (marks : List Bool) (mark : Bool) → length (marks ++ mark ∷ []) ≡ length marks + 1
-more_marks [] mark = refl
-more_marks (m ∷ marks) mark = let rest = more_marks marks mark in omega (arith, rest)
-
-some_part : (before after : Headers) (d : ℕ) → IsPart before after → IsSome (before d) → IsSome (after d)
-some_part before after d part some = by_header (before d) refl some
-  where
-    by_header : (o : Option HeaderData) → before d ≡ o → IsSome o → IsSome (after d)
-    by_header None e is = absurd (let never : false ≡ true = is in cc)
-    by_header (Some h) e is = ap is_some (part d h e)
-
--- STATES: as many marks as packages before the place; a header of each declaration of an accepted package
-
-abbrev AreDeclared : PackageData → Headers → Type 0
-AreDeclared p headers = (d : Declaration) → Contains (declarations_of p) d → IsSome (headers (number_of d).0)
-
 module _ (m : ModuleData) where
-  record IsKnown (k : ℕ) (marks : List Bool) (before : Headers) : Type 0 where
-    pub many : length marks ≡ k
-    pub declared : (i : ℕ) (q : PackageData) → is_marked marks i ≡ true → slice_get m.packages i ≡ Some q → AreDeclared q before
-
-  -- behind a package that is not accepted there may be more headers, and those of its declarations are not owed
-  not_accepted : (k : ℕ) (marks : List Bool) (before after : Headers) → IsKnown k marks before → IsPart before after → IsKnown (k + 1) (marks ++ false ∷ []) after
-  not_accepted k marks before after is part = record {
-    many = more_marks marks false ∙ ap (λ n. n + 1) is.many;
-    declared = λ i q marked at. by_cases i q at (marked_more marks false i marked);
-  }
-    where
-      by_cases : (i : ℕ) (q : PackageData) → slice_get m.packages i ≡ Some q → (is_marked marks i ≡ true) ⊎ ((i ≡ length marks) × (false ≡ true)) → AreDeclared q after
-      by_cases i q at (inl marked) = λ d among. some_part before after (number_of d).0 part (is.declared i q marked at d among)
-      by_cases i q at (inr never) = absurd (let not : false ≡ true = never.1 in cc)
-
-  same_headers : (k : ℕ) (marks : List Bool) (before : Headers) → IsKnown k marks before → IsKnown (k + 1) (marks ++ false ∷ []) before
-  same_headers k marks before is = not_accepted k marks before before is (λ d h e. e)
-
-  -- behind an accepted one those of its declarations are
-  known_more : (k : ℕ) (marks : List Bool) (p : PackageData) (before after : Headers) → IsKnown k marks before → slice_get m.packages k ≡ Some p
-      → IsPart before after → AreDeclared p after → IsKnown (k + 1) (marks ++ true ∷ []) after
-  known_more k marks p before after is here part declared = record {
-    many = more_marks marks true ∙ ap (λ n. n + 1) is.many;
-    declared = λ i q marked at. by_cases i q at (marked_more marks true i marked);
-  }
-    where
-      by_cases : (i : ℕ) (q : PackageData) → slice_get m.packages i ≡ Some q → (is_marked marks i ≡ true) ⊎ ((i ≡ length marks) × (true ≡ true)) → AreDeclared q after
-      by_cases i q at (inl marked) = λ d among. some_part before after (number_of d).0 part (is.declared i q marked at d among)
-      by_cases i q at (inr last) =
-          let same : p ≡ q = same_Some p q (sym here ∙ ap (slice_get m.packages) (sym (last.0 ∙ is.many)) ∙ at) in
-          subst (λ (x : PackageData). AreDeclared x after) same declared
-
-  imports_known : (k : ℕ) (marks : List Bool) (p : PackageData) (before : Headers) → IsKnown k marks before → imports_accepted marks p ≡ true → ImportsHaveHeaders m p before
-  imports_known k marks p before is imports i q among at = is.declared i q (All-contains (λ j. is_marked marks j ≡ true) p.imports i (AllPass-from_list_all (is_marked marks) p.imports imports) among) at
-
   module _ (ascend : NodeNumbersAscend m) (stand : ImportsStandBefore m) (give : DeclareHeaders m) (built : PartsAreBuilt m) where
     all_asked : (k : ℕ) (p : PackageData) → slice_get m.packages k ≡ Some p → broken_names (known_in m) k p ≡ [] → AreAsked (names_in m k p) (parts_in p)
     all_asked k p at names t among s asked =
@@ -107,32 +41,39 @@ module _ (m : ModuleData) where
 
     -- an accepted package is complete
     complete_at : (k : ℕ) (marks : List Bool) (p : PackageData) (before after : Headers) (lines : List LineData) (named : List NamedData)
-        → IsKnown k marks before → slice_get m.packages k ≡ Some p → imports_accepted marks p ≡ true → IsVerdict m k p before (accepted lines named) after
+        → IsKnown m k marks before → slice_get m.packages k ≡ Some p → imports_accepted marks p ≡ true → IsVerdict m k p before (accepted lines named) after
         → broken_names (known_in m) k p ≡ [] → IsComplete (names_in m k p) after p
     complete_at k marks p before after lines named is at imports verdict names =
-        complete_where_asked m k p before after lines named verdict (give k p at) (imports_known k marks p before is imports) (all_asked k p at names)
+        complete_where_asked m k p before after lines named verdict (give k p at)
+        (IsOwn m marks p) (own_cause m k marks p before is) (meant_good m k p (IsKept m marks) (imports_kept m marks p imports)) (own_good m ascend k marks p before is at)
+        (all_asked k p at names)
 
     -- the headers behind a package whose names are sound
     part_of : (k : ℕ) (p : PackageData) (before headers : Headers) (list : List Broken) → BreaksValues m k p before headers list → IsPart before headers
     part_of k p before headers list breaks d h e = (breaks.has_headers.known d h).1 (record { list = []; justified = tt; has = e })
 
     known_checked : (k : ℕ) (marks : List Bool) (p : PackageData) (before after : Headers) (verdict : VerdictData)
-        → IsKnown k marks before → slice_get m.packages k ≡ Some p → imports_accepted marks p ≡ true → IsVerdict m k p before verdict after
-        → IsKnown (k + 1) (marks ++ is_accepted verdict ∷ []) after
-    known_checked k marks p before after verdict is at imports (by_names b bs list) = same_headers k marks before is
-    known_checked k marks p before after verdict is at imports (by_shapes b bs list) = same_headers k marks before is
+        → IsKnown m k marks before → slice_get m.packages k ≡ Some p → imports_accepted marks p ≡ true → IsVerdict m k p before verdict after
+        → IsKnown m (k + 1) (marks ++ is_accepted verdict ∷ []) after
+    known_checked k marks p before after verdict is at imports (by_names b bs list) = same_headers m k marks p before is at
+    known_checked k marks p before after verdict is at imports (by_shapes b bs list) = same_headers m k marks p before is at
     known_checked k marks p before after verdict is at imports (by_values headers b bs breaks) =
-        not_accepted k marks before headers is (part_of k p before headers (b ∷ bs) breaks)
+        not_accepted m k marks p before headers is at (part_of k p before headers (b ∷ bs) breaks) (new_headers p (names_in m k p) before headers breaks.cyclic breaks.has_headers)
     known_checked k marks p before after verdict is at imports (sound headers lines breaks told) =
         let complete = complete_at k marks p before headers lines _ is at imports (sound headers lines breaks told) breaks.sound_shapes.sound_names in
-        known_more k marks p before headers is at (part_of k p before headers [] breaks) complete.declared
+        let naming = names_in m k p in
+        let means = meant_good m k p (IsKept m marks) (imports_kept m marks p imports) in
+        let good = headers_good naming (IsOwn m marks p) means before (own_good m ascend k marks p before is at) (declarations_of p) headers breaks.cyclic breaks.has_headers in
+        known_more m k marks p before headers is at (part_of k p before headers [] breaks) (new_headers p naming before headers breaks.cyclic breaks.has_headers) good complete.declared
 
-    known_reached : {k : ℕ} {marks : List Bool} {before : Headers} → IsReached m k marks before → IsKnown k marks before
+    known_reached : {k : ℕ} {marks : List Bool} {before : Headers} → IsReached m k marks before → IsKnown m k marks before
     known_reached first = record {
       many = refl;
       declared = λ i q marked at. absurd (let never : false ≡ true = marked in cc);
+      named = λ n h kept e. absurd (none-some h e);
+      stand = λ n h e. absurd (none-some h e);
     }
-    known_reached (skips k marks before p reached at imports) = same_headers k marks before (known_reached reached)
+    known_reached (skips k marks before p reached at imports) = same_headers m k marks p before (known_reached reached) at
     known_reached (checks k marks before after verdict p reached at imports is) = known_checked k marks p before after verdict (known_reached reached) at imports is
 
 sound_names : (m : ModuleData) (k : ℕ) (p : PackageData) (before after : Headers) (lines : List LineData) (named : List NamedData) → IsVerdict m k p before (accepted lines named) after → broken_names (known_in m) k p ≡ []

@@ -10,8 +10,8 @@ use Rattle.go_judge.specs.Kinds.{no_type}
 use Rattle.go_judge.specs.Judged.{OutcomeData}
 use Rattle.go_judge.specs.Operands.{is_type}
 use Rattle.go_judge.specs.Records.{HeaderData, RecData, alias, definition, type_in, variable}
-use Rattle.go_model.specs.Values.Records.{tells_by, told_by}
-use Rattle.go_model.specs.Values.Rules.{others_by, others_by_kind}
+use Rattle.go_values.specs.Records.{tells_by, told_by}
+use Rattle.go_values.specs.Rules.{others_by, others_by_kind}
 use Rattle.go_laws.proofs.RecordLemmas.{type_declared}
 
 -- CONSTANTS

@@ -28,7 +28,7 @@ use Rattle.go_module.specs.Names.Rules.OccurrenceRules.{denoted_package}
 use Rattle.go_module.specs.Names.Tables.{Member, member_of, members_at, occurrences_from, uses_at, uses_of}
 use Rattle.go_module.specs.Scopes.{same_node}
 use Rattle.go_module.proofs.TableLemmas.{node_denotes, node_found}
-use Rattle.go_model.specs.Values.Naming.{uses_table}
+use Rattle.go_model.specs.Naming.{uses_table}
 use Rattle.go_laws.specs.NodeNumbers.{nodes_by_end, nodes_by_end_among, nodes_in_files, numbers_in_files}
 use Rattle.go_laws.proofs.PickedLemmas.{Ascending, Picked, none, one_numbered, pairs_ascend, picked_ascend, picked_behind, picked_both, picked_flat, picked_front, picked_inner, picked_self, picked_through}
 

@@ -3,9 +3,9 @@
 -- Says which expressions and types are made of what is built: of forms whose construct is known (`Walk` of go_model), each
 -- with as many operands as it asks; and what stands behind the names of specs that are built. A node is one of these by its
 -- kind and its parts; its text and its places are left to the grammar.
-use Rattle.std.specs.Prelude.{◌≡◌, ℕ, Bool, true, false, Some, List, [], ◌∷◌, Contains, slice_get}
+use Rattle.std.specs.Prelude.{◌≡◌, ℕ, Bool, true, false, Option, Some, None, List, [], ◌∷◌, Contains, slice_get}
 use Rattle.go_tree.specs.declared.node_kind.NodeKind.{NodeKind}
-use Rattle.go_tree.specs.declared.node_kind.NodeKind.TheVariants.{AddExpr, ArrayType, ArrowExpr, ChanType, EmbeddedPointer, FuncType, IntLit, InterfaceType, MapType, Name, ParenExpr, SelectorExpr, SliceType, StarExpr, StructType}
+use Rattle.go_tree.specs.declared.node_kind.NodeKind.TheVariants.{ArrayType, ArrowExpr, ChanType, EmbeddedPointer, FuncType, IntLit, InterfaceType, MapType, Name, ParenExpr, RuneLit, SelectorExpr, SliceType, StarExpr, StringLit, StructType}
 use Rattle.go_tree.specs.Tree.{Tree, branch, kind_of, more_trees, no_trees}
 use Rattle.go_module.specs.declared.object.ObjKind.{ObjKind}
 use Rattle.go_module.specs.declared.object.ObjKind.TheVariants.{Alias, Const, Defined, Var}
@@ -14,6 +14,9 @@ use Rattle.go_module.specs.Names.Declarations.{Spec, specs_of}
 use Rattle.go_module.specs.Names.Inner.{inner_parts}
 use Rattle.go_module.specs.Names.Occurrences.{nodes_in}
 use Rattle.go_operands.specs.Operands.{expressions_in, passes}
+use Rattle.go_constructs.specs.Operators.Nodes.{binary_of, unary_of}
+use Rattle.go_constructs.specs.declared.operator.BinaryOp.{BinaryOp}
+use Rattle.go_constructs.specs.declared.operator.UnaryOp.{UnaryOp}
 use Rattle.go_model.specs.Outcomes.Walk.{many_operands}
 use Rattle.go_laws.specs.Complete.{parts_in}
 
@@ -23,13 +26,20 @@ pub data IsIdentifier : Tree → Type 0 where
 
 -- EXPRESSIONS AND TYPES
 
+-- an operator, with so many operands: a binary or a unary one
+abbrev pub IsOperator : Option BinaryOp → Option UnaryOp → ℕ → Type 0
+IsOperator (Some op) unary many = many ≡ 2
+IsOperator None (Some op) many = many ≡ 1
+IsOperator None None many = ⊥
+
 -- a form that is known, with so many operands: a line for each of the table of constructs
 abbrev pub HasForm : Tree → ℕ → Type 0
 HasForm (branch id from to IntLit text parts) many = many ≡ 0
+HasForm (branch id from to RuneLit text parts) many = many ≡ 0
+HasForm (branch id from to StringLit text parts) many = many ≡ 0
 HasForm (branch id from to Name text parts) many = many ≡ 0
 HasForm (branch id from to SelectorExpr text (more_trees x (more_trees f no_trees))) many = IsIdentifier x × IsIdentifier f
 HasForm (branch id from to ParenExpr text parts) many = many ≡ 1
-HasForm (branch id from to AddExpr text parts) many = many ≡ 2
 HasForm (branch id from to StarExpr text parts) many = many ≡ 1
 HasForm (branch id from to EmbeddedPointer text parts) many = many ≡ 1
 HasForm (branch id from to SliceType text parts) many = many ≡ 1
@@ -40,7 +50,7 @@ HasForm (branch id from to ArrowExpr text (more_trees (branch i f t ChanType x e
 HasForm (branch id from to FuncType text (more_trees signature parts)) many = Unit {0}
 HasForm (branch id from to StructType text decls) many = Unit {0}
 HasForm (branch id from to InterfaceType text elems) many = Unit {0}
-HasForm t many = ⊥
+HasForm t many = IsOperator (binary_of (kind_of t)) (unary_of (kind_of t)) many
 
 -- a name, and `x.f`
 abbrev pub is_named : NodeKind → Bool

@@ -11,9 +11,9 @@ use Rattle.go_operands.specs.Operands.{folded}
 use Rattle.go_judge.specs.Naming.{Naming}
 use Rattle.go_judge.specs.Headers.{Headers}
 use Rattle.go_model.specs.Outcomes.Walk.{construct}
-use Rattle.go_model.specs.Phases.{IsVerdict, imports_accepted, is_accepted, no_headers}
-use Rattle.go_model.specs.Report.{LineData, NamedData, VerdictData, accepted}
-use Rattle.go_model.specs.Values.Records.{record_of}
+use Rattle.go_report.specs.Phases.{IsVerdict, imports_accepted, is_accepted, no_headers}
+use Rattle.go_report.specs.Report.{LineData, NamedData, VerdictData, accepted}
+use Rattle.go_values.specs.Records.{record_of}
 
 -- the nodes that are asked in a node, by those in each of its operands: itself, and those in the operands that its
 -- construct asks

@@ -5,9 +5,9 @@ ghost use Rattle.go_mod.specs.Folders.{Folder};
 ghost use Rattle.go_module.specs.Modules.Module.{ModuleData, PackageData};
 ghost use Rattle.go_load.specs.Loading.{IsModule};
 ghost use Rattle.go_judge.specs.Headers.{Headers};
-ghost use Rattle.go_model.specs.Phases.{IsVerdict, ReportOf, imports_accepted, is_accepted};
-ghost use Rattle.go_model.specs.Report.{LineData, NamedData, PackageReportData, ReportData, accepted};
-ghost use Rattle.go_model.specs.Values.Naming.{names_in};
+ghost use Rattle.go_report.specs.Phases.{IsVerdict, ReportOf, imports_accepted, is_accepted};
+ghost use Rattle.go_report.specs.Report.{LineData, NamedData, PackageReportData, ReportData, accepted};
+ghost use Rattle.go_model.specs.Naming.{names_in};
 ghost use Rattle.go_laws.specs.Complete.{IsAcceptedAt, IsComplete, IsReached};
 
 /// Where the check of a module that is loaded comes to a package whose imports are accepted, and accepts it, each

@@ -10,8 +10,8 @@ use Rattle.go_term.specs.declared.term.ElemTerm.TheFolds.{fold_out-FuncTerm}
 use Rattle.go_term.specs.Types as types
 use Rattle.go_term.specs.Types.{Parts, TypeData, signature_parts}
 use Rattle.go_term.specs.View.{SignatureData, elem_step, field_step, func_step, signature_of, term_step, type_of, union_step}
-use Rattle.go_model.specs.Members.{Member, each_by, list_members, signature_members}
-use Rattle.go_model.specs.Report.{LineData}
+use Rattle.go_report.specs.Members.{Member, each_by, list_members, signature_members}
+use Rattle.go_report.specs.Report.{LineData}
 
 -- the parts of a type as a list
 pub listed : (ts : List TypeData) → types.list_of (types.parts_of ts) ≡ ts

@@ -5,8 +5,8 @@ use Rattle.go_tree.specs.Tree.{Tree}
 use Rattle.go_module.specs.Names.Rules.MemberRules.{field_names}
 use Rattle.go_term.specs.Types as types
 use Rattle.go_term.specs.Types.{TypeData, interface_type, made, method, struct_type}
-use Rattle.go_model.specs.Members.{Member, each_by, elem_members, field_member, signature_members}
-use Rattle.go_model.specs.Report.{function, variable}
+use Rattle.go_report.specs.Members.{Member, each_by, elem_members, field_member, signature_members}
+use Rattle.go_report.specs.Report.{function, variable}
 
 -- those of a struct with these fields
 abbrev pub struct_members : List Tree → TypeData → List Member

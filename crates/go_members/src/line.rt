@@ -2,12 +2,12 @@
 ghost use Rattle.std.specs.Prelude.{◌≡◌, ◌∷◌, ◌++◌, [], IfOk, OnOk, map};
 ghost use Rattle.go_tree.specs.Tree.{tree_of};
 ghost use Rattle.go_module.specs.Modules.Module.{file_view};
-ghost use Rattle.go_model.specs.PackageLines.{member_def};
-ghost use Rattle.go_model.specs.Report.{defined_view, line_view};
+ghost use Rattle.go_report.specs.PackageLines.{member_def};
+ghost use Rattle.go_report.specs.Report.{defined_view, line_view};
 
 use go_base::NoMemory;
-use go_model::{DefKind, Line, What};
 use go_module::{SourceFile, text_name};
+use go_report::{DefKind, Line, What};
 use go_tree::Node;
 use std::alloc::Global;
 

@@ -1,8 +1,8 @@
 // What two type literals made by hand declare, where memory is ample.
 use crate::push_members;
 use go_base::{Bytes, Name, NoMemory, ObjId};
-use go_model::{DefKind, Line, What};
 use go_module::SourceFile;
+use go_report::{DefKind, Line, What};
 use go_term::{Basic, ElemTerm, FieldTerm, FuncTerm, Term};
 use go_tree::{File, Node, NodeId, NodeKind};
 use std::alloc::Global;

@@ -1,10 +1,5 @@
-pub mod EachLemmas
 pub mod OutcomeExactLemmas
 pub mod FlatLemmas
-pub mod HeaderLemmas
-pub mod LineOrderLemmas
-pub mod OneReportLemmas
-pub mod OutlineLemmas
 pub mod OutcomeLemmas
 pub mod ThereLemmas
 pub mod WalkedLemmas

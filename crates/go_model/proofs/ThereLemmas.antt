@@ -22,7 +22,7 @@ use Rattle.go_module.specs.Scopes.{same_node, same_object}
 use Rattle.go_module.proofs.MemberLemmas.{contains_none}
 use Rattle.go_module.proofs.TableLemmas.{node_denotes, present_in}
 use Rattle.go_judge.specs.Naming.{AreThere}
-use Rattle.go_model.specs.Values.Naming.{names_by, names_in, uses_table}
+use Rattle.go_model.specs.Naming.{names_by, names_in, uses_table}
 use Rattle.go_model.proofs.FlatLemmas.{filter_within, find_within, flat_cases, flat_contains, map_cases, map_contains, only_is}
 
 -- an object has its own number
@@ -126,8 +126,8 @@ module _ (m : ModuleData) (k : ℕ) (p : PackageData) where
       present_in same_object object_self [] entries d entry.0 entry.1
 
   -- the tables that are collected are these
-  pub collected_names : (scopes : Scopes) → HasTables m k p scopes → names_by scopes.uses.entries scopes.objects.entries p.path ≡ names_in m k p
-  collected_names scopes tables = λ i. names_by (tables.uses i) (tables.objects i) p.path
+  pub collected_names : (scopes : Scopes) → HasTables m k p scopes → names_by scopes.uses.entries scopes.iotas.entries scopes.objects.entries p.path ≡ names_in m k p
+  collected_names scopes tables = λ i. names_by (tables.uses i) (tables.iotas i) (tables.objects i) p.path
 
-  pub collected_there : (scopes : Scopes) → HasTables m k p scopes → AreThere (names_by scopes.uses.entries scopes.objects.entries p.path)
+  pub collected_there : (scopes : Scopes) → HasTables m k p scopes → AreThere (names_by scopes.uses.entries scopes.iotas.entries scopes.objects.entries p.path)
   collected_there scopes tables = let same = collected_names scopes tables in subst AreThere (sym same) are_there

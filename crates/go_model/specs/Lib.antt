@@ -1,16 +1,6 @@
--- the report of a module
-pub mod Phases
-pub mod Report
-pub mod PackageLines
-pub mod Members
-pub mod LineOrder
-pub mod Outline
-pub mod Status
-pub mod Text
--- the values of a package's declarations, and the rules on them
-pub mod Values
+-- what is known of identifiers, what nodes come to, and what types must be
+pub mod Naming
 pub mod Outcomes
-pub mod Laws
 pub mod Obligations
 -- what these rest on
 pub use Rattle.go_module.specs.Modules

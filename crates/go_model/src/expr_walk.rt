@@ -7,6 +7,7 @@ ghost use Rattle.go_judge.specs.View.{outcome_as};
 ghost use Rattle.go_model.specs.Outcomes.Walk as walk;
 ghost use Rattle.go_model.specs.Outcomes.Walked.{ArePartly, walked_over};
 ghost use Rattle.go_judge.specs.Types.Own.{IsOwnOutcome, KeepsTypes};
+ghost use Rattle.go_constructs.specs.Operators.Honest.{AreHonest};
 ghost use Rattle.go_judge.specs.Naming.{AreThere};
 
 use go_base::NoMemory;
@@ -18,11 +19,13 @@ use std::alloc::Global;
 /// Who walks over expressions and types, and keeps the outcomes of their nodes.
 pub trait ExprWalk: Ask {
     /// The outcome of a node over the headers, which stay, as the names and its types do, also on an error. It asks that
-    /// each object that is denoted is there. The walk reaches the node and all nodes in it, the name of a package before a
-    /// `.` too. `want` is the type of the variable or the result to which the value is given, one of its own; nothing is built
-    /// yet that looks at it. An error is want of memory; some of these nodes may have their outcomes then.
+    /// each object that is denoted is there, and that each constant that is known is represented by its type. The walk
+    /// reaches the node and all nodes in it, the name of a package before a `.` too. `want` is the type of the variable or
+    /// the result to which the value is given, one of its own; nothing is built yet that looks at it. An error is want of
+    /// memory; some of these nodes may have their outcomes then.
     fn walk(&mut self, alloc: Global, node: &Node, want: Option<Ty>) -> Result<Outcome, NoMemory>
         requires there { AreThere (Self.names self.old) }
+        requires honest { AreHonest (Self.headers self.old) }
         requires wanted { IfSome want (Self.is_type self.old) }
         ensures outcome { IfOk result (λ found. outcome_as (Self.tree self.new) found
             ≡ walk.outcome (Self.names self.old) (Self.headers self.old) (tree_of node.now)) }

@@ -1,12 +1,10 @@
-//! What the checker is held against: headers, outcomes, the rules on values, reports and their text.
+//! What the checker is held against: what identifiers denote, and what nodes come to.
 //!
-//! The definitions stand in specs/: which headers the declarations of a package have (`Values/Records`,
-//! `Values/Headers`), which outcome each node of an expression has (`Outcomes`), which rules the declarations
-//! break (`Waiting`, `Rules`), where objects are declared (`Outline`), which report a module has
-//! (`Phases`, `PackageLines`, `LineOrder`, `Report`), its status (`Status`) and how it reads (`Text`). A law
-//! is the contract of a function that does nothing. Who walks over expressions stands beside judges (`ExprWalk`), and
-//! `Rules` are both. What is known of declarations and expressions, and who judges them, stands in go_judge, and what
-//! modules, declarations and scopes are in go_module: their types are named here again.
+//! The definitions stand in specs/: what identifiers of a package denote (`Naming`), which outcome each node of an
+//! expression has (`Outcomes`), and what types must be (`Obligations`). A law is the contract of a function that does
+//! nothing. Who walks over expressions stands beside judges (`ExprWalk`), and `Rules` are both. What is known of
+//! declarations and expressions, and who judges them, stands in go_judge, and what modules, declarations and scopes are
+//! in go_module: their types are named here again.
 #![tactic(auto)]
 
 // Laws.
@@ -16,12 +14,6 @@ mod laws;
 mod expr_walk;
 mod rules;
 
-// Reports.
-mod declared_object;
-mod lines;
-mod report;
-
-pub use declared_object::DeclaredObject;
 pub use expr_walk::ExprWalk;
 pub use go_constructs::Meaning;
 pub use go_judge::{
@@ -33,7 +25,5 @@ pub use go_module::{
     At, Block, Import, Method, Module, ObjId, ObjKind, Object, Occurrence, Package, Placed, Region,
     Scopes, Selected, SourceFile,
 };
-pub use laws::{declared_everywhere, one_header, one_report, outcomes_exactly, outcomes_stay};
-pub use lines::{DefKind, Line, NamedObject, Records, What};
-pub use report::{PackageReport, Report, Verdict};
+pub use laws::{outcomes_exactly, outcomes_stay};
 pub use rules::Rules;

@@ -8,5 +8,6 @@ pub mod PackageBlock
 pub mod Imports
 pub mod Occurrences
 pub mod Regions
+pub mod Iotas
 pub mod Tables
 pub mod Rules

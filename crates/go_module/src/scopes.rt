@@ -5,6 +5,7 @@ ghost use Rattle.indexmap.specs.IndexMap.{ContainsKey, IsEmpty, get, insert_all}
 ghost use Rattle.go_base.specs.declared.ids.ObjId.{ObjId};
 ghost use Rattle.go_module.specs.Modules.Module.{ModuleData, PackageData};
 ghost use Rattle.go_module.specs.Names.Imports.{known_in};
+ghost use Rattle.go_module.specs.Names.Iotas.{iotas_of};
 ghost use Rattle.go_module.specs.Names.PackageBlock.{region_entries};
 ghost use Rattle.go_module.specs.Names.Tables.{HasTables, objects_in, uses_of};
 ghost use Rattle.go_module.specs.Names.Universe.{universe};
@@ -18,12 +19,13 @@ use go_tree::NodeId;
 use indexmap::IndexMap;
 use std::alloc::Global;
 
-/// What the names of a package denote: its objects, the object that each occurrence resolves to, the
-/// methods of each defined type, and the names of the package block.
+/// What the names of a package denote: its objects, the object that each occurrence resolves to, the number
+/// of each `iota` in a constant spec, the methods of each defined type, and the names of the package block.
 #[derive(Debug, Drop)]
 pub struct Scopes {
     pub objects: IndexMap<ObjId, Object>,
     pub uses: IndexMap<NodeId, ObjId>,
+    pub iotas: IndexMap<NodeId, usize>,
     pub methods: IndexMap<ObjId, Vec<Method>>,
     pub names: IndexMap<Name, ObjId>,
 }
@@ -34,6 +36,7 @@ impl Scopes {
         ensures objects { IfOk result (λ scopes.
             scopes.objects.entries ≡ insert_all same_object [] (region_entries universe)) }
         ensures uses { IfOk result (λ scopes. IsEmpty scopes.uses) }
+        ensures iotas { IfOk result (λ scopes. IsEmpty scopes.iotas) }
         ensures methods { IfOk result (λ scopes. IsEmpty scopes.methods) }
         ensures names { IfOk result (λ scopes. IsEmpty scopes.names) }
     {
@@ -42,6 +45,7 @@ impl Scopes {
         Ok(Scopes {
             objects,
             uses: IndexMap::new(alloc),
+            iotas: IndexMap::new(alloc),
             methods: IndexMap::new(alloc),
             names: IndexMap::new(alloc),
         })
@@ -57,6 +61,19 @@ impl Scopes {
             → Contains (uses_of (known_in m) k p) (id, d) → IsSome result }
     {
         self.uses.get(&id).copied()
+    }
+
+    /// The number of the innermost constant spec around an identifier `iota`, from 0 in each declaration (Go
+    /// specification, "Iota"). In the scopes of a package: None exactly where the node is no identifier of this
+    /// name in a constant spec.
+    pub fn iota_of(&self, id: NodeId) -> Option<usize>
+        ensures table { result ≡ get same_node self.now.iotas id }
+        ensures numbered { (m : ModuleData) (k : ℕ) (p : PackageData) → HasTables m k p self.now
+            → IfSome result (λ n. Contains (iotas_of p) (id, n)) }
+        ensures found { (m : ModuleData) (k : ℕ) (p : PackageData) (n : ℕ) → HasTables m k p self.now
+            → Contains (iotas_of p) (id, n) → IsSome result }
+    {
+        self.iotas.get(&id).copied()
     }
 
     /// The object of that number, which the table of objects must have.

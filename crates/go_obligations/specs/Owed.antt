@@ -21,7 +21,7 @@ use Rattle.go_judge.specs.Judged.{OutcomeData}
 use Rattle.go_judge.specs.Records.{RecData, type_in}
 use Rattle.go_judge.specs.Headers.{Headers}
 use Rattle.go_judge.specs.Quests.{Decided, run}
-use Rattle.go_model.specs.Values.Records.{record_by}
+use Rattle.go_model.specs.Outcomes.Readings.{record_by}
 use Rattle.go_obligations.specs.declared.obligation.Demand.{Demand}
 use Rattle.go_obligations.specs.declared.obligation.Demand.TheVariants.{Embeddable, NoConstraint, OneTypeEach}
 use Rattle.go_obligations.specs.declared.obligation.Obligation.{Obligation}

@@ -3,7 +3,7 @@ use Rattle.std.proofs.Common.{◌≡◌, ℕ, ◌+◌, ◌<◌, List, [], ◌∷
 use Rattle.std.specs.List.{flat_map, join_with_byte}
 use Rattle.std.proofs.lemmas.List.{append-nil, take_more, flat_map_more}
 use Rattle.std.proofs.lemmas.Grind.{flat_map-append}
-use Rattle.go_model.specs.Text.Lines.{line_text}
+use Rattle.go_report.specs.Text.Lines.{line_text}
 
 -- the first field, and each other one behind a tab
 pub joined : (f : Bor (List ℕ)) (fs : List (Bor (List ℕ))) → join_with_byte 9 (map (λ field. field.now) (f ∷ fs)) ≡ f.now ++ flat_map (λ field. 9 ∷ field.now) fs

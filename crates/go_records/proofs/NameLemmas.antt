@@ -7,7 +7,7 @@ use Rattle.std.specs.Option.{option_and_then}
 use Rattle.indexmap.specs.IndexMap.{insert_entry}
 use Rattle.go_base.specs.declared.ids.ObjId.{ObjId}
 use Rattle.go_module.specs.Scopes.{same_object}
-use Rattle.go_model.specs.declared.lines.NamedObject.{NamedObject}
+use Rattle.go_report.specs.declared.lines.NamedObject.{NamedObject}
 use Rattle.go_judge.proofs.EntryLemmas.{found_behind}
 
 -- entries have the places of the first objects of each number among those from a place on

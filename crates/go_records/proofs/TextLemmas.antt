@@ -5,14 +5,14 @@ use Rattle.std.specs.Prelude.{codes}
 use Rattle.std.proofs.lemmas.Grind.{flat_map-append}
 use Rattle.std.proofs.lemmas.List.Folds.{flat_map-map}
 use Rattle.std.proofs.lemmas.Simd.{map-map}
-use Rattle.go_model.specs.declared.lines.Line.{Line}
-use Rattle.go_model.specs.declared.lines.NamedObject.{NamedObject}
-use Rattle.go_model.specs.declared.lines.Records.{Records}
+use Rattle.go_report.specs.declared.lines.Line.{Line}
+use Rattle.go_report.specs.declared.lines.NamedObject.{NamedObject}
+use Rattle.go_report.specs.declared.lines.Records.{Records}
 use Rattle.go_module.specs.declared.places.Placed.{Placed}
-use Rattle.go_model.specs.declared.report.Verdict.{Verdict}
-use Rattle.go_model.specs.declared.report.Verdict.TheVariants.{Accepted}
-use Rattle.go_model.specs.Report.{PackageReportData, VerdictData, refused, line_view, named_view, verdict_view}
-use Rattle.go_model.specs.Text.Lines.{broken_fields, line_fields, line_text, package_fields, verdict_fields}
+use Rattle.go_report.specs.declared.report.Verdict.{Verdict}
+use Rattle.go_report.specs.declared.report.Verdict.TheVariants.{Accepted}
+use Rattle.go_report.specs.Report.{PackageReportData, VerdictData, refused, line_view, named_view, verdict_view}
+use Rattle.go_report.specs.Text.Lines.{broken_fields, line_fields, line_text, package_fields, verdict_fields}
 
 -- lines behind one other
 pub behind_one : {X : Type 0} (f : List (List ℕ) → List ℕ) (fields : X → List (List ℕ)) (a : List (List ℕ)) (xs : List X) → f a ++ flat_map (λ x. f (fields x)) xs ≡ flat_map f (a ∷ map fields xs)

@@ -14,9 +14,9 @@ use Rattle.go_term.specs.declared.term.Term.{Term}
 use Rattle.go_term.specs.declared.term.Term.TheVariants.{Named, rolls-Named}
 use Rattle.go_term.specs.Types.{TypeData, named, of_list, parts_of, signature_parts}
 use Rattle.go_term.specs.View.{SignatureData, type_of, signature_of, elem_step, term_step, field_step, func_step, union_step}
-use Rattle.go_model.specs.declared.lines.NamedObject.{NamedObject}
-use Rattle.go_model.specs.Report.{NamedData, named_view}
-use Rattle.go_model.specs.Text.Types.{arguments_text, behind_each, comma_list, joined, named_text, object_by, object_text, param_text, parameters_text, path_text, results_text, signature_text, texts_of, type_text, with_dots}
+use Rattle.go_report.specs.declared.lines.NamedObject.{NamedObject}
+use Rattle.go_report.specs.Report.{NamedData, named_view}
+use Rattle.go_report.specs.Text.Types.{arguments_text, behind_each, comma_list, joined, named_text, object_by, object_text, param_text, parameters_text, path_text, results_text, signature_text, texts_of, type_text, with_dots}
 
 -- a path that is not empty, and a name
 pub behind_path : (path name : List ℕ) → (length path == 0) ≡ false → path_text path ++ name ≡ path ++ (46 ∷ name)

@@ -4,11 +4,11 @@ use Rattle.std.specs.List.{list_all, list_any}
 use Rattle.std.proofs.lemmas.List.Folds.{list_all-map}
 use Rattle.go_base.specs.declared.status.Status.{Status}
 use Rattle.go_base.specs.declared.status.Status.TheVariants.{Accepted, Refused, Beyond}
-use Rattle.go_model.specs.declared.report.PackageReport.{PackageReport}
-use Rattle.go_model.specs.declared.report.Report.{Report}
-use Rattle.go_model.specs.Phases.{is_accepted}
-use Rattle.go_model.specs.Report.{PackageReportData, package_view, report_view, verdict_view}
-use Rattle.go_model.specs.Status.{broken_in, has_beyond, verdict_of}
+use Rattle.go_report.specs.declared.report.PackageReport.{PackageReport}
+use Rattle.go_report.specs.declared.report.Report.{Report}
+use Rattle.go_report.specs.Phases.{is_accepted}
+use Rattle.go_report.specs.Report.{PackageReportData, package_view, report_view, verdict_view}
+use Rattle.go_report.specs.Status.{broken_in, has_beyond, verdict_of}
 
 pub list_any-map : {X Y : Type 0} (p : X → Bool) (h : Y → X) (ys : List Y) → list_any p (map h ys) ≡ list_any (λ y. p (h y)) ys
 list_any-map p h [] = refl

@@ -4,7 +4,7 @@ use Rattle.std.specs.Map.{lookup}
 use Rattle.std.specs.Option.{option_and_then}
 use Rattle.go_base.specs.declared.ids.ObjId.{ObjId}
 use Rattle.go_module.specs.Scopes.{same_object}
-use Rattle.go_model.specs.declared.lines.NamedObject.{NamedObject}
+use Rattle.go_report.specs.declared.lines.NamedObject.{NamedObject}
 
 -- own: the place that entries have for a number leads to the first of these objects of the number; where no object has
 -- it, to none

@@ -1,7 +1,7 @@
 // Lines of text as lists of fields.
 ghost use Rattle.std.specs.Prelude.{◌≡◌, ◌++◌, ◌∷◌, OnOk, map, codes};
 ghost use Rattle.std.specs.List.{join_with_byte};
-ghost use Rattle.go_model.specs.Text.Lines.{line_text};
+ghost use Rattle.go_report.specs.Text.Lines.{line_text};
 
 use std::alloc::AllocError;
 

@@ -3,19 +3,20 @@ ghost use Rattle.std.specs.Prelude.{◌≡◌, [], ◌++◌, ◌∷◌, IfOk, On
 ghost use Rattle.std.specs.List.{flat_map, join_with_byte};
 ghost use Rattle.go_num.specs.TextOfValues as texts;
 ghost use Rattle.go_term.specs.View.{type_of};
-ghost use Rattle.go_model.specs.Report.{constant, defined, defined_view, definition, imported, line_view, named_view, package_view, used};
-ghost use Rattle.go_model.specs.Text.Lines.{broken_fields, line_fields, line_text, mode_text, module_fields, package_fields, type_fields, value_fields, what_fields};
-ghost use Rattle.go_model.specs.Text.Places.{end_text, place_text};
-ghost use Rattle.go_model.specs.Text.Types.{type_text};
+ghost use Rattle.go_report.specs.Report.{constant, defined, defined_view, definition, imported, line_view, named_view, package_view, used};
+ghost use Rattle.go_report.specs.Text.Lines.{broken_fields, line_fields, line_text, mode_text, module_fields, package_fields, type_fields, value_fields, what_fields};
+ghost use Rattle.go_report.specs.Text.Places.{end_text, place_text};
+ghost use Rattle.go_report.specs.Text.Types.{type_text};
 
 use crate::fields::{put_field, put_fields, put_line};
 use crate::names::Names;
 use crate::places::{declared_text, end_text, place_text};
 use crate::types::type_text;
 use go_base::{LineCol, Name};
-use go_model::{DefKind, Line, Mode, PackageReport, Report, What};
+use go_model::Mode;
 use go_module::{At, Placed};
 use go_num::{Value, value_text};
+use go_report::{DefKind, Line, PackageReport, Report, What};
 use go_term::Term;
 use std::alloc::{AllocError, Global};
 

@@ -5,7 +5,8 @@ ghost use Rattle.go_module.specs.Scopes.{same_object};
 ghost use Rattle.go_records.specs.Names.{ArePlaces};
 
 use go_base::ObjId;
-use go_model::{NamedObject, NumberHasher};
+use go_model::NumberHasher;
+use go_report::NamedObject;
 use indexmap::IndexMap;
 use std::alloc::{AllocError, Global};
 use std::marker::Model;
@@ -23,7 +24,7 @@ pub struct Names<'a> {
 
 impl<'a> Model for Names<'a> {
     ghost use Rattle.std.specs.Prelude.{List};
-    ghost use Rattle.go_model.specs.declared.lines.NamedObject.{NamedObject};
+    ghost use Rattle.go_report.specs.declared.lines.NamedObject.{NamedObject};
     ghost use Rattle.go_records.specs.Names.{ArePlaces};
 
     ghost Value = { List NamedObject };

@@ -1,13 +1,13 @@
 // The names that types are written by: those of declared types and of type parameters.
 ghost use Rattle.std.specs.Prelude.{◌≡◌, [], ◌++◌, IfOk, OnOk, map, slice_get, string_bytes, unwrap_or};
-ghost use Rattle.go_model.specs.Report.{named_view};
-ghost use Rattle.go_model.specs.Text.Types as texts;
+ghost use Rattle.go_report.specs.Report.{named_view};
+ghost use Rattle.go_report.specs.Text.Types as texts;
 
 use crate::names::Names;
 use crate::places::place_text;
 use go_base::ObjId;
-use go_model::NamedObject;
 use go_module::At;
+use go_report::NamedObject;
 use std::alloc::{AllocError, Global};
 
 /// Appends an object's name; nothing where it is not among these.

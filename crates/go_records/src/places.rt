@@ -1,7 +1,7 @@
 // The text of places.
 ghost use Rattle.std.specs.Prelude.{◌≡◌, IfOk, string_bytes};
-ghost use Rattle.go_model.specs.Text.Lines.{declared_text};
-ghost use Rattle.go_model.specs.Text.Places.{end_text, place_text, root_text};
+ghost use Rattle.go_report.specs.Text.Lines.{declared_text};
+ghost use Rattle.go_report.specs.Text.Places.{end_text, place_text, root_text};
 
 use go_base::LineCol;
 use go_module::At;

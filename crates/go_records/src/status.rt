@@ -2,13 +2,13 @@
 ghost use Rattle.std.specs.Prelude.{◌≡◌};
 ghost use Rattle.std.specs.List.{list_all, list_any};
 ghost use Rattle.go_base.specs.Status.{IsReport};
-ghost use Rattle.go_model.specs.Phases.{is_accepted};
-ghost use Rattle.go_model.specs.Report.{report_view, verdict_view};
-ghost use Rattle.go_model.specs.Status.{broken_in, has_beyond, is_beyond, refusal_of, verdict_of};
+ghost use Rattle.go_report.specs.Phases.{is_accepted};
+ghost use Rattle.go_report.specs.Report.{report_view, verdict_view};
+ghost use Rattle.go_report.specs.Status.{broken_in, has_beyond, is_beyond, refusal_of, verdict_of};
 
 use go_base::{Family, Status};
-use go_model::{PackageReport, Report, Verdict};
 use go_module::Placed;
+use go_report::{PackageReport, Report, Verdict};
 
 /// The status that the report of a module ends a run with.
 pub fn verdict(report: &Report) -> Status

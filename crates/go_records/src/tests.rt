@@ -1,9 +1,10 @@
 // A report and a list of broken rules made by hand, and what is written of them.
 use crate::{first_text, refusal, report_text, verdict};
 use go_base::{Bytes, Family, LineCol, Name, NoMemory, ObjId, Rule, Status};
-use go_model::{DefKind, Line, Mode, NamedObject, PackageReport, Records, Report, Verdict, What};
+use go_model::Mode;
 use go_module::{At, Placed};
 use go_num::Value;
+use go_report::{DefKind, Line, NamedObject, PackageReport, Records, Report, Verdict, What};
 use go_term::{Basic, Term};
 use std::alloc::Global;
 use std::test::Fail;

@@ -1,15 +1,15 @@
 // The text of a report.
 ghost use Rattle.std.specs.Prelude.{◌≡◌, ◌++◌, IfOk, OnOk, map};
 ghost use Rattle.std.specs.List.{flat_map};
-ghost use Rattle.go_model.specs.Report.{line_view, named_view, package_view, report_view};
-ghost use Rattle.go_model.specs.Text.Lines.{broken_fields, first_text, line_fields, line_text, report_text, verdict_fields};
+ghost use Rattle.go_report.specs.Report.{line_view, named_view, package_view, report_view};
+ghost use Rattle.go_report.specs.Text.Lines.{broken_fields, first_text, line_fields, line_text, report_text, verdict_fields};
 
 use crate::fields::put_line;
 use crate::lines::{put_broken, put_module, put_package, put_package_line};
 use crate::names::Names;
 use go_base::NoMemory;
-use go_model::{Line, PackageReport, Records, Report, Verdict};
 use go_module::Placed;
+use go_report::{Line, PackageReport, Records, Report, Verdict};
 use std::alloc::{AllocError, Global};
 
 /// The text of the report of a module.

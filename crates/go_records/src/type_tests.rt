@@ -3,7 +3,7 @@ use crate::names::Names;
 use crate::tests::{name, object};
 use crate::types::type_text;
 use go_base::{Bytes, NoMemory, ObjId};
-use go_model::NamedObject;
+use go_report::NamedObject;
 use go_term::{Basic, Dir, ElemTerm, FieldTerm, FuncTerm, Term, UnionTerm};
 use std::alloc::{AllocError, Global};
 use std::test::Fail;

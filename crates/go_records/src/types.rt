@@ -3,8 +3,8 @@ ghost use Rattle.std.specs.Prelude.{ℕ, ◌≡◌, [], ◌++◌, ◌==◌, ◌&
 ghost use Rattle.go_term.specs.Basics.{basic_text};
 ghost use Rattle.go_term.specs.Types.{more_parts, no_parts, parts_of};
 ghost use Rattle.go_term.specs.View.{elem_of, field_of, signature_of, type_of, union_term_of};
-ghost use Rattle.go_model.specs.Report.{NamedData, named_view};
-ghost use Rattle.go_model.specs.Text.Types as texts;
+ghost use Rattle.go_report.specs.Report.{NamedData, named_view};
+ghost use Rattle.go_report.specs.Text.Types as texts;
 
 use crate::names::Names;
 use crate::objects::{put_object, put_param};

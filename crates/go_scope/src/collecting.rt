@@ -2,10 +2,11 @@
 ghost use Rattle.std.specs.Prelude.{◌≡◌, ◌++◌, [], IfOk, IfErr, OnOk, length, map};
 ghost use Rattle.std.specs.List.{flat_map};
 ghost use Rattle.indexmap.specs.IndexMap.{insert_all};
-ghost use Rattle.go_module.specs.Modules.Module.{ModuleData, file_view, module_view};
+ghost use Rattle.go_module.specs.Modules.Module.{ModuleData, file_view, module_view, package_view};
 ghost use Rattle.go_module.specs.Names.Rules.BlockRules as rule;
 ghost use Rattle.go_module.specs.Names.Rules.BrokenNames.{broken_block};
 ghost use Rattle.go_module.specs.Names.Declarations.{declarations_in};
+ghost use Rattle.go_module.specs.Names.Iotas.{iotas_of};
 ghost use Rattle.go_module.specs.Names.PackageBlock as spec;
 ghost use Rattle.go_module.specs.Names.Tables.{IsScopesOf};
 ghost use Rattle.go_module.specs.Scopes.{same_node, same_object};
@@ -21,6 +22,7 @@ use crate::block_rules::{add_repeated, add_reserved, is_main_name};
 use crate::check::check_files;
 use crate::file_block::{FileBlock, file_blocks};
 use crate::held::Declared;
+use crate::iotas::iotas_of;
 use crate::known::Before;
 use crate::package_block::package_block;
 use crate::resolved::{Around, Resolved};
@@ -79,7 +81,7 @@ fn collect_own(
         let told = with_numbers(alloc, &own.files, &found)?;
         return Err(ScopeFault::Broken(ordered(told)));
     }
-    let scopes = scopes_of(alloc, before, outer, block, blocks, &lists)?;
+    let scopes = scopes_of(alloc, before, own, outer, block, blocks, &lists)?;
     Ok(scopes)
 }
 
@@ -126,10 +128,11 @@ fn check_names(
     Ok(lists)
 }
 
-// The tables of these regions and of what the occurrences denote.
+// The tables of these regions, of what the occurrences denote, and of the numbers of each iota in the package.
 fn scopes_of(
     alloc: Global,
     before: &Before,
+    own: &Package,
     outer: &[Region],
     block: &[Region],
     blocks: &[FileBlock],
@@ -141,6 +144,8 @@ fn scopes_of(
         ++ spec.region_entries block.now))) }
     ensures uses { IfOk result (λ scopes. scopes.uses.entries ≡ insert_all same_node []
         (flat_map (pairs_by (known_by before.now)) (all_of (map (λ list. list.items) lists.now)))) }
+    ensures iotas { IfOk result (λ scopes. scopes.iotas.entries
+        ≡ insert_all same_node [] (iotas_of (package_view own.now))) }
     ensures methods { IfOk result (λ scopes. scopes.methods.entries ≡ []) }
     ensures names { IfOk result (λ scopes. scopes.names.entries ≡ spec.names_of block.now) }
 {
@@ -152,6 +157,7 @@ fn scopes_of(
     Ok(Scopes {
         objects,
         uses: uses_of(alloc, before, lists)?,
+        iotas: iotas_of(alloc, &own.files)?,
         methods: IndexMap::new(alloc),
         names: names_of(alloc, block)?,
     })

@@ -26,6 +26,7 @@ mod occurrence_rules;
 // The scopes of a package.
 mod check;
 mod collecting;
+mod iotas;
 mod laws;
 mod scope_fault;
 mod tables;

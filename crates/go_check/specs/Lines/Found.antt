@@ -10,12 +10,12 @@ use Rattle.go_module.specs.Names.Declarations.{Spec, declarations_in, specs_in_f
 use Rattle.go_module.specs.Names.Occurrences.{names_in_parts}
 use Rattle.go_operands.specs.Operands.{expressions_in_parts}
 use Rattle.go_module.specs.NodeParts.{first_part}
-use Rattle.go_model.specs.declared.declared_object.DeclaredObject.{DeclaredObject}
+use Rattle.go_report.specs.declared.declared_object.DeclaredObject.{DeclaredObject}
 use Rattle.go_judge.specs.Judged.{OutcomeData}
 use Rattle.go_judge.specs.Records.{RecData}
-use Rattle.go_model.specs.Outline.{Outline, declared_by}
-use Rattle.go_model.specs.PackageLines.{def_by, expr_by, import_defs_in, member_defs_by, occurrence_uses, written}
-use Rattle.go_model.specs.Report.{LineData}
+use Rattle.go_report.specs.Outline.{Outline, declared_by}
+use Rattle.go_report.specs.PackageLines.{def_by, expr_by, import_defs_in, member_defs_by, occurrence_uses, written}
+use Rattle.go_report.specs.Report.{LineData}
 use Rattle.go_names.specs.Views.{specs_view, trees_at}
 use Rattle.go_check.specs.declared.own_file.OwnFile.{OwnFile}
 

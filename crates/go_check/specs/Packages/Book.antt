@@ -6,7 +6,7 @@ use Rattle.go_tree.specs.declared.node.NodeId.{NodeId}
 use Rattle.go_module.specs.declared.module.Module.{Module}
 use Rattle.go_module.specs.declared.scopes.Scopes.{Scopes}
 use Rattle.go_judge.specs.Naming.{Naming, no_names}
-use Rattle.go_model.specs.Values.Naming.{names_by}
+use Rattle.go_model.specs.Naming.{names_by}
 use Rattle.go_check.specs.declared.module_judge.ModuleJudge.{ModuleJudge}
 
 pub record Standing : Type 0 where
@@ -23,7 +23,7 @@ home_at «module» place = option_map_or (λ p. p.path) (slice_get «module».pa
 
 -- what the scopes of a package say of identifiers and objects
 abbrev pub scope_names : List ℕ → Scopes → Naming
-scope_names home scopes = names_by scopes.uses.entries scopes.objects.entries home
+scope_names home scopes = names_by scopes.uses.entries scopes.iotas.entries scopes.objects.entries home
 
 -- what is known of identifiers in the package at a place: where there are no scopes, they denote nothing
 abbrev pub names_at : Module → List Scopes → ℕ → Naming

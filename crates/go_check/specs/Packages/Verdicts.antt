@@ -4,9 +4,9 @@ use Rattle.go_base.specs.declared.ids.ObjId.{ObjId}
 use Rattle.go_tree.specs.declared.node.NodeId.{NodeId}
 use Rattle.go_module.specs.Modules.Module.{PackageData}
 use Rattle.go_judge.specs.Naming.{Naming}
-use Rattle.go_model.specs.Outline.{Outline}
-use Rattle.go_model.specs.PackageLines.{AreLines, named_in}
-use Rattle.go_model.specs.Report.{LineData, VerdictData, accepted}
+use Rattle.go_report.specs.Outline.{Outline}
+use Rattle.go_report.specs.PackageLines.{AreLines, named_in}
+use Rattle.go_report.specs.Report.{LineData, VerdictData, accepted}
 use Rattle.go_judge.specs.Headers.{Headers}
 
 -- it is accepted with its lines, and with the objects that their types name

@@ -25,7 +25,7 @@ use Rattle.go_judge.specs.Judged.{OutcomeData}
 use Rattle.go_judge.specs.Records.{RecData, type_in}
 use Rattle.go_judge.specs.Headers.{Headers}
 use Rattle.go_judge.specs.Quests.{Decided, run}
-use Rattle.go_model.specs.Values.Records.{record_by}
+use Rattle.go_model.specs.Outcomes.Readings.{record_by}
 
 -- what stands for a type in an interface: the parameters and results of its methods, and no embedded type
 abbrev pub is_method_elem : NodeKind → Bool

@@ -16,6 +16,10 @@ record_in (Broken rule spots) = None
 record_in (Waits d) = None
 record_in Nothing = None
 
+-- by whatever says which outcome a node has: the record of an expression, where it has one
+abbrev pub record_by : {R : Type 0} → (Tree → OutcomeData R) → Tree → Option R
+record_by outcome t = record_in (outcome t)
+
 -- the declaration whose header a node waits for
 abbrev pub awaited_in : {R : Type 0} → OutcomeData R → List ℕ
 awaited_in (Found r) = []
@@ -33,10 +37,14 @@ spot_start t Whole = start_of t
 spot_start t Name = start_among (list_of (parts_of t)) t 1
 spot_start t (Part n) = start_among (operands_of t) t n
 
--- what is broken in the file at a place among those of its package: the rule at each of its spots, or at the offset at
--- which a copy is told
+-- what is broken in the file at a place among those of its package, where this says at which offsets spots stand: the rule
+-- at each of its spots, or at the offset at which a copy is told
+abbrev pub spots_told : {R : Type 0} → ℕ → Option ℕ → (Spot → ℕ) → OutcomeData R → List BrokenAt
+spots_told file told starts (Found r) = []
+spots_told file told starts (Broken rule spots) = map (λ spot. broken_at file (unwrap_or told (starts spot)) rule) spots
+spots_told file told starts (Waits d) = []
+spots_told file told starts Nothing = []
+
+-- at a node
 abbrev pub broken_spots : {R : Type 0} → ℕ → Option ℕ → Tree → OutcomeData R → List BrokenAt
-broken_spots file told t (Found r) = []
-broken_spots file told t (Broken rule spots) = map (λ spot. broken_at file (unwrap_or told (spot_start t spot)) rule) spots
-broken_spots file told t (Waits d) = []
-broken_spots file told t Nothing = []
+broken_spots file told t outcome = spots_told file told (spot_start t) outcome

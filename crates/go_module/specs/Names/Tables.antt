@@ -1,6 +1,6 @@
 -- Declarations and scope; Qualified identifiers (Go specification).
 -- Decides what the tables of a package's scopes hold: its objects, the object that each occurrence denotes,
--- and the names of its block.
+-- the number of each iota, and the names of its block.
 use Rattle.std.specs.Prelude.{◌≡◌, ℕ, ◌+◌, List, [], ◌∷◌, ◌++◌, map, Option, Some, None, slice_get}
 use Rattle.std.specs.List.{flat_map}
 use Rattle.std.specs.Option.{option_map_or}
@@ -15,6 +15,7 @@ use Rattle.go_module.specs.declared.scopes.Scopes.{Scopes}
 use Rattle.go_module.specs.Modules.Module.{FileData, PackageData, ModuleData}
 use Rattle.go_module.specs.Scopes.{same_node, same_object}
 use Rattle.go_module.specs.Names.Rules.BrokenNames.{broken_names}
+use Rattle.go_module.specs.Names.Iotas.{iotas_of}
 use Rattle.go_module.specs.Names.Imports.{PackageNames, file_block, imports_of, known_in}
 use Rattle.go_module.specs.Names.PackageBlock.{names_of, object_id, package_block, region_entries}
 use Rattle.go_module.specs.Names.Universe.{universe}
@@ -70,6 +71,7 @@ objects_in known k p =
 pub record HasTables (m : ModuleData) (k : ℕ) (p : PackageData) (scopes : Scopes) : Type 0 where
   pub objects : scopes.objects.entries ≡ insert_all same_object [] (objects_in (known_in m) k p)
   pub uses : scopes.uses.entries ≡ insert_all same_node [] (uses_of (known_in m) k p)
+  pub iotas : scopes.iotas.entries ≡ insert_all same_node [] (iotas_of p)
   pub methods : scopes.methods.entries ≡ []
   pub names : scopes.names.entries ≡ names_of (package_block k p)
 

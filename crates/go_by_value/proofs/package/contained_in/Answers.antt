@@ -7,7 +7,7 @@ use Rattle.go_module.specs.Places.{with_number}
 use Rattle.go_names.specs.Views.{all_specs, declarations_view, specs_by_file, specs_view}
 use Rattle.go_cycles.specs.Places.{marked_by, placed_by}
 use Rattle.go_cycles.proofs.ListLemmas.{all_from}
-use Rattle.go_model.specs.Values.ByValue.{Contained, broken_contained}
+use Rattle.go_values.specs.ByValue.{Contained, broken_contained}
 use Rattle.go_by_value.specs.Holding.{broken_in}
 use Rattle.go_by_value.proofs.package.contained_in.Goals as goal
 

@@ -1,7 +1,7 @@
 use Rattle.std.proofs.Common.{◌≡◌, List, subst}
 use Rattle.std.specs.Prelude.{OnOk}
 use Rattle.go_base.specs.declared.ids.ObjId.{ObjId}
-use Rattle.go_model.specs.declared.declared_object.DeclaredObject.{DeclaredObject}
+use Rattle.go_report.specs.declared.declared_object.DeclaredObject.{DeclaredObject}
 use Rattle.go_check.proofs.DeclaredLemmas.{file_added}
 use Rattle.go_check.proofs.declared.add_file.Goals as goal
 

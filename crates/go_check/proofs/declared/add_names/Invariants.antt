@@ -2,7 +2,7 @@ use Rattle.std.proofs.Common.{◌≡◌, map, drop}
 use Rattle.indexmap.specs.IndexMap.{insert_all}
 use Rattle.go_module.specs.Scopes.{same_object}
 use Rattle.go_module.specs.Modules.Module.{file_view}
-use Rattle.go_model.specs.Outline.{declared_by}
+use Rattle.go_report.specs.Outline.{declared_by}
 use Rattle.go_names.specs.Views.{declaration_view}
 use Rattle.go_check.proofs.declared.add_names.Given as goal
 

@@ -2,7 +2,7 @@ use Rattle.std.proofs.Common.{◌≡◌, [], map, drop}
 use Rattle.indexmap.specs.IndexMap.{insert_all}
 use Rattle.go_module.specs.Scopes.{same_object}
 use Rattle.go_module.specs.Modules.Module.{package_view}
-use Rattle.go_model.specs.Outline.{declared_in_packages}
+use Rattle.go_report.specs.Outline.{declared_in_packages}
 use Rattle.go_check.proofs.declared.declared_objects.Given as goal
 
 -- the table, with the declarations of the packages left, is that of all packages

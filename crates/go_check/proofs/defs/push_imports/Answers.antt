@@ -1,5 +1,5 @@
 use Rattle.std.proofs.Common.{◌≤◌, min, length, map, arith}
-use Rattle.go_model.specs.Report.{line_view}
+use Rattle.go_report.specs.Report.{line_view}
 use Rattle.go_check.specs.Lines.Found.{own_file_view}
 use Rattle.go_check.specs.View.{outline_view}
 use Rattle.go_check.proofs.FoundLemmas.{imports_done}

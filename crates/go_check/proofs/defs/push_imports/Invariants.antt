@@ -1,6 +1,6 @@
 use Rattle.std.proofs.Common.{◌≡◌, ◌++◌, map, drop}
 use Rattle.std.specs.List.{zip}
-use Rattle.go_model.specs.Report.{line_view}
+use Rattle.go_report.specs.Report.{line_view}
 use Rattle.go_names.specs.Views.{trees_at}
 use Rattle.go_check.specs.Lines.Found.{import_lines, own_file_view}
 use Rattle.go_check.specs.View.{outline_view}

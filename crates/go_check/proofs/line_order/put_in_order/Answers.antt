@@ -2,9 +2,9 @@ use Rattle.std.proofs.Common.{◌≡◌, ℕ, Bool, rules, ap, sym}
 use Rattle.std.proofs.lemmas.Fn.{always_returns_same}
 use Rattle.std.specs.declared.cmp.Reverse.{Reverse}
 use Rattle.std.specs.Ordering.{is_lt, nat_cmp, ordering_then}
-use Rattle.go_model.specs.declared.lines.Line.{Line}
-use Rattle.go_model.specs.LineOrder.{end_of}
-use Rattle.go_model.specs.Report.{line_view}
+use Rattle.go_report.specs.declared.lines.Line.{Line}
+use Rattle.go_report.specs.LineOrder.{end_of}
+use Rattle.go_report.specs.Report.{line_view}
 use Rattle.go_check.proofs.OrderedLemmas.{in_order, then_behind}
 use Rattle.go_check.proofs.line_order.put_in_order.Goals as goal
 

@@ -1,6 +1,6 @@
 use Rattle.std.proofs.Common.{◌+◌, drop, map, ap, arith}
 use Rattle.std.proofs.lemmas.List.{drop_all}
-use Rattle.go_model.specs.Report.{line_view}
+use Rattle.go_report.specs.Report.{line_view}
 use Rattle.go_check.specs.Lines.Found.{def_lines, own_file_view, own_files_view}
 use Rattle.go_expr.specs.Read.{outcome_read}
 use Rattle.go_expr.specs.Walker.{outcomes_view}

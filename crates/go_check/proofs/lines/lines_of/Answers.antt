@@ -1,10 +1,10 @@
 use Rattle.std.proofs.Common.{◌≡◌, ◌++◌, List, map, ap, ◌∙◌, subst}
 use Rattle.std.proofs.lemmas.List.{map-append}
 use Rattle.std.proofs.lemmas.Result.{IfOk-weaker}
-use Rattle.go_model.specs.declared.lines.Line.{Line}
-use Rattle.go_model.specs.LineOrder.{AreInOrder}
+use Rattle.go_report.specs.declared.lines.Line.{Line}
+use Rattle.go_report.specs.LineOrder.{AreInOrder}
 use Rattle.go_model.specs.Outcomes.Walked.{AreWalked}
-use Rattle.go_model.specs.Report.{LineData, line_view}
+use Rattle.go_report.specs.Report.{LineData, line_view}
 use Rattle.go_check.specs.Lines.Found.{nodes_of_files, own_files_view}
 use Rattle.go_check.specs.Packages.Book.{denotes_by}
 use Rattle.go_expr.specs.Walker.{outcomes_view}

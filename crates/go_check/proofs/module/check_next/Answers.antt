@@ -4,12 +4,13 @@ use Rattle.std.specs.List.{list_all}
 use Rattle.go_graph.specs.Graph.{is_marked}
 use Rattle.go_module.specs.declared.module.Module.{Module}
 use Rattle.go_module.specs.Modules.Module.{PackageData, module_view, package_view}
-use Rattle.go_model.specs.Phases.{IsVerdict, imports_accepted}
-use Rattle.go_model.specs.Report.{skipped, verdict_view}
+use Rattle.go_report.specs.Phases.{IsVerdict, imports_accepted}
+use Rattle.go_report.specs.Report.{skipped, verdict_view}
 use Rattle.go_judge.specs.HeadersView.{headers_view}
 use Rattle.go_check.specs.declared.rulebook.Rulebook.{Rulebook}
 use Rattle.go_check.specs.Packages.Names.{ImportsSound}
 use Rattle.go_check.specs.Packages.State.{state_view}
+use Rattle.go_decl.proofs.HonestHeaders.{honest_same}
 use Rattle.go_decl.proofs.ListLemmas.{viewed_at}
 use Rattle.go_check.proofs.ResultLemmas.{four_on_ok}
 use Rattle.go_check.proofs.StateLemmas.{front_checks, front_skips, imports_sound, next_state}
@@ -48,7 +49,8 @@ returns-in_ok-verdict g c =
     (front_checks m k p at (state_view old) verdict after c.requires.state.front accepted told)
     (ap (λ (b : Rulebook). b.judge.«module».now) book ∙ c.check_package.ensures.module ∙ c.requires.state.over)
     (ap (λ (b : Rulebook). b.judge.scopes.now) book ∙ c.check_package.ensures.scopes ∙ c.requires.state.scopes)
-    (ap headers_view known ∙ c.in_ok-verdict.ensures.known ∙ sym (ap (λ (b : Rulebook). headers_view b.judge.headers) book)))
+    (ap headers_view known ∙ c.in_ok-verdict.ensures.known ∙ sym (ap (λ (b : Rulebook). headers_view b.judge.headers) book))
+    (honest_same c.check_package.ensures.honest (ap (λ (b : Rulebook). headers_view b.judge.headers) book)))
     c.add_report.ensures.marks c.add_report.ensures.book c.add_report.ensures.known c.add_report.ensures.reports
 
 pub returns-else-imports_accepted : goal.returns-else-imports_accepted
@@ -68,5 +70,6 @@ returns-else-imports_accepted g c =
     (front_skips m k p at (state_view old) c.requires.state.front not_accepted)
     (ap (λ (b : Rulebook). b.judge.«module».now) book ∙ c.requires.state.over)
     (ap (λ (b : Rulebook). b.judge.scopes.now) book ∙ c.requires.state.scopes)
-    (ap headers_view known ∙ c.requires.state.same ∙ sym (ap (λ (b : Rulebook). headers_view b.judge.headers) book)))
+    (ap headers_view known ∙ c.requires.state.same ∙ sym (ap (λ (b : Rulebook). headers_view b.judge.headers) book))
+    (honest_same c.requires.state.honest (ap (λ (b : Rulebook). headers_view b.judge.headers) book)))
     c.add_report-else-imports_accepted.ensures.marks c.add_report-else-imports_accepted.ensures.book c.add_report-else-imports_accepted.ensures.known c.add_report-else-imports_accepted.ensures.reports

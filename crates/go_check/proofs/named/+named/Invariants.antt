@@ -3,7 +3,7 @@ use Rattle.indexmap.specs.IndexMap.{insert_all}
 use Rattle.go_module.specs.Scopes.{same_object}
 use Rattle.go_term.specs.Types.{parts_of}
 use Rattle.go_term.specs.View.{elem_of, field_of, type_of, union_term_of}
-use Rattle.go_model.specs.PackageLines.{objects_in_parts}
+use Rattle.go_report.specs.PackageLines.{objects_in_parts}
 use Rattle.go_check.proofs.named.+named.Given as goal
 
 -- the table, with the objects of the parts left, is that of all parts

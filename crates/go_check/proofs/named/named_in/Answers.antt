@@ -1,5 +1,5 @@
 use Rattle.std.proofs.Common.{map, ◌∙◌}
-use Rattle.go_model.specs.Report.{named_view}
+use Rattle.go_report.specs.Report.{named_view}
 use Rattle.go_check.specs.View.{outline_view}
 use Rattle.go_check.proofs.NamedLemmas.{all_named}
 use Rattle.go_check.proofs.named.named_in.Goals as goal

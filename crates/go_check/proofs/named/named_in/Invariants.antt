@@ -2,9 +2,9 @@ use Rattle.std.proofs.Common.{◌≡◌, ◌++◌, [], map, drop}
 use Rattle.std.specs.List.{flat_map}
 use Rattle.indexmap.specs.IndexMap.{insert_all}
 use Rattle.go_module.specs.Scopes.{same_object}
-use Rattle.go_model.specs.PackageLines.{objects_in_what}
-use Rattle.go_model.specs.Outline.{named_by}
-use Rattle.go_model.specs.Report.{line_view, named_view}
+use Rattle.go_report.specs.PackageLines.{objects_in_what}
+use Rattle.go_report.specs.Outline.{named_by}
+use Rattle.go_report.specs.Report.{line_view, named_view}
 use Rattle.go_check.specs.View.{outline_view}
 use Rattle.go_check.proofs.named.named_in.Given as goal
 

@@ -9,6 +9,7 @@ returns c = λ m k is. record {
   tables = record {
     objects = c.shrink_to_fit.ensures.entries ∙ is.tables.objects;
     uses = c.shrink_to_fit-2.ensures.entries ∙ is.tables.uses;
+    iotas = c.shrink_to_fit-3.ensures.entries ∙ is.tables.iotas;
     methods = is.tables.methods;
     names = is.tables.names;
   };

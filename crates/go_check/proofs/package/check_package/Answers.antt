@@ -3,8 +3,8 @@ use Rattle.std.specs.Option.{option_map_or}
 use Rattle.std.proofs.lemmas.Result.{IfOk-weaker}
 use Rattle.go_module.specs.Modules.Module.{module_view, package_view}
 use Rattle.go_module.specs.Places.{placed_by}
-use Rattle.go_model.specs.Phases.{IsVerdict}
-use Rattle.go_model.specs.Report.{refused}
+use Rattle.go_report.specs.Phases.{IsVerdict}
+use Rattle.go_report.specs.Report.{refused}
 use Rattle.go_judge.specs.HeadersView.{headers_view}
 use Rattle.go_scope.specs.Collecting.{IsCollected}
 use Rattle.go_check.specs.Packages.Names.{IsBrokenAt, is_sound, sound_at}

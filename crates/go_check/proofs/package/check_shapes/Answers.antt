@@ -4,8 +4,8 @@ use Rattle.std.proofs.lemmas.Result.{IfOk-weaker}
 use Rattle.go_module.specs.declared.scopes.Scopes.{Scopes}
 use Rattle.go_module.specs.Modules.Module.{module_view, package_view}
 use Rattle.go_module.specs.Places.{placed_by}
-use Rattle.go_model.specs.Phases.{BreaksShapes, IsVerdict}
-use Rattle.go_model.specs.Report.{refused}
+use Rattle.go_report.specs.Phases.{BreaksShapes, IsVerdict}
+use Rattle.go_report.specs.Report.{refused}
 use Rattle.go_judge.specs.HeadersView.{headers_view}
 use Rattle.go_decl.proofs.ListLemmas.{viewed_at}
 use Rattle.go_check.proofs.NamesLemmas.{get_at}

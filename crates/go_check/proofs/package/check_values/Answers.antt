@@ -3,12 +3,13 @@ use Rattle.std.proofs.lemmas.Result.{IfOk-weaker}
 use Rattle.go_module.specs.Modules.Module.{PackageData, module_view, package_view}
 use Rattle.go_judge.specs.declared.headers.Headers.{Headers as HeaderMap}
 use Rattle.go_model.specs.Outcomes.Walked.{AreWalked, nodes_of}
-use Rattle.go_model.specs.Phases.{BreaksValues, IsVerdict}
-use Rattle.go_model.specs.Report.{verdict_view}
+use Rattle.go_report.specs.Phases.{BreaksValues, IsVerdict}
+use Rattle.go_report.specs.Report.{verdict_view}
 use Rattle.go_judge.specs.HeadersView.{headers_view}
 use Rattle.go_judge.specs.Naming.{AreThere, Naming}
-use Rattle.go_model.specs.Values.Naming.{names_in}
+use Rattle.go_model.specs.Naming.{names_in}
 use Rattle.go_expr.specs.Walker.{outcomes_view}
+use Rattle.go_decl.proofs.HonestHeaders.{honest_same}
 use Rattle.go_decl.proofs.ListLemmas.{on_ok, viewed_at}
 use Rattle.go_check.specs.Packages.Book.{Standing, book_names, names_at}
 use Rattle.go_check.proofs.package.check_values.Goals as goal
@@ -18,6 +19,9 @@ broken_values-requires-clause-there g c = subst AreThere (ap (λ (s : Standing).
 
 pub broken_values-requires-clause-same : goal.broken_values-requires-clause-same
 broken_values-requires-clause-same g c = c.requires.same ∙ ap headers_view (sym c.enter.ensures.headers)
+
+pub broken_values-requires-clause-honest : goal.broken_values-requires-clause-honest
+broken_values-requires-clause-honest g c = honest_same c.requires.honest (ap headers_view c.enter.ensures.headers)
 
 pub returns-clause-verdict : goal.returns-clause-verdict
 returns-clause-verdict g c =

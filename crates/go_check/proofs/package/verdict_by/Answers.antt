@@ -2,9 +2,9 @@ use Rattle.std.proofs.Common.{◌≡◌, map, sym, subst}
 use Rattle.std.proofs.lemmas.Result.{IfOk-weaker}
 use Rattle.go_module.specs.Modules.Module.{package_view}
 use Rattle.go_module.specs.Places.{placed_by}
-use Rattle.go_model.specs.Phases.{IsVerdict}
-use Rattle.go_model.specs.Report.{refused, verdict_view}
-use Rattle.go_model.specs.Values.Naming.{names_in}
+use Rattle.go_report.specs.Phases.{IsVerdict}
+use Rattle.go_report.specs.Report.{refused, verdict_view}
+use Rattle.go_model.specs.Naming.{names_in}
 use Rattle.go_check.specs.Packages.Book.{denotes_by}
 use Rattle.go_check.specs.Packages.Verdicts.{IsAccepting}
 use Rattle.go_check.proofs.VerdictLemmas.{refused_values, sound_verdict}

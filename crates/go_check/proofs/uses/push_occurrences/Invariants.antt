@@ -1,8 +1,8 @@
 use Rattle.std.proofs.Common.{◌≡◌, ◌++◌, map, drop}
 use Rattle.std.specs.List.{flat_map}
-use Rattle.go_model.specs.Report.{line_view}
+use Rattle.go_report.specs.Report.{line_view}
 use Rattle.go_module.specs.Modules.Module.{file_view}
-use Rattle.go_model.specs.PackageLines.{occurrence_uses}
+use Rattle.go_report.specs.PackageLines.{occurrence_uses}
 use Rattle.go_check.specs.Packages.Book.{denotes_by}
 use Rattle.go_check.specs.View.{outline_view}
 use Rattle.go_check.proofs.uses.push_occurrences.Given as goal

@@ -1,5 +1,5 @@
 use Rattle.std.proofs.Common.{◌≡◌, ◌++◌, drop}
-use Rattle.go_model.specs.PackageLines.{written}
+use Rattle.go_report.specs.PackageLines.{written}
 use Rattle.go_names.specs.Views.{specs_view}
 use Rattle.go_check.proofs.uses.written.Given as goal
 

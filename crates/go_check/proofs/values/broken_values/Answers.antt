@@ -3,6 +3,7 @@ use Rattle.go_base.specs.declared.rule.Broken.{Broken}
 use Rattle.go_module.specs.Modules.Module.{module_view}
 use Rattle.go_module.specs.Order.{IsListOf}
 use Rattle.go_model.specs.Outcomes.Walked.{nodes_of}
+use Rattle.go_decl.proofs.HonestHeaders.{honest_same}
 use Rattle.go_decl.proofs.KnownLemmas.{still_own, still_same}
 use Rattle.go_check.proofs.FoundValueLemmas.{breaks_over, still_walked}
 use Rattle.go_check.proofs.values.broken_values.Goals as goal
@@ -39,3 +40,20 @@ returns-clause-known g c =
     let known = c.rounds.new.known in
     let same = still_same first.kept known c.rounds.ensures.own c.in_ok-found.ensures.known first.same in
     still_same second.kept known (still_own first.kept known c.rounds.ensures.own) same second.same
+
+-- what is asked of types leaves the headers as they are
+
+pub returns-in_err-contained-clause-honest : goal.returns-in_err-contained-clause-honest
+returns-in_err-contained-clause-honest g c = honest_same c.rounds.ensures.honest c.by_value.ensures.keeps.same
+
+pub returns-in_err-obliged-clause-honest : goal.returns-in_err-obliged-clause-honest
+returns-in_err-obliged-clause-honest g c = honest_same c.rounds.ensures.honest (c.obligations.ensures.keeps.same ∙ c.by_value.ensures.keeps.same)
+
+pub returns-in_err-append-clause-honest : goal.returns-in_err-append-clause-honest
+returns-in_err-append-clause-honest g c = honest_same c.rounds.ensures.honest (c.obligations.ensures.keeps.same ∙ c.by_value.ensures.keeps.same)
+
+pub returns-in_err-append-2-clause-honest : goal.returns-in_err-append-2-clause-honest
+returns-in_err-append-2-clause-honest g c = honest_same c.rounds.ensures.honest (c.obligations.ensures.keeps.same ∙ c.by_value.ensures.keeps.same)
+
+pub returns-clause-honest : goal.returns-clause-honest
+returns-clause-honest g c = honest_same c.rounds.ensures.honest (c.obligations.ensures.keeps.same ∙ c.by_value.ensures.keeps.same)

@@ -3,7 +3,7 @@ use Rattle.std.specs.List.{list_all}
 use Rattle.go_tree.specs.Tree.{tree_of}
 use Rattle.go_expr.specs.Read.{outcome_read}
 use Rattle.go_judge.specs.Operands.{is_constant}
-use Rattle.go_model.specs.Values.Rules.{has_record}
+use Rattle.go_values.specs.Rules.{has_record}
 use Rattle.go_decl.proofs.broken.are_constants.Given as goal
 
 -- all are constants exactly where all that are left are

@@ -4,7 +4,7 @@ use Rattle.go_expr.specs.Read.{outcome_read}
 use Rattle.go_names.specs.Views.{spec_view}
 use Rattle.go_judge.specs.Kinds.{no_value}
 use Rattle.go_judge.specs.Operands.{is_constant}
-use Rattle.go_model.specs.Values.Rules.{others_by}
+use Rattle.go_values.specs.Rules.{others_by}
 use Rattle.go_decl.proofs.broken.push_no_constants.Given as goal
 
 -- what is pushed, with what those left break, is what all of them break

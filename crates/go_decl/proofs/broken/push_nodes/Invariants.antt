@@ -2,7 +2,7 @@ use Rattle.std.proofs.Common.{◌≡◌, ◌++◌, drop, map}
 use Rattle.std.specs.List.{flat_map}
 use Rattle.go_tree.specs.Tree.{tree_of}
 use Rattle.go_expr.specs.Read.{outcome_read}
-use Rattle.go_model.specs.Values.Rules.{broken_by}
+use Rattle.go_values.specs.Rules.{broken_by}
 use Rattle.go_decl.proofs.broken.push_nodes.Given as goal
 
 abbrev pub invariant-loop-node : goal.invariant-loop-node

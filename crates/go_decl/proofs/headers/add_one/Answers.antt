@@ -5,9 +5,12 @@ use Rattle.go_base.specs.declared.ids.ObjId.{ObjId}
 use Rattle.go_module.specs.Scopes.{same_object}
 use Rattle.go_judge.specs.Records.{header_as}
 use Rattle.go_judge.specs.Headers.{Headers}
+use Rattle.go_constructs.specs.Operators.Honest.{IsHonestHeader}
 use Rattle.go_names.specs.Views.{declaration_view, declarations_view}
 use Rattle.go_expr.proofs.ResultLemmas.{on_err}
 use Rattle.go_decl.specs.Rounds.{IsSettled, IsToldOrNot}
+use Rattle.go_decl.proofs.HonestHeaders.{honest_same}
+use Rattle.go_decl.proofs.HonestHeaderLemmas.{header-honest}
 use Rattle.go_decl.proofs.KnownLemmas.{found_own, has_header, still_agree, still_own, still_same}
 use Rattle.go_decl.proofs.RoundLemmas.{at_place, backed_either, backed_one, backed_same, declared_at, fewer_open, found_over, is_known, is_vacant, learnt_over, settled_none}
 use Rattle.go_decl.proofs.headers.add_one.Goals as goal
@@ -45,6 +48,20 @@ tell-requires-clause-own g c = still_own c.header_over.ensures.types c.args.know
 pub tell-requires-clause-header : goal.tell-requires-clause-header
 tell-requires-clause-header g c = found_own (g.R.Ask.is_type c.header_over.new.walks) c.in_ok-header.field-0 c.in-Some.header c.in-Some.is c.in_ok-header.ensures.own
 
+pub tell-requires-clause-honest : goal.tell-requires-clause-honest
+tell-requires-clause-honest g c = honest_same c.requires.honest c.header_over.ensures.same
+
+pub tell-requires-clause-represented : goal.tell-requires-clause-represented
+tell-requires-clause-represented g c =
+    let headers = g.R.Ask.headers c.args.rules.now in
+    let naming = (g.R.Ask.names c.args.rules.now) in
+    let declaration = declaration_view c.index-declarations-place.result in
+    let tree = g.R.Ask.tree c.header_over.new.walks in
+    let h = header_as tree c.in-Some.header in
+    let kept : g.R.Ask.headers c.header_over.new.walks ≡ headers = c.header_over.ensures.same in
+    let follows = found_over tree naming naming headers headers declaration c.in_ok-header.field-0 (Some c.in-Some.header) refl refl c.in_ok-header.ensures.header c.in-Some.is in
+    subst (λ (m : Headers). IsHonestHeader m h) (sym kept) (header-honest naming headers c.requires.honest declaration h follows)
+
 pub returns-in_ok-tell-in-Some-clause-backed : goal.returns-in_ok-tell-in-Some-clause-backed
 returns-in_ok-tell-in-Some-clause-backed g c =
     let headers = g.R.Ask.headers c.args.rules.now in
@@ -79,6 +96,9 @@ returns-in_err-tell-in-Some-clause-backed g c =
     backed_either headers naming declarations (g.R.Ask.headers c.tell.new.rules) d.0 h declaration is.declared vacant follows
     (subst (λ (m : Headers). IsToldOrNot m d.0 h (g.R.Ask.headers c.tell.new.rules)) kept c.in_err-tell-in-Some.ensures.err)
 
+pub returns-in_err-header-clause-honest : goal.returns-in_err-header-clause-honest
+returns-in_err-header-clause-honest g c = honest_same c.requires.honest c.header_over.ensures.same
+
 pub returns-in_err-header-clause-kept : goal.returns-in_err-header-clause-kept
 returns-in_err-header-clause-kept g c =
     on_err c.from_residual.result _
@@ -112,6 +132,9 @@ returns-in-None-clause-known g c = still_same c.header_over.ensures.types c.args
 
 pub returns-in-None-clause-own : goal.returns-in-None-clause-own
 returns-in-None-clause-own g c = still_own c.header_over.ensures.types c.args.known.now c.requires.own
+
+pub returns-in-None-clause-honest : goal.returns-in-None-clause-honest
+returns-in-None-clause-honest g c = honest_same c.requires.honest c.header_over.ensures.same
 
 pub returns-in-None-clause-settled : goal.returns-in-None-clause-settled
 returns-in-None-clause-settled g c = λ _ d at.

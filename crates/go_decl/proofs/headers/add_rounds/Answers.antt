@@ -11,7 +11,7 @@ use Rattle.go_decl.proofs.headers.add_rounds.Goals as goal
 pub loop-init : goal.loop-init
 loop-init g c =
     let headers = g.R.Ask.headers c.args.rules.now in
-    record { backed = backed_same headers (g.R.Ask.names c.args.rules.now) (declarations_view c.args.declarations.now) headers refl; known = c.requires.same; own = c.requires.own; names = refl; world = refl; types = types_stay }
+    record { backed = backed_same headers (g.R.Ask.names c.args.rules.now) (declarations_view c.args.declarations.now) headers refl; known = c.requires.same; own = c.requires.own; honest = c.requires.honest; names = refl; world = refl; types = types_stay }
 
 pub loop-preserved : goal.loop-preserved
 loop-preserved g c =
@@ -22,6 +22,7 @@ loop-preserved g c =
           (g.R.Ask.headers c.loop.rules) (g.R.Ask.headers c.add_round.new.rules) (g.R.Ask.names c.loop.rules) inv.names inv.backed did.backed;
       known = did.known;
       own = did.own;
+      honest = did.honest;
       names = did.names ∙ inv.names;
       world = did.world ∙ inv.world;
       types = types_then inv.types did.types;

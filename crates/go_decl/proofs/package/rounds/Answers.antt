@@ -6,7 +6,7 @@ use Rattle.go_module.specs.Modules.Module.{PackageData, module_view, package_vie
 use Rattle.go_module.specs.Names.Declarations.{declarations_of}
 use Rattle.go_judge.specs.Records.{HeaderData}
 use Rattle.go_model.specs.Outcomes.Walked.{AreWalked, nodes_of}
-use Rattle.go_model.specs.Values.Headers.{Known}
+use Rattle.go_values.specs.Headers.{Known}
 use Rattle.go_judge.specs.HeadersView.{headers_as}
 use Rattle.go_decl.specs.Broken.{AreBroken}
 use Rattle.go_decl.specs.Rounds.{IsBacked}

@@ -9,9 +9,9 @@ use Rattle.go_operands.specs.Operands.{expressions_in_parts}
 use Rattle.go_module.specs.Order.{IsListOf}
 use Rattle.go_judge.specs.Headers.{Headers}
 use Rattle.go_model.specs.Outcomes.Walked.{AreWalked, nodes_of, walked_over}
-use Rattle.go_model.specs.Values.Headers.{Known}
-use Rattle.go_model.specs.Values.Rules.{broken_values}
-use Rattle.go_model.specs.Values.Waiting.{Chain}
+use Rattle.go_values.specs.Headers.{Known}
+use Rattle.go_values.specs.Rules.{broken_values}
+use Rattle.go_values.specs.Waiting.{Chain}
 use Rattle.go_model.proofs.WalkedLemmas.{are_walked}
 use Rattle.go_names.specs.declared.declaration.Declaration.{Declaration as OwnDeclaration}
 use Rattle.go_names.specs.declared.spec.Spec.{Spec}
@@ -19,6 +19,7 @@ use Rattle.go_names.specs.Views.{declarations_view, specs_view}
 use Rattle.go_expr.proofs.ResultLemmas.{on_err}
 use Rattle.go_decl.specs.Places.{placed_by}
 use Rattle.go_decl.specs.Waits.{marked_by}
+use Rattle.go_decl.proofs.HonestHeaders.{honest_same}
 use Rattle.go_decl.proofs.KnownLemmas.{still_agree, still_own, still_same}
 use Rattle.go_decl.proofs.ListLemmas.{on_ok}
 use Rattle.go_decl.proofs.ReadLemmas.{under_walked}
@@ -58,6 +59,12 @@ returns-in_err-cyclic-clause-err g c =
 pub returns-in_err-cyclic-clause-own : goal.returns-in_err-cyclic-clause-own
 returns-in_err-cyclic-clause-own g c = still_own c.walk_specs.ensures.types c.add_rounds.new.known c.add_rounds.ensures.own
 
+pub returns-in_err-walk_specs-clause-honest : goal.returns-in_err-walk_specs-clause-honest
+returns-in_err-walk_specs-clause-honest g c = honest_same c.add_rounds.ensures.honest c.walk_specs.ensures.same
+
+pub returns-in_err-cyclic-clause-honest : goal.returns-in_err-cyclic-clause-honest
+returns-in_err-cyclic-clause-honest g c = honest_same c.add_rounds.ensures.honest c.walk_specs.ensures.same
+
 pub returns-clause-err : goal.returns-clause-err
 returns-clause-err g c =
     on_err c.broken_values.result _
@@ -66,6 +73,9 @@ returns-clause-err g c =
 
 pub returns-clause-own : goal.returns-clause-own
 returns-clause-own g c = still_own c.walk_specs.ensures.types c.add_rounds.new.known c.add_rounds.ensures.own
+
+pub returns-clause-honest : goal.returns-clause-honest
+returns-clause-honest g c = honest_same c.add_rounds.ensures.honest c.walk_specs.ensures.same
 
 pub returns-clause-known : goal.returns-clause-known
 returns-clause-known g c =

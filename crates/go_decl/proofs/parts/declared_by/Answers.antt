@@ -1,7 +1,7 @@
 use Rattle.std.proofs.Common.{ap, ◌∙◌}
 use Rattle.std.proofs.lemmas.List.{append-nil}
 use Rattle.go_module.specs.Names.Declarations.{declarations_in, declared_in}
-use Rattle.go_model.specs.Values.Declared.{declared_as}
+use Rattle.go_values.specs.Declared.{declared_as}
 use Rattle.go_names.specs.Views.{declarations_view, spec_view, specs_view}
 use Rattle.go_decl.proofs.parts.declared_by.Goals as goal
 

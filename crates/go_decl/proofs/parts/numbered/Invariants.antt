@@ -1,5 +1,5 @@
 use Rattle.std.proofs.Common.{◌≡◌, drop}
-use Rattle.go_model.specs.Values.Declared.{declared_as}
+use Rattle.go_values.specs.Declared.{declared_as}
 use Rattle.go_names.specs.Views.{declarations_view}
 use Rattle.go_decl.proofs.parts.numbered.Given as goal
 

@@ -4,7 +4,7 @@ use Rattle.go_module.specs.Modules.Module.{file_view, package_view}
 use Rattle.go_module.specs.Names.Declarations.{declarations_of, specs_of}
 use Rattle.go_module.specs.Order.{IsListOf}
 use Rattle.go_module.specs.Places.{with_number}
-use Rattle.go_model.specs.Values.Rules.{broken_cycles, broken_in_files, broken_spec_by, broken_values}
+use Rattle.go_values.specs.Rules.{broken_cycles, broken_in_files, broken_spec_by, broken_values}
 use Rattle.go_names.specs.Views.{declarations_view}
 use Rattle.go_expr.specs.Read.{outcome_read}
 use Rattle.go_decl.specs.Places.{placed_by}

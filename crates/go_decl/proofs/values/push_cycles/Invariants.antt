@@ -1,5 +1,5 @@
 use Rattle.std.proofs.Common.{◌≡◌, ◌++◌, drop}
-use Rattle.go_model.specs.Values.Rules.{broken_cycles}
+use Rattle.go_values.specs.Rules.{broken_cycles}
 use Rattle.go_names.specs.Views.{declarations_view}
 use Rattle.go_decl.specs.Places.{placed_by}
 use Rattle.go_decl.specs.Waits.{marked_by}

@@ -1,5 +1,5 @@
 use Rattle.std.proofs.Common.{arith}
-use Rattle.go_model.specs.Values.Rules.{broken_spec_by}
+use Rattle.go_values.specs.Rules.{broken_spec_by}
 use Rattle.go_names.specs.Views.{spec_view}
 use Rattle.go_expr.specs.Read.{outcome_read}
 use Rattle.go_decl.proofs.ListLemmas.{drop-step, one_more}

@@ -1,6 +1,6 @@
 use Rattle.std.proofs.Common.{◌≡◌, ◌++◌, drop}
 use Rattle.std.specs.List.{flat_map}
-use Rattle.go_model.specs.Values.Rules.{broken_spec_by}
+use Rattle.go_values.specs.Rules.{broken_spec_by}
 use Rattle.go_names.specs.Views.{specs_view}
 use Rattle.go_expr.specs.Read.{outcome_read}
 use Rattle.go_decl.proofs.values.push_specs.Given as goal

@@ -2,7 +2,7 @@ use Rattle.std.proofs.Common.{sym, ◌∙◌, subst}
 use Rattle.std.proofs.lemmas.Result.{IfOk-weaker}
 use Rattle.go_graph.specs.Graph.{Graph, IsGraph, Path}
 use Rattle.go_names.specs.Views.{declarations_view}
-use Rattle.go_model.specs.Values.Waiting.{awaited_under}
+use Rattle.go_values.specs.Waiting.{awaited_under}
 use Rattle.go_expr.specs.Read.{outcome_read}
 use Rattle.go_decl.proofs.WaitLemmas.{marks_are_chains, read_graph, waits_graph}
 use Rattle.go_decl.proofs.waits.cyclic_declarations.Goals as goal

@@ -1,7 +1,7 @@
 use Rattle.std.proofs.Common.{◌≡◌, ◌++◌, drop, map}
 use Rattle.std.specs.List.{flat_map}
 use Rattle.go_tree.specs.Tree.{tree_of}
-use Rattle.go_model.specs.Values.Waiting.{awaited_among}
+use Rattle.go_values.specs.Waiting.{awaited_among}
 use Rattle.go_expr.specs.Read.{outcome_read}
 use Rattle.go_decl.proofs.waits.push_awaited.Given as goal
 

@@ -2,7 +2,7 @@ use Rattle.std.proofs.Common.{◌≡◌, ◌++◌, drop}
 use Rattle.go_decl.specs.Places.{placed_by}
 use Rattle.go_decl.specs.Waits.{waits_of}
 use Rattle.go_names.specs.Views.{declarations_view}
-use Rattle.go_model.specs.Values.Waiting.{awaited_under}
+use Rattle.go_values.specs.Waiting.{awaited_under}
 use Rattle.go_expr.specs.Read.{outcome_read}
 use Rattle.go_decl.proofs.waits.waits_of.Given as goal
 

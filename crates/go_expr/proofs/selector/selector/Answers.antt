@@ -46,6 +46,22 @@ returns-in-AnyType-clause-outcome g c =
     (λ outcome is. is xs ∙ ap (λ m. judged headers (name m) xs) c.in-AnyType.is ∙ ap (λ m. judged headers (spec.selector m) xs) (sym c.in-AnyType.is))
     c.name-in-AnyType.ensures.outcome
 
+pub returns-in-Truth-clause-outcome : goal.returns-in-Truth-clause-outcome
+returns-in-Truth-clause-outcome g c =
+    let headers = g.J.Ask.headers c.args.judge.now in
+    let xs = map (outcome_as (g.J.Ask.tree c.args.judge.now)) c.args.outcomes.now in
+    IfOk-weaker c.name-in-Truth.result _ _
+    (λ outcome is. is xs ∙ ap (λ m. judged headers (name m) xs) c.in-Truth.is ∙ ap (λ m. judged headers (spec.selector m) xs) (sym c.in-Truth.is))
+    c.name-in-Truth.ensures.outcome
+
+pub returns-in-Iota-clause-outcome : goal.returns-in-Iota-clause-outcome
+returns-in-Iota-clause-outcome g c =
+    let headers = g.J.Ask.headers c.args.judge.now in
+    let xs = map (outcome_as (g.J.Ask.tree c.args.judge.now)) c.args.outcomes.now in
+    IfOk-weaker c.name-in-Iota.result _ _
+    (λ outcome is. is xs ∙ ap (λ m. judged headers (name m) xs) c.in-Iota.is ∙ ap (λ m. judged headers (spec.selector m) xs) (sym c.in-Iota.is))
+    c.name-in-Iota.ensures.outcome
+
 pub returns-in-Predeclared-clause-outcome : goal.returns-in-Predeclared-clause-outcome
 returns-in-Predeclared-clause-outcome g c =
     let headers = g.J.Ask.headers c.args.judge.now in

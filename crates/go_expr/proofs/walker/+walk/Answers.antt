@@ -6,19 +6,23 @@ use Rattle.std.proofs.lemmas.Result.{IfOk-weaker, on_err_weaker}
 use Rattle.go_tree.specs.declared.node.Node.{Node}
 use Rattle.go_tree.specs.Tree.{tree_of}
 use Rattle.go_operands.specs.Operands.{operands_of, expressions_in}
+use Rattle.go_judge.specs.declared.outcome.Outcome.{Outcome}
+use Rattle.go_judge.specs.Headers.{Headers}
 use Rattle.go_judge.specs.Judged.{judged}
 use Rattle.go_model.specs.Outcomes.Walk.{construct, outcome}
 use Rattle.go_judge.specs.View.{outcome_as}
 use Rattle.go_judge.specs.Types.Own.{IsOwnOutcome}
 use Rattle.go_judge.specs.Naming.{AreThere}
-use Rattle.go_model.proofs.OutcomeLemmas.{outcome-operands}
+use Rattle.go_constructs.specs.Operators.Honest.{AreHonest, GivesHonest}
 use Rattle.go_judge.proofs.OwnLemmas.{keeps_then}
 use Rattle.go_model.proofs.WalkedLemmas.{partly_walked}
 use Rattle.go_operands.proofs.OperandLemmas.{operand_part_smaller}
 use Rattle.go_names.specs.Views.{trees_at}
 use Rattle.go_expr.specs.Walker.{outcomes_as}
 use Rattle.go_expr.proofs.OwnOutcomesLemmas.{all-append, all-reverse, list_agrees, list_stays_own}
+use Rattle.go_expr.proofs.HonestLemmas.{outcomes-honest}
 use Rattle.go_expr.proofs.ResultLemmas.{on_err, on_ok}
+use Rattle.go_expr.proofs.StepLemmas.{walked_outcome}
 use Rattle.go_expr.proofs.WalkerLemmas.{broken_off, map-reverse, node_done, outcomes_more, part_within, partly_next, parts_done, walked_more}
 use Rattle.go_expr.proofs.walker.+walk.Goals as goal
 
@@ -27,7 +31,7 @@ walk-requires g t c = λ κs lives.
     let operands = c.in_ok-operands.operands.items in
     let smaller = operand_part_smaller operands operands (tree_of c.args.node.now) (c.loop-place.place - 1) c.index.result.now refl c.in_ok-operands.ensures (omega (arith, c.in_ok-operands.operands.ok.0)) c.index.ensures in
     let inv = c.loop-place.invariant in
-    (omega (arith, smaller, c.decreases), (lives, (subst AreThere (sym inv.keeps.named) c.requires.there, inv.owned)))
+    (omega (arith, smaller, c.decreases), (lives, (subst AreThere (sym inv.keeps.named) c.requires.there, (subst AreHonest (sym inv.keeps.same) c.requires.honest, inv.owned))))
 
 pub loop-place-preserved : goal.loop-place-preserved
 loop-place-preserved g t c =
@@ -65,6 +69,23 @@ step_and_keep-requires-clause-parts g t c =
     let own = IsOwnOutcome (g.J.Ask.is_type c.loop-place.judge) in
     subst (AllByRecursion own) (sym (c.deref.ensures.value ∙ c.reverse.ensures.items)) (all-reverse own c.loop-place.outcomes.items c.loop-place.invariant.own)
 
+pub step_and_keep-requires-clause-honest : goal.step_and_keep-requires-clause-honest
+step_and_keep-requires-clause-honest g t c =
+    let naming = (g.J.Ask.names c.args.judge.now) in
+    let headers = g.J.Ask.headers c.args.judge.now in
+    let view = outcome_as (g.J.Ask.tree c.loop-place.judge) in
+    let inv = c.loop-place.invariant in
+    let node = tree_of c.args.node.now in
+    let first : c.loop-place.place ≡ 0 = omega arith in
+    let parts : map view c.deref.result.now ≡ map (outcome naming headers) (operands_of node) =
+    ap (map view) (c.deref.ensures.value ∙ c.reverse.ensures.items)
+    ∙ map-reverse view c.loop-place.outcomes.items
+    ∙ ap reverse (inv.found ∙ ap (λ n. reverse (map (outcome naming headers) (trees_at (drop n c.in_ok-operands.operands.items)))) first)
+    ∙ reverse-reverse (map (outcome naming headers) (trees_at c.in_ok-operands.operands.items))
+    ∙ ap (map (outcome naming headers)) c.in_ok-operands.ensures in
+    subst (λ (known : Headers). AllByRecursion (GivesHonest known) (map view c.deref.result.now)) (sym inv.keeps.same)
+    (subst (AllByRecursion (GivesHonest headers)) (sym parts) (outcomes-honest naming headers c.requires.honest (operands_of node)))
+
 pub step_and_keep-requires-clause-many : goal.step_and_keep-requires-clause-many
 step_and_keep-requires-clause-many g t c =
     let naming = (g.J.Ask.names c.args.judge.now) in
@@ -95,8 +116,13 @@ returns-clause-outcome g t c =
     ∙ ap reverse (inv.found ∙ ap (λ n. reverse (map (outcome naming headers) (trees_at (drop n c.in_ok-operands.operands.items)))) first)
     ∙ reverse-reverse (map (outcome naming headers) (trees_at c.in_ok-operands.operands.items))
     ∙ ap (map (outcome naming headers)) c.in_ok-operands.ensures in
-    IfOk-weaker c.step_and_keep.result _ _
-    (λ found is. is ∙ (λ j. judged (inv.keeps.same j) (construct (inv.keeps.named j) node) (parts j)) ∙ sym (outcome-operands naming headers node))
+    let inner = g.J.Ask.names c.loop-place.judge in
+    let more = g.J.Ask.headers c.loop-place.judge in
+    let last = outcome_as (g.J.Ask.tree c.step_and_keep.new.judge) in
+    IfOk-weaker c.step_and_keep.result
+    (λ (found : Outcome). last found ≡ judged more (construct inner node) (map view c.deref.result.now))
+    (λ (found : Outcome). last found ≡ outcome naming headers node)
+    (λ found is. walked_outcome naming inner headers more inv.keeps.named inv.keeps.same node (map view c.deref.result.now) parts (last found) is)
     c.step_and_keep.ensures.outcome
 
 pub returns-clause-reached : goal.returns-clause-reached
@@ -111,7 +137,7 @@ returns-clause-reached g t c =
     let first : c.loop-place.place ≡ 0 = omega arith in
     let parts : trees_at (drop c.loop-place.place operands) ≡ operands_of node = ap (λ n. trees_at (drop n operands)) first ∙ c.in_ok-operands.ensures in
     let so_far = parts_done naming headers (flat_map expressions_in (trees_at (drop c.loop-place.place operands))) (flat_map expressions_in (operands_of node)) old inside (ap (flat_map expressions_in) parts) c.loop-place.invariant.reached in
-    on_ok c.step_and_keep.result _ _ _
+    on_ok c.step_and_keep.result (λ (found : Outcome). outcome_as tree found ≡ outcome naming headers node) _ _
     (λ found is entered. node_done naming headers node old inside (outcomes_as tree c.step_and_keep.new.walker) (outcome_as tree found) so_far is entered)
     (returns-clause-outcome g t c) c.step_and_keep.ensures.entered
 

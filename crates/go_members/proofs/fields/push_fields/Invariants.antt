@@ -3,9 +3,9 @@ use Rattle.std.proofs.Common.{◌≡◌, ◌++◌, map, drop}
 use Rattle.go_term.specs.View.{field_of}
 use Rattle.go_module.specs.Modules.Module.{file_view}
 use Rattle.go_names.specs.Views.{trees_at}
-use Rattle.go_model.specs.Members.{each_by, field_member}
-use Rattle.go_model.specs.PackageLines.{member_def}
-use Rattle.go_model.specs.Report.{line_view}
+use Rattle.go_report.specs.Members.{each_by, field_member}
+use Rattle.go_report.specs.PackageLines.{member_def}
+use Rattle.go_report.specs.Report.{line_view}
 use Rattle.go_members.proofs.fields.push_fields.Given as goal
 
 -- what is pushed, with the lines of the names left by the types left, are those of all names

@@ -3,9 +3,9 @@ use Rattle.std.proofs.Common.{◌≡◌, ◌++◌, map, drop}
 use Rattle.go_tree.specs.Tree.{tree_of}
 use Rattle.go_term.specs.View.{elem_of}
 use Rattle.go_module.specs.Modules.Module.{file_view}
-use Rattle.go_model.specs.Members.{each_by, elem_members}
-use Rattle.go_model.specs.PackageLines.{member_def}
-use Rattle.go_model.specs.Report.{line_view}
+use Rattle.go_report.specs.Members.{each_by, elem_members}
+use Rattle.go_report.specs.PackageLines.{member_def}
+use Rattle.go_report.specs.Report.{line_view}
 use Rattle.go_members.proofs.methods.push_elems.Given as goal
 
 -- what is pushed, with the lines of the elements left by the types left, are those of all elements

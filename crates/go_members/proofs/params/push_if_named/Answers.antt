@@ -5,9 +5,9 @@ use Rattle.std.proofs.lemmas.List.{append-nil}
 use Rattle.go_tree.specs.Tree.{tree_of}
 use Rattle.go_term.specs.View.{type_of}
 use Rattle.go_module.specs.Modules.Module.{file_view}
-use Rattle.go_model.specs.Members.{each_by, param_member}
-use Rattle.go_model.specs.PackageLines.{member_def}
-use Rattle.go_model.specs.Report.{line_view}
+use Rattle.go_report.specs.Members.{each_by, param_member}
+use Rattle.go_report.specs.PackageLines.{member_def}
+use Rattle.go_report.specs.Report.{line_view}
 use Rattle.go_names.proofs.MemberLemmas.{any_named}
 use Rattle.go_members.proofs.params.push_if_named.Goals as goal
 

@@ -4,9 +4,9 @@ use Rattle.std.specs.List.{flat_map}
 use Rattle.go_tree.specs.Tree.{tree_of}
 use Rattle.go_term.specs.View.{type_of}
 use Rattle.go_module.specs.Modules.Module.{file_view}
-use Rattle.go_model.specs.Members.{list_members}
-use Rattle.go_model.specs.PackageLines.{member_def}
-use Rattle.go_model.specs.Report.{line_view}
+use Rattle.go_report.specs.Members.{list_members}
+use Rattle.go_report.specs.PackageLines.{member_def}
+use Rattle.go_report.specs.Report.{line_view}
 use Rattle.go_members.proofs.params.push_lists.Given as goal
 
 -- what is pushed, with the lines of the lists left, are those of all lists

@@ -3,9 +3,9 @@ use Rattle.std.proofs.Common.{◌++◌, map, ap}
 use Rattle.go_tree.specs.Tree.{tree_of}
 use Rattle.go_term.specs.View.{type_of}
 use Rattle.go_module.specs.Modules.Module.{file_view}
-use Rattle.go_model.specs.Members.{param_member}
-use Rattle.go_model.specs.PackageLines.{member_def}
-use Rattle.go_model.specs.Report.{line_view}
+use Rattle.go_report.specs.Members.{param_member}
+use Rattle.go_report.specs.PackageLines.{member_def}
+use Rattle.go_report.specs.Report.{line_view}
 use Rattle.go_members.proofs.PartLemmas.{none_left}
 use Rattle.go_members.proofs.params.push_next.Goals as goal
 

@@ -5,9 +5,9 @@ use Rattle.go_tree.specs.Tree.{tree_of}
 use Rattle.go_term.specs.Types.{signature_parts}
 use Rattle.go_term.specs.View.{type_of}
 use Rattle.go_module.specs.Modules.Module.{file_view}
-use Rattle.go_model.specs.Members.{signature_members}
-use Rattle.go_model.specs.PackageLines.{member_def}
-use Rattle.go_model.specs.Report.{line_view}
+use Rattle.go_report.specs.Members.{signature_members}
+use Rattle.go_report.specs.PackageLines.{member_def}
+use Rattle.go_report.specs.Report.{line_view}
 use Rattle.go_members.proofs.PartLemmas.{parts_of_function}
 use Rattle.go_members.proofs.params.push_signature.Goals as goal
 

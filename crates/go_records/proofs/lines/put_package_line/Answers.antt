@@ -2,9 +2,9 @@ use Rattle.std.proofs.Common.{◌++◌, [], ◌∷◌, map, ap, sym, ◌∙◌}
 use Rattle.std.specs.Prelude.{codes}
 use Rattle.std.specs.Option.{option_map}
 use Rattle.go_term.specs.View.{type_of}
-use Rattle.go_model.specs.Report.{named_view, what_view}
-use Rattle.go_model.specs.Text.Lines.{line_text, mode_text, type_fields, value_fields, what_fields}
-use Rattle.go_model.specs.Text.Places.{end_text, place_text}
+use Rattle.go_report.specs.Report.{named_view, what_view}
+use Rattle.go_report.specs.Text.Lines.{line_text, mode_text, type_fields, value_fields, what_fields}
+use Rattle.go_report.specs.Text.Places.{end_text, place_text}
 use Rattle.go_records.proofs.FieldLemmas.{line_in_parts}
 use Rattle.go_records.proofs.lines.put_package_line.Goals as goal
 

@@ -1,7 +1,7 @@
 use Rattle.std.proofs.Common.{◌++◌, [], ◌∷◌, ap, ◌∙◌}
 use Rattle.std.specs.Prelude.{codes}
 use Rattle.std.specs.List.{flat_map}
-use Rattle.go_model.specs.Text.Lines.{broken_fields, first_fields, line_text}
+use Rattle.go_report.specs.Text.Lines.{broken_fields, first_fields, line_text}
 use Rattle.go_records.proofs.TextLemmas.{behind_text}
 use Rattle.go_records.proofs.text.first_text.Goals as goal
 

@@ -1,6 +1,6 @@
 use Rattle.std.proofs.Common.{◌≡◌, ◌++◌, take}
 use Rattle.std.specs.List.{flat_map}
-use Rattle.go_model.specs.Text.Lines.{broken_fields, line_text}
+use Rattle.go_report.specs.Text.Lines.{broken_fields, line_text}
 use Rattle.go_records.proofs.text.put_list.Given as goal
 
 abbrev pub invariant-loop-broken : goal.invariant-loop-broken

@@ -1,7 +1,7 @@
 use Rattle.std.proofs.Common.{◌≡◌, ◌++◌, map, take}
 use Rattle.std.specs.List.{flat_map}
-use Rattle.go_model.specs.Report.{line_view, named_view}
-use Rattle.go_model.specs.Text.Lines.{line_fields, line_text}
+use Rattle.go_report.specs.Report.{line_view, named_view}
+use Rattle.go_report.specs.Text.Lines.{line_fields, line_text}
 use Rattle.go_records.proofs.text.put_package_lines.Given as goal
 
 abbrev pub invariant-loop-line : goal.invariant-loop-line

@@ -1,7 +1,7 @@
 use Rattle.std.proofs.Common.{◌≡◌, ◌++◌, take}
 use Rattle.std.specs.List.{flat_map}
-use Rattle.go_model.specs.Report.{package_view}
-use Rattle.go_model.specs.Text.Lines.{line_text, verdict_fields}
+use Rattle.go_report.specs.Report.{package_view}
+use Rattle.go_report.specs.Text.Lines.{line_text, verdict_fields}
 use Rattle.go_records.proofs.text.put_packages.Given as goal
 
 abbrev pub invariant-loop-own : goal.invariant-loop-own

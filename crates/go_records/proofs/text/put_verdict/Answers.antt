@@ -1,6 +1,6 @@
 use Rattle.std.proofs.Common.{ap, refl}
 use Rattle.std.proofs.lemmas.Result.{on_ok_weaker}
-use Rattle.go_model.specs.Report.{package_view, verdict_view}
+use Rattle.go_report.specs.Report.{package_view, verdict_view}
 use Rattle.go_records.proofs.TextLemmas.{accepted_lines, refused_lines}
 use Rattle.go_records.proofs.text.put_verdict.Goals as goal
 

@@ -1,5 +1,5 @@
-use Rattle.go_model.specs.Report.{PackageReportData, package_view}
-use Rattle.go_model.specs.Text.Lines.{line_text, module_fields, verdict_fields}
+use Rattle.go_report.specs.Report.{PackageReportData, package_view}
+use Rattle.go_report.specs.Text.Lines.{line_text, module_fields, verdict_fields}
 use Rattle.go_records.proofs.TextLemmas.{behind_lines}
 use Rattle.go_records.proofs.text.report_text.Goals as goal
 

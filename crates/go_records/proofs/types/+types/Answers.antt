@@ -2,7 +2,7 @@ use Rattle.std.proofs.Common.{◌≡◌, ◌+◌, ◌-◌, ◌<◌, ◌∷◌, a
 use Rattle.std.proofs.lemmas.Result.{on_ok_weaker}
 use Rattle.go_term.specs.declared.term.Term.{Term}
 use Rattle.go_term.specs.View.{signature_of, type_of}
-use Rattle.go_model.specs.Report.{named_view}
+use Rattle.go_report.specs.Report.{named_view}
 use Rattle.go_records.proofs.TypeLemmas.{named_in_parts, named_of-parts, one_type, signature_in_parts, signature_of-parts}
 use Rattle.go_records.proofs.types.+types.Goals as goal
 

@@ -2,8 +2,8 @@ use Rattle.std.proofs.Common.{◌≡◌, ◌++◌, map, drop, length}
 use Rattle.std.specs.Prelude.{codes, false, if◌then◌else◌}
 use Rattle.go_term.specs.Types.{parts_of}
 use Rattle.go_term.specs.View.{type_of, field_of, elem_of, union_term_of}
-use Rattle.go_model.specs.Report.{named_view}
-use Rattle.go_model.specs.Text.Types.{texts_of, with_dots}
+use Rattle.go_report.specs.Report.{named_view}
+use Rattle.go_report.specs.Text.Types.{texts_of, with_dots}
 use Rattle.go_records.proofs.TypeLemmas.{later}
 use Rattle.go_records.proofs.types.+types.Given as goal
 

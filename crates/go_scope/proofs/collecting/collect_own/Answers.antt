@@ -69,6 +69,7 @@ returns-clause-ok c m stands =
       tables = record {
         objects = c.in_ok-scopes.ensures.objects ∙ ap (insert_all same_object []) objects;
         uses = c.in_ok-scopes.ensures.uses ∙ ap (insert_all same_node []) uses;
+        iotas = c.in_ok-scopes.ensures.iotas;
         methods = c.in_ok-scopes.ensures.methods;
         names = c.in_ok-scopes.ensures.names ∙ ap names_of are.block_is;
       };

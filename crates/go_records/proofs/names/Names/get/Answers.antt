@@ -2,7 +2,7 @@ use Rattle.std.proofs.Common.{ap, find, ◌∙◌}
 use Rattle.std.specs.Prelude.{slice_get}
 use Rattle.std.specs.Option.{option_and_then}
 use Rattle.go_module.specs.Scopes.{same_object}
-use Rattle.go_model.specs.declared.lines.NamedObject.{NamedObject}
+use Rattle.go_report.specs.declared.lines.NamedObject.{NamedObject}
 use Rattle.go_records.proofs.names.Names.get.Goals as goal
 
 pub returns-in-Some : goal.returns-in-Some

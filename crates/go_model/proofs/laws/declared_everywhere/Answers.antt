@@ -1,5 +1,0 @@
-use Rattle.go_model.proofs.OutlineLemmas.{declared_everywhere}
-use Rattle.go_model.proofs.laws.declared_everywhere.Goals as goal
-
-pub returns : goal.returns
-returns c = declared_everywhere

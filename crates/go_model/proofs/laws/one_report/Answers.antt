@@ -1,5 +1,0 @@
-use Rattle.go_model.proofs.OneReportLemmas.{one_report}
-use Rattle.go_model.proofs.laws.one_report.Goals as goal
-
-pub returns : goal.returns
-returns c = one_report

@@ -1,0 +1,4 @@
+pub mod EachLemmas
+pub mod LineOrderLemmas
+pub mod OneReportLemmas
+pub mod OutlineLemmas

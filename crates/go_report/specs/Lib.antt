@@ -1,0 +1,10 @@
+-- the report of a module
+pub mod Phases
+pub mod Report
+pub mod PackageLines
+pub mod Members
+pub mod LineOrder
+pub mod Outline
+pub mod Status
+pub mod Text
+pub mod Laws
