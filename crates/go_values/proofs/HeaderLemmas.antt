@@ -1,53 +1,45 @@
 -- What stays of records and headers as the map of headers grows: a declaration has at most one header.
-use Rattle.std.proofs.Common.{◌≡◌, ℕ, Option, Some, None, List, [], ◌∷◌, ◌++◌, length, map, ◌⊎◌, refl, sym, ap, ◌∙◌, subst, inl, inr, ⊎_elim}
+use Rattle.std.proofs.Common.{◌≡◌, ℕ, Option, Some, None, List, [], ◌∷◌, ◌++◌, ◌⊎◌, refl, sym, ap, ◌∙◌, subst, inl, inr, ⊎_elim}
 use Rattle.std.specs.Prelude.{option_and_then}
 use Rattle.std.proofs.lemmas.Bool.{cases_eq, eq-eqb, ne_eqb}
 use Rattle.go_tree.specs.Tree.{Tree}
 use Rattle.go_judge.specs.Naming.{Naming}
-use Rattle.go_module.specs.Names.Declarations.{Declaration, rests_on}
+use Rattle.go_module.specs.Names.Declarations.{Declaration}
 use Rattle.go_judge.specs.Judged.{Broken, Found, Nothing, OutcomeData, Waits}
 use Rattle.go_model.specs.Outcomes.Readings.{record_in}
 use Rattle.go_judge.specs.Records.{HeaderData, RecData}
 use Rattle.go_judge.specs.Headers.{Headers, headers_of}
 use Rattle.go_model.specs.Outcomes.Walk.{outcome}
-use Rattle.go_values.specs.Declaring.{declaration}
-use Rattle.go_values.specs.Records.{declared_over, header_over, told_by}
+use Rattle.go_values.specs.Records.{header_over, record_of, tells_by, told_by}
 use Rattle.go_values.specs.Headers.{Follows, Justified, Known}
 use Rattle.go_judge.specs.Quests.{IsPart}
-use Rattle.go_model.proofs.OutcomeLemmas.{Lasts, WaitsLacking, all-last, each-lacking, judged-lacking, judged-lasts, outcome-lacking, outcome-lasts}
+use Rattle.go_model.proofs.OutcomeLemmas.{outcome_stays}
+
+record_in-found : {R : Type 0} (x : OutcomeData R) (r : R) → record_in x ≡ Some r → x ≡ Found r
+record_in-found (Found q) r e = let same : Some q ≡ Some r = e in let is : q ≡ r = cc in ap Found is
+record_in-found (Broken rule spots) r e = absurd (let never : None ≡ Some r = e in cc)
+record_in-found (Waits d) r e = absurd (let never : None ≡ Some r = e in cc)
+record_in-found Nothing r e = absurd (let never : None ≡ Some r = e in cc)
 
 -- a record stays as the map grows
-record_in-lasts : (more : Headers) (x y : OutcomeData RecData) → Lasts more x y → (r : RecData) → record_in x ≡ Some r → record_in y ≡ Some r
-record_in-lasts more (Found q) y last r e = let is : y ≡ Found q = last in ap record_in is ∙ e
-record_in-lasts more (Broken rule spots) y last r e = absurd (let never : None ≡ Some r = e in cc)
-record_in-lasts more (Waits d) y last r e = absurd (let never : None ≡ Some r = e in cc)
-record_in-lasts more Nothing y last r e = absurd (let never : None ≡ Some r = e in cc)
+pub record_of-part : (naming : Naming) (known more : Headers) → IsPart known more → (t : Tree) (r : RecData) → record_of naming known t ≡ Some r → record_of naming more t ≡ Some r
+record_of-part naming known more part t r e =
+    ap record_in ((outcome_stays naming known more part t).found r (record_in-found (outcome naming known t) r e))
 
-module _ (naming : Naming) (known more : Headers) (part : IsPart known more) where
-  pub record_of-part : (t : Tree) (r : RecData) → record_in (outcome naming known t) ≡ Some r → record_in (outcome naming more t) ≡ Some r
-  record_of-part t = record_in-lasts more (outcome naming known t) (outcome naming more t) (outcome-lasts naming known more part t)
-
-  -- and so does the outcome of a declaration
-  pub declared-lasts : (d : Declaration) → Lasts more (declared_over naming known d) (declared_over naming more d)
-  declared-lasts d =
-      judged-lasts known more part (declaration d.kind d.built (length d.types) (length d.values)) (map (outcome naming known) (rests_on d)) (map (outcome naming more) (rests_on d))
-      (all-last naming known more part (rests_on d) (λ u h. outcome-lasts naming known more part u))
-
--- and the header that a declaration has by it
+-- and so does the header that a declaration has by it
 told-part : (tell : RecData → Option HeaderData) (x y : Option RecData) → ((r : RecData) → x ≡ Some r → y ≡ Some r) → (h : HeaderData) → option_and_then tell x ≡ Some h → option_and_then tell y ≡ Some h
 told-part tell None y more h e = absurd (let never : None ≡ Some h = e in cc)
 told-part tell (Some r) y more h e = ap (option_and_then tell) (more r refl) ∙ e
 
+value-part : (naming : Naming) (known more : Headers) → IsPart known more → (t : Option Tree) (r : RecData) → option_and_then (record_of naming known) t ≡ Some r → option_and_then (record_of naming more) t ≡ Some r
+value-part naming known more part None r e = e
+value-part naming known more part (Some t) r e = record_of-part naming known more part t r e
+
 pub header_over-part : (naming : Naming) (known more : Headers) → IsPart known more → (d : Declaration) (h : HeaderData) → header_over naming known d ≡ Some h → header_over naming more d ≡ Some h
 header_over-part naming known more part d h e =
-    told-part (told_by d.kind) (record_in (declared_over naming known d)) (record_in (declared_over naming more d))
-    (record_in-lasts more (declared_over naming known d) (declared_over naming more d) (declared-lasts naming known more part d)) h e
-
--- what a declaration waits for is missing
-pub declared-lacking : (naming : Naming) (known : Headers) (d : Declaration) → WaitsLacking known (declared_over naming known d)
-declared-lacking naming known d =
-    judged-lacking known (declaration d.kind d.built (length d.types) (length d.values)) (map (outcome naming known) (rests_on d))
-    (each-lacking naming known (rests_on d) (λ u h. outcome-lacking naming known u))
+    let node = tells_by d.kind d.built d.types d.values in
+    told-part (told_by d.kind) (option_and_then (record_of naming known) node) (option_and_then (record_of naming more) node)
+    (value-part naming known more part node) h e
 
 -- what a longer list has for a declaration
 pub headers_of-here : (before : Headers) (p : ℕ × HeaderData) (list : List (ℕ × HeaderData)) (d : ℕ) → p.0 ≡ d → headers_of before (p ∷ list) d ≡ Some p.1

@@ -1,6 +1,5 @@
 -- the values of declarations: what is known of them, and which rules they break
 pub mod Declared
-pub mod Declaring
 pub mod Records
 pub mod Headers
 pub mod Waiting

@@ -1,6 +1,6 @@
 -- Declarations and scope; Constant declarations (Go specification).
 -- Decides which declaration waits for the header of which, and which wait for themselves.
-use Rattle.std.specs.Prelude.{◌≡◌, ◌++◌, ℕ, Some, List, Contains}
+use Rattle.std.specs.Prelude.{◌≡◌, ℕ, Some, List, Contains}
 use Rattle.std.specs.List.{flat_map}
 use Rattle.go_tree.specs.Tree.{Tree}
 use Rattle.go_judge.specs.Naming.{Naming}
@@ -12,25 +12,23 @@ use Rattle.go_judge.specs.Records.{RecData}
 use Rattle.go_judge.specs.Headers.{Headers}
 use Rattle.go_model.specs.Outcomes.Walk.{outcome}
 use Rattle.go_values.specs.Declared.{declared_as}
-use Rattle.go_values.specs.Records.{declared_by}
 
 -- by whatever says which outcome a node has: the declarations whose headers the nodes of an expression or a type wait for
 abbrev pub awaited_among : (Tree → OutcomeData RecData) → Tree → List ℕ
 awaited_among outcome t = flat_map (λ node. awaited_in (outcome node)) (expressions_in t)
 
--- and those for which a declaration waits: nodes of the parts that its header rests on, and itself
-abbrev pub awaited_under : Headers → (Tree → OutcomeData RecData) → Declaration → List ℕ
-awaited_under headers outcome d = flat_map (awaited_among outcome) (rests_on d) ++ awaited_in (declared_by headers outcome d)
+-- and those for which nodes wait in the parts that the header of a declaration rests on
+abbrev pub awaited_under : (Tree → OutcomeData RecData) → Declaration → List ℕ
+awaited_under outcome d = flat_map (awaited_among outcome) (rests_on d)
 
 -- both over the headers
 abbrev pub awaited_by_nodes : Naming → Headers → Tree → List ℕ
 awaited_by_nodes naming headers t = awaited_among (outcome naming headers) t
 
 abbrev pub awaited_by : Naming → Headers → Declaration → List ℕ
-awaited_by naming headers d = awaited_under headers (outcome naming headers) d
+awaited_by naming headers d = awaited_under (outcome naming headers) d
 
--- the declaration d waits for the declaration e: it, or a node of the parts that its header rests on, waits for the header
--- of e
+-- the declaration d waits for the declaration e: a node of the parts that its header rests on waits for the header of e
 pub record Waits (naming : Naming) (declarations : List Declaration) (headers : Headers) (d e : ℕ) : Type 0 where
   pub declaration : Declaration
   pub declared : declared_as declarations d ≡ Some declaration
