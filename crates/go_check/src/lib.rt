@@ -20,7 +20,6 @@ mod places;
 // Lines.
 mod defs;
 mod exprs;
-mod finals;
 mod line_order;
 mod lines;
 mod member_defs;

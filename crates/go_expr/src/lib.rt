@@ -39,6 +39,4 @@ mod typed;
 // Walks over expressions and types, and what is read off them.
 mod walker;
 
-pub use operator::{binary_token, unary_token};
-pub use types::basic_type;
 pub use walker::Walker;
