@@ -40,7 +40,7 @@ uses_are outline stub denotes place [] packages = refl
 uses_are outline stub denotes place (f ∷ files) packages =
     ap (λ l. uses_in outline stub denotes place f ∷ l) (uses_are outline stub denotes (place + 1) files (drop (length (import_specs f.tree)) packages))
 
-pub exprs_are : (stub : Bool) (naming : Naming) (headers : Headers) (place : ℕ) (files : List FileData) (packages : List ℕ) → exprs_from stub naming headers place files ≡ map (expr_lines (outcome naming headers)) (own_files_from stub place files packages)
+pub exprs_are : (stub : Bool) (naming : Naming) (headers : Headers) (place : ℕ) (files : List FileData) (packages : List ℕ) → exprs_from stub naming headers place files ≡ map (expr_lines headers (outcome naming headers)) (own_files_from stub place files packages)
 exprs_are stub naming headers place [] packages = refl
 exprs_are stub naming headers place (f ∷ files) packages =
     ap (λ l. exprs_in stub naming headers place f ∷ l) (exprs_are stub naming headers (place + 1) files (drop (length (import_specs f.tree)) packages))
@@ -66,7 +66,7 @@ pub are_lines : (outline : Outline) (k : ℕ) (p : PackageData) (denotes : NodeI
     → files ≡ own_files_in p
     → AreInOrder (map (def_lines outline (outcome naming headers)) files) defs
     → AreInOrder (map (use_lines outline denotes) files) uses
-    → AreInOrder (map (expr_lines (outcome naming headers)) files) exprs
+    → AreInOrder (map (expr_lines headers (outcome naming headers)) files) exprs
     → lines ≡ defs ++ (uses ++ exprs)
     → AreLines outline k p denotes naming headers lines
 are_lines outline k p denotes naming headers files defs uses exprs lines is are_defs are_uses are_exprs all = record {
@@ -75,7 +75,7 @@ are_lines outline k p denotes naming headers files defs uses exprs lines is are_
   exprs = exprs;
   are_defs = subst (λ (l : List (List LineData)). AreInOrder l defs) (ap (map (def_lines outline (outcome naming headers))) is ∙ sym (defs_are outline k p.stub naming headers 0 p.files p.imports)) are_defs;
   are_uses = subst (λ (l : List (List LineData)). AreInOrder l uses) (ap (map (use_lines outline denotes)) is ∙ sym (uses_are outline p.stub denotes 0 p.files p.imports)) are_uses;
-  are_exprs = subst (λ (l : List (List LineData)). AreInOrder l exprs) (ap (map (expr_lines (outcome naming headers))) is ∙ sym (exprs_are p.stub naming headers 0 p.files p.imports)) are_exprs;
+  are_exprs = subst (λ (l : List (List LineData)). AreInOrder l exprs) (ap (map (expr_lines headers (outcome naming headers))) is ∙ sym (exprs_are p.stub naming headers 0 p.files p.imports)) are_exprs;
   all = all;
 }
 

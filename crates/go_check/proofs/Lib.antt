@@ -1,6 +1,8 @@
 pub mod BookLemmas
 pub mod DeclaredLemmas
 pub mod ExprLemmas
+pub mod FinalLemmas
+pub mod FinalTableLemmas
 pub mod FoundLemmas
 pub mod FoundValueLemmas
 pub mod NamedLemmas

@@ -20,6 +20,7 @@ mod places;
 // Lines.
 mod defs;
 mod exprs;
+mod finals;
 mod line_order;
 mod lines;
 mod member_defs;

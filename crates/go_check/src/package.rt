@@ -14,7 +14,7 @@ ghost use Rattle.go_judge.specs.Naming.{AreThere, Naming};
 ghost use Rattle.go_constructs.specs.Operators.Honest.{AreHonest};
 ghost use Rattle.go_model.specs.Naming.{names_in};
 ghost use Rattle.go_expr.specs.Walker.{outcomes_view};
-ghost use Rattle.go_check.specs.Packages.Book.{book_names, denotes_by, names_at};
+ghost use Rattle.go_check.specs.Packages.Book.{book_names, denotes_by, names_at, standing_of};
 ghost use Rattle.go_check.specs.Packages.Names.{AreNames, ImportsSound, sound_at};
 ghost use Rattle.go_check.specs.Packages.Verdicts.{IsAccepting};
 ghost use Rattle.go_check.specs.View.{outline_view};
@@ -154,15 +154,18 @@ fn check_values<L: Ledger>(
 fn verdict_by(
     alloc: Global,
     outline: &Outline,
-    book: &Rulebook,
+    book: &mut Rulebook,
     own: &Package,
     list: &[Broken],
 ) -> Result<Verdict, NoMemory>
-    ensures { IfOk result (λ verdict. (m : ModuleData) (k : ℕ) (before headers : Known)
-        → outline_view outline.now ≡ outline_of m → book_names book.now.judge ≡ names_in m k (package_view own.now)
+    ensures verdict { IfOk result (λ verdict. (m : ModuleData) (k : ℕ) (before headers : Known)
+        → outline_view outline.now ≡ outline_of m → book_names book.old.judge ≡ names_in m k (package_view own.now)
+        → headers_view book.old.judge.headers ≡ headers
         → AreWalked (names_in m k (package_view own.now)) headers (nodes_of (package_view own.now))
-        (outcomes_view book.now.walker) → phases.BreaksValues m k (package_view own.now) before headers list.now
+        (outcomes_view book.old.walker) → phases.BreaksValues m k (package_view own.now) before headers list.now
         → phases.IsVerdict m k (package_view own.now) before (verdict_view verdict) headers) }
+    ensures headers { headers_view book.new.judge.headers ≡ headers_view book.old.judge.headers }
+    ensures standing { standing_of book.new.judge ≡ standing_of book.old.judge }
 {
     if breaks_none(list) {
         accept(alloc, outline, book, own)
@@ -175,13 +178,16 @@ fn verdict_by(
 fn accept(
     alloc: Global,
     outline: &Outline,
-    book: &Rulebook,
+    book: &mut Rulebook,
     own: &Package,
 ) -> Result<Verdict, NoMemory>
-    ensures { IfOk result (λ verdict. (naming : Naming) (headers : Known) (k : ℕ)
-        → AreWalked naming headers (nodes_of (package_view own.now)) (outcomes_view book.now.walker)
-        → IsAccepting (outline_view outline.now) k (package_view own.now) (denotes_by book.now.judge) naming headers
+    ensures verdict { IfOk result (λ verdict. (naming : Naming) (headers : Known) (k : ℕ)
+        → headers_view book.old.judge.headers ≡ headers
+        → AreWalked naming headers (nodes_of (package_view own.now)) (outcomes_view book.old.walker)
+        → IsAccepting (outline_view outline.now) k (package_view own.now) (denotes_by book.old.judge) naming headers
         (verdict_view verdict)) }
+    ensures headers { headers_view book.new.judge.headers ≡ headers_view book.old.judge.headers }
+    ensures standing { standing_of book.new.judge ≡ standing_of book.old.judge }
 {
     let files = own_files(alloc, own)?;
     let lines = lines_of(alloc, outline, &files, book)?;

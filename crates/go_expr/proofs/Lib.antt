@@ -1,3 +1,4 @@
+pub mod ArrayLemmas
 pub mod HonestLemmas
 pub mod GivenLemmas
 pub mod InterfaceLemmas

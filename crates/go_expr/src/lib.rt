@@ -11,7 +11,6 @@ mod meaning;
 
 // Types that the judge makes, integers that it sees, and what is read off the records of operands.
 mod given;
-mod integer;
 mod types;
 
 // What a node comes to: each construct.
@@ -39,4 +38,7 @@ mod typed;
 // Walks over expressions and types, and what is read off them.
 mod walker;
 
+pub use given::{Given, copy_of, first_records, no_types, type_in};
+pub use operator::{binary_token, unary_token};
+pub use types::basic_type;
 pub use walker::Walker;

@@ -47,8 +47,8 @@ pub fn operator<J: Judge>(
     }
 }
 
-// The token of a binary operator, by the kind of its node; None where the node is no binary operator.
-fn binary_token(kind: NodeKind) -> Option<TokenKind>
+/// The token of a binary operator, by the kind of its node; None where the node is no binary operator.
+pub fn binary_token(kind: NodeKind) -> Option<TokenKind>
     ensures op { option_and_then binaries.binary_op result ≡ spec.binary_of kind }
     ensures some { IfSome result (λ token. IsSome (binaries.binary_op token)) }
 {
@@ -76,8 +76,8 @@ fn binary_token(kind: NodeKind) -> Option<TokenKind>
     }
 }
 
-// The token of a unary operator, by the kind of its node; None where the node is no unary operator that is built.
-fn unary_token(kind: NodeKind) -> Option<TokenKind>
+/// The token of a unary operator, by the kind of its node; None where the node is no unary operator that is built.
+pub fn unary_token(kind: NodeKind) -> Option<TokenKind>
     ensures op { option_and_then unaries.unary_op result ≡ spec.unary_of kind }
     ensures some { IfSome result (λ token. IsSome (unaries.unary_op token)) }
 {

@@ -1,7 +1,7 @@
 -- What is asked of a node whose operands have records that name good objects only, and a type and a value where they are those of
 -- constants: no header but that of a good object; and its record is such a one. So it is of constructs by their operands, of literals,
 -- names, selectors and parentheses.
-use Rattle.std.proofs.Common.{◌≡◌, ℕ, ◌+◌, Bool, false, true, Option, Some, None, List, [], ◌∷◌, refl, subst}
+use Rattle.std.proofs.Common.{◌≡◌, ℕ, ◌+◌, Bool, false, true, if◌then◌else◌, Option, Some, None, List, [], ◌∷◌, refl, subst}
 use Rattle.std.specs.Prelude.{IsSome}
 use Rattle.std.specs.List.{AllByRecursion}
 use Rattle.std.proofs.lemmas.Option.{none-some, same_Some}
@@ -14,7 +14,7 @@ use Rattle.go_constructs.specs.Parentheses.{parentheses}
 use Rattle.go_constructs.specs.Selector.{selector}
 use Rattle.go_judge.specs.Judged.{Asks, Construct, RuleTest, SpotTest}
 use Rattle.go_judge.specs.Operands.{is_constant, leaf, of_all, of_one, of_two, spots_from}
-use Rattle.go_judge.specs.Quests.{Done}
+use Rattle.go_judge.specs.Quests.{Done, Quest}
 use Rattle.go_judge.specs.Records.{HeaderData, RecData, alias, constant, definition, func, named_record, variable}
 use Rattle.go_same_laws.specs.Named.{AsksOnly, IsGoodHeader, IsGoodRecord}
 use Rattle.go_same_laws.proofs.NamedLemmas.{AnyOf}
@@ -54,6 +54,11 @@ module _ (good : ℕ → Type 0) where
   pub each_good : (holds : RecData → Bool) (place : ℕ) (rs : List RecData) → AllByRecursion (λ (p : SpotTest HeaderData). AsksOnly good AnyOf p.holds) (spots_from holds place rs)
   each_good holds place [] = tt
   each_good holds place (r ∷ rs) = (tt, each_good holds (place + 1) rs)
+
+  -- one of two questions
+  pub either_asks : {A : Type 0} (b : Bool) (p q : Quest HeaderData A) → AsksOnly good AnyOf p → AsksOnly good AnyOf q → AsksOnly good AnyOf (if b then p else q)
+  either_asks true p q first second = first
+  either_asks false p q first second = second
 
   -- CONSTRUCTS BY THEIR OPERANDS
 

@@ -11,11 +11,13 @@ use Rattle.go_module.specs.Names.Inner.{is_named_param, is_unnamed_param}
 use Rattle.go_module.specs.Names.Rules.MemberRules.{field_names}
 use Rattle.go_module.specs.NodeParts.{all_but_first}
 use Rattle.go_operands.specs.Operands.{operands_of}
-use Rattle.go_constructs.specs.Array.{array, length_in}
+use Rattle.go_constructs.specs.Array.{array, is_length, length_in}
 use Rattle.go_constructs.specs.Channel.{channel}
 use Rattle.go_constructs.specs.Function.{function}
 use Rattle.go_constructs.specs.Interface.{elem_in, elems_in, interface_of, terms_in}
 use Rattle.go_constructs.specs.MapType.{map_of}
+use Rattle.go_constructs.specs.Operators.Operations.{is_integer}
+use Rattle.go_constructs.specs.Operators.Sorts.{by_sort}
 use Rattle.go_constructs.specs.Pointer.{pointer_to}
 use Rattle.go_constructs.specs.Signatures.{is_variadic, list_types, many_params, param_types, params_of, result_types, types_in}
 use Rattle.go_constructs.specs.Slice.{slice}
@@ -23,12 +25,15 @@ use Rattle.go_constructs.specs.Struct.{field_by, fields_by, fields_in, struct_of
 use Rattle.go_judge.specs.Judged.{RuleTest}
 use Rattle.go_judge.specs.Kinds.{no_length}
 use Rattle.go_judge.specs.Limits.{makes, makes_of, within_limits}
-use Rattle.go_judge.specs.Operands.{are_types, at_each, is_type, of_all, of_one, type_or_none}
+use Rattle.go_judge.specs.Operands.{are_types, is_type, of_all, of_one, type_or_none}
+use Rattle.go_judge.specs.Quests.{Done}
 use Rattle.go_judge.specs.Records.{HeaderData, RecData, type_record}
-use Rattle.go_same_laws.specs.Named.{NameOnly, NamesOnly}
+use Rattle.go_judge.specs.declared.outcome.Spot.TheVariants.{Part}
+use Rattle.go_same_laws.specs.Named.{AsksOnly, NameOnly, NamesOnly}
 use Rattle.go_same_laws.proofs.EveryLemmas.{every_both, every_so, every_to_flat, every_to_map}
-use Rattle.go_same_laws.proofs.NamedSortLemmas.{type_names}
-use Rattle.go_laws.proofs.PlainLemmas.{AreGoodTests, ArePlain, IsFine, IsPlain, all_plain, done, each_good, not_constant, one_plain, two_plain}
+use Rattle.go_same_laws.proofs.NamedLemmas.{AnyOf}
+use Rattle.go_same_laws.proofs.NamedSortLemmas.{by_sort_asks, type_names}
+use Rattle.go_laws.proofs.PlainLemmas.{AreGoodTests, ArePlain, IsFine, IsPlain, all_plain, done, each_good, either_asks, not_constant, one_plain, two_plain}
 
 module _ (good : ℕ → Type 0) where
   -- TYPES FROM TYPES
@@ -138,10 +143,14 @@ module _ (good : ℕ → Type 0) where
   of_all_types : (many : ℕ) (type : List RecData → TypeData) → ((rs : List RecData) → AllByRecursion (IsFine good) rs → NamesOnly good (type rs)) → ArePlain good (of_all many (λ rs. makes_of rs (type rs)))
   of_all_types many type names = all_plain good many _ (λ rs fine. literal_type rs (type rs) (names rs fine))
 
+  length_asks : (n : RecData) → IsFine good n → AsksOnly good AnyOf (is_length n)
+  length_asks n fine = either_asks good (is_some (length_in n)) (by_sort n is_integer) (Done false) (by_sort_asks good n is_integer fine.0) tt
+
   pub array_plain : ArePlain good array
   array_plain = two_plain good _ (λ n x here fine.
-      typed (at_each no_length (λ r. is_some (length_in r)) 0 (n ∷ []) ∷ (are_types 1 (x ∷ []) ∷ [])) (types.of_one (types.array (unwrap_or (length_in n) 0)) (type_or_none x))
-      ((tt, tt), ((tt, tt), ((tt, tt), ((tt, tt), tt)))) (tt, (own x fine, tt)))
+      typed (record { rule = no_length; spots = record { spot = Part 0; holds = is_length n } ∷ [] } ∷ (are_types 1 (x ∷ []) ∷ []))
+      (types.of_one (types.array (unwrap_or (length_in n) 0)) (type_or_none x))
+      ((length_asks n here, tt), ((tt, tt), ((tt, tt), ((tt, tt), tt)))) (tt, (own x fine, tt)))
 
   pub map_plain : ArePlain good map_of
   map_plain = two_plain good _ (λ k v first second. literal_type (k ∷ (v ∷ [])) (types.of_two types.map_type (type_or_none k) (type_or_none v)) (tt, (own k first, (own v second, tt))))

@@ -25,7 +25,7 @@ WaitsOrFailed d (Waits e) = e ≡ d
 WaitsOrFailed d Nothing = Unit {0}
 
 -- how an outcome stands to the one over more headers
-abbrev Lasts : {H R : Type 0} → (ℕ → Option H) → OutcomeData R → OutcomeData R → Type 0
+abbrev pub Lasts : {H R : Type 0} → (ℕ → Option H) → OutcomeData R → OutcomeData R → Type 0
 Lasts more (Found r) later = later ≡ Found r
 Lasts more (Broken rule spots) later = StillBroken rule spots later
 Lasts more (Waits d) later = more d ≡ None → WaitsOrFailed d later
@@ -43,7 +43,7 @@ OperandsLast more (First d) later = more d ≡ None → FirstOrGone d later
 OperandsLast more Gone later = later ≡ Gone
 
 -- each outcome of the list lasts
-abbrev AllLast : {H R : Type 0} → (ℕ → Option H) → List (OutcomeData R) → List (OutcomeData R) → Type 0
+abbrev pub AllLast : {H R : Type 0} → (ℕ → Option H) → List (OutcomeData R) → List (OutcomeData R) → Type 0
 AllLast more [] [] = Unit {0}
 AllLast more (x ∷ xs) (y ∷ ys) = Lasts more x y × AllLast more xs ys
 AllLast more xs ys = ⊥
@@ -117,13 +117,13 @@ module _ {H R : Type 0} (known more : ℕ → Option H) (part : IsPart known mor
   with_records-lasts (First d) (First e) asks s = s
   with_records-lasts (First d) Gone asks s = λ missing. tt
 
-  judged-lasts : (s : Construct H R) (xs ys : List (OutcomeData R)) → AllLast more xs ys → Lasts more (judged known s xs) (judged more s ys)
+  pub judged-lasts : (s : Construct H R) (xs ys : List (OutcomeData R)) → AllLast more xs ys → Lasts more (judged known s xs) (judged more s ys)
   judged-lasts s xs ys all =
       with_records-lasts (together (map (outcome_at xs) s.operands)) (together (map (outcome_at ys) s.operands)) s.asks (together-last more xs ys all s.operands)
 
 -- WHAT A NODE WAITS FOR
 
-abbrev WaitsLacking : {H R : Type 0} → (ℕ → Option H) → OutcomeData R → Type 0
+abbrev pub WaitsLacking : {H R : Type 0} → (ℕ → Option H) → OutcomeData R → Type 0
 WaitsLacking known (Waits d) = known d ≡ None
 WaitsLacking known x = Unit {0}
 
@@ -131,7 +131,7 @@ abbrev FirstLacking : {H R : Type 0} → (ℕ → Option H) → Operands R → T
 FirstLacking known (First d) = known d ≡ None
 FirstLacking known y = Unit {0}
 
-abbrev EachLacking : {H R : Type 0} → (ℕ → Option H) → List (OutcomeData R) → Type 0
+abbrev pub EachLacking : {H R : Type 0} → (ℕ → Option H) → List (OutcomeData R) → Type 0
 EachLacking known [] = Unit {0}
 EachLacking known (x ∷ xs) = WaitsLacking known x × EachLacking known xs
 
@@ -177,7 +177,7 @@ module _ {H R : Type 0} (known : ℕ → Option H) where
   with_records-lacking (First d) asks s = s
   with_records-lacking Gone asks s = tt
 
-  judged-lacking : (s : Construct H R) (xs : List (OutcomeData R)) → EachLacking known xs → WaitsLacking known (judged known s xs)
+  pub judged-lacking : (s : Construct H R) (xs : List (OutcomeData R)) → EachLacking known xs → WaitsLacking known (judged known s xs)
   judged-lacking s xs all = with_records-lacking (together (map (outcome_at xs) s.operands)) s.asks (together-lacking xs all s.operands)
 
 -- THE WALK
@@ -190,22 +190,22 @@ module _ (naming : Naming) (known more : Headers) (part : IsPart known more) whe
   abbrev LastsAt : Tree → Type 0
   LastsAt t = Lasts more (outcome naming known t) (outcome naming more t)
 
-  all-last : (ts : List Tree) → ((u : Tree) → Contains ts u → LastsAt u) → AllLast more (map (outcome naming known) ts) (map (outcome naming more) ts)
+  pub all-last : (ts : List Tree) → ((u : Tree) → Contains ts u → LastsAt u) → AllLast more (map (outcome naming known) ts) (map (outcome naming more) ts)
   all-last [] each = tt
   all-last (t ∷ ts) each = (each t (contains_head t ts t refl), all-last ts (λ u h. each u (contains_tail t ts u h)))
 
-  outcome-lasts : (t : Tree) → LastsAt t
+  pub outcome-lasts : (t : Tree) → LastsAt t
   outcome-lasts = by_operands LastsAt (λ t each.
       subst (λ x. Lasts more x (outcome naming more t)) (sym (outcome-operands naming known t))
       (subst (λ y. Lasts more (judged known (construct naming t) (operand_outcomes naming known t)) y) (sym (outcome-operands naming more t))
       (judged-lasts known more part (construct naming t) (operand_outcomes naming known t) (operand_outcomes naming more t) (all-last (operands_of t) each))))
 
 module _ (naming : Naming) (known : Headers) where
-  each-lacking : (ts : List Tree) → ((u : Tree) → Contains ts u → WaitsLacking known (outcome naming known u)) → EachLacking known (map (outcome naming known) ts)
+  pub each-lacking : (ts : List Tree) → ((u : Tree) → Contains ts u → WaitsLacking known (outcome naming known u)) → EachLacking known (map (outcome naming known) ts)
   each-lacking [] each = tt
   each-lacking (t ∷ ts) each = (each t (contains_head t ts t refl), each-lacking ts (λ u h. each u (contains_tail t ts u h)))
 
-  outcome-lacking : (t : Tree) → WaitsLacking known (outcome naming known t)
+  pub outcome-lacking : (t : Tree) → WaitsLacking known (outcome naming known t)
   outcome-lacking = by_operands (λ t. WaitsLacking known (outcome naming known t)) (λ t each.
       subst (WaitsLacking known) (sym (outcome-operands naming known t))
       (judged-lacking known (construct naming t) (operand_outcomes naming known t) (each-lacking (operands_of t) each)))

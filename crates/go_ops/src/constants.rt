@@ -12,7 +12,7 @@ use go_num::Value;
 use go_term::Ty;
 
 /// The value of an operand, where it is a constant.
-pub(crate) fn constant_in(rec: &Rec) -> Option<&Value>
+pub fn constant_in(rec: &Rec) -> Option<&Value>
     ensures { (tree : Term → TypeData)
         → option_map (λ value. value.now) result ≡ spec.constant_in (rec_as tree rec.now) }
 {

@@ -42,6 +42,7 @@ mod source;
 mod unary_expr;
 
 pub use binary_expr::{binary, binary_op};
+pub use constants::constant_in;
 pub use go_constructs::{BinaryOp, Fit, FloatType, Operation, Sign, Sort, UnaryOp};
 pub use representability::{Represents, fit_of, representable};
 pub use rules::{
@@ -49,4 +50,6 @@ pub use rules::{
     MISMATCHED_OPERANDS, NO_ADDRESS, NO_POINTER, NO_RECEIVE, SEVERAL_VALUES, UNDEFINED_BINARY,
     UNDEFINED_UNARY, UNKEPT_FLOAT,
 };
+pub use sort_kinds::is_integer;
+pub use sorts::{AskedSort, sort_in};
 pub use unary_expr::{unary, unary_op};

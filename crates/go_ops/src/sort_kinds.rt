@@ -26,7 +26,7 @@ pub(crate) fn is_numeric(sort: Sort) -> bool
 }
 
 /// Whether it is that of integers.
-pub(crate) fn is_integer(sort: Sort) -> bool
+pub fn is_integer(sort: Sort) -> bool
     ensures { result ≡ operators.is_integer sort }
 {
     match sort {

@@ -22,7 +22,7 @@ use std::alloc::Global;
 
 /// A sort; Unknown with the first header that the underlying type lacks.
 #[derive(Clone, Copy, Debug, PartialEq, Eq)]
-pub(crate) enum AskedSort {
+pub enum AskedSort {
     Is(Sort),
     Unknown(ObjId),
 }
@@ -78,11 +78,7 @@ fn sorts_with<F: Forms>(
 }
 
 /// The sort of an operand's type; Other of what is no value. An error is want of memory.
-pub(crate) fn sort_in<F: Forms>(
-    alloc: Global,
-    judge: &mut F,
-    rec: &Rec,
-) -> Result<AskedSort, NoMemory>
+pub fn sort_in<F: Forms>(alloc: Global, judge: &mut F, rec: &Rec) -> Result<AskedSort, NoMemory>
     requires { IsOwnRec (F.is_type judge.old) rec.now }
     ensures sort { IfOk result (λ sort. sort_as sort
         ≡ run (F.headers judge.old) (spec.sort_in (rec_as (F.tree judge.old) rec.now))) }

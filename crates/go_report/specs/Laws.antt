@@ -1,6 +1,6 @@
 -- Laws of the objects that reports name.
 -- Says that each object which an identifier denotes has a place.
-use Rattle.std.specs.Prelude.{◌≡◌, ℕ, ◌⊎◌, true, Some, List, Contains, IsSome, slice_get}
+use Rattle.std.specs.Prelude.{◌≡◌, ℕ, ◌⊎◌, true, Some, Contains, IsSome, slice_get}
 use Rattle.std.specs.Map.{lookup}
 use Rattle.go_base.specs.declared.ids.ObjId.{ObjId}
 use Rattle.go_tree.specs.declared.node.NodeId.{NodeId}

@@ -2,6 +2,7 @@
 pub mod Phases
 pub mod Report
 pub mod PackageLines
+pub mod Finals
 pub mod Members
 pub mod LineOrder
 pub mod Outline

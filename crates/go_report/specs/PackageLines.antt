@@ -1,10 +1,11 @@
 -- The lines of the report of an accepted package.
 -- Decides which lines it has: one for each name that is written where it is declared, one for each use of a name, and one
 -- for each expression or type; of what stands in a copy of an omitted list, neither uses nor expressions, nor members. Which
--- names type literals declare: `Members`. How lines are ordered: `LineOrder`. How a line reads: `Text`.
+-- names type literals declare: `Members`. Which type an untyped expression has in the end: `Finals`. How lines are ordered:
+-- `LineOrder`. How a line reads: `Text`.
 use Rattle.std.specs.Prelude.{◌≡◌, ℕ, ◌+◌, Bool, is_none, if◌then◌else◌, List, [], ◌∷◌, ◌++◌, Option, Some, None, filter, map, option_and_then}
 use Rattle.std.specs.List.{flat_map}
-use Rattle.std.specs.Option.{option_map_or}
+use Rattle.std.specs.Option.{option_map, option_map_or}
 use Rattle.go_base.specs.Place.{line_of, column_of}
 use Rattle.go_base.specs.declared.ids.ObjId.{ObjId}
 use Rattle.go_term.specs.Types.{Head, named, param, TypeData, Parts, made, no_parts, more_parts}
@@ -22,6 +23,7 @@ use Rattle.go_operands.specs.Operands.{expressions_in_parts}
 use Rattle.go_module.specs.Places.{at_offset}
 use Rattle.go_module.specs.Scopes.{same_object}
 use Rattle.go_judge.specs.Naming.{Naming}
+use Rattle.go_report.specs.Finals.Nodes.{Finals, final_among, finals_in_spec, in_the_end}
 use Rattle.go_report.specs.Outline.{Outline, declared_at, named_by, path_at}
 use Rattle.go_report.specs.LineOrder.{AreInOrder}
 use Rattle.go_report.specs.Members.{Member, members_of}
@@ -127,14 +129,17 @@ abbrev pub expr_end : Tree → ℕ
 expr_end (branch id from to EmbeddedPointer text (more_trees type tag)) = end_of type
 expr_end t = end_of t
 
-abbrev pub expr_by : (Tree → OutcomeData RecData) → Bool → FileData → Tree → List LineData
-expr_by outcome stub f t = record_line stub f (start_of t) (expr_end t) (record_by outcome t)
+-- the final types of what is untyped in these specs, but in copies
+abbrev pub finals_in : Headers → (Tree → OutcomeData RecData) → List Spec → Finals
+finals_in headers outcome specs = flat_map (finals_in_spec headers outcome) (written specs)
 
-abbrev pub expr_at : Bool → FileData → Naming → Headers → Tree → List LineData
-expr_at stub f naming headers t = expr_by (outcome naming headers) stub f t
+-- a node by its record in the end, by what says which final type a node has
+abbrev pub expr_by : (Tree → OutcomeData RecData) → (NodeId → Option TypeData) → Bool → FileData → Tree → List LineData
+expr_by outcome final stub f t = record_line stub f (start_of t) (expr_end t) (option_map (in_the_end final t) (record_by outcome t))
 
 abbrev pub exprs_in : Bool → Naming → Headers → ℕ → FileData → List LineData
-exprs_in stub naming headers file f = flat_map (expr_at stub f naming headers) (written_nodes file f)
+exprs_in stub naming headers file f =
+    flat_map (expr_by (outcome naming headers) (final_among (finals_in headers (outcome naming headers) (specs_in_file file f.tree))) stub f) (written_nodes file f)
 
 abbrev pub exprs_from : Bool → Naming → Headers → ℕ → List FileData → List (List LineData)
 exprs_from stub naming headers file [] = []

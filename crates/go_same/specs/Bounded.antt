@@ -1,4 +1,4 @@
--- Type identity within bounds: each question as the code asks it, in the words of go_model's definitions.
+-- Type identity within bounds: each question as the code asks it, in the words of go_judge's definitions.
 use Rattle.std.specs.Prelude.{ℕ, true, if◌then◌else◌, List, not}
 use Rattle.go_term.specs.Types.{TypeData}
 use Rattle.go_judge.specs.Types.TypeIdentity as identity

@@ -11,10 +11,12 @@ use Rattle.go_module.specs.Names.Occurrences.{names_in_parts}
 use Rattle.go_operands.specs.Operands.{expressions_in_parts}
 use Rattle.go_module.specs.NodeParts.{first_part}
 use Rattle.go_report.specs.declared.declared_object.DeclaredObject.{DeclaredObject}
+use Rattle.go_judge.specs.Headers.{Headers}
 use Rattle.go_judge.specs.Judged.{OutcomeData}
 use Rattle.go_judge.specs.Records.{RecData}
 use Rattle.go_report.specs.Outline.{Outline, declared_by}
-use Rattle.go_report.specs.PackageLines.{def_by, expr_by, import_defs_in, member_defs_by, occurrence_uses, written}
+use Rattle.go_report.specs.Finals.Nodes.{final_among}
+use Rattle.go_report.specs.PackageLines.{def_by, expr_by, finals_in, import_defs_in, member_defs_by, occurrence_uses, written}
 use Rattle.go_report.specs.Report.{LineData}
 use Rattle.go_names.specs.Views.{specs_view, trees_at}
 use Rattle.go_check.specs.declared.own_file.OwnFile.{OwnFile}
@@ -75,5 +77,6 @@ def_lines outline outcome f =
 abbrev pub use_lines : Outline → (NodeId → Option ObjId) → OwnFileData → List LineData
 use_lines outline denotes f = flat_map (occurrence_uses outline f.stub f.file denotes) (flat_map names_in_parts (written f.specs))
 
-abbrev pub expr_lines : (Tree → OutcomeData RecData) → OwnFileData → List LineData
-expr_lines outcome f = flat_map (expr_by outcome f.stub f.file) (flat_map expressions_in_parts (written f.specs))
+abbrev pub expr_lines : Headers → (Tree → OutcomeData RecData) → OwnFileData → List LineData
+expr_lines headers outcome f =
+    flat_map (expr_by outcome (final_among (finals_in headers outcome f.specs)) f.stub f.file) (flat_map expressions_in_parts (written f.specs))

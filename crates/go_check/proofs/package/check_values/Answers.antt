@@ -1,4 +1,4 @@
-use Rattle.std.proofs.Common.{◌≡◌, ◌∙◌, sym, ap, subst}
+use Rattle.std.proofs.Common.{◌≡◌, ◌∙◌, refl, sym, ap, subst}
 use Rattle.std.proofs.lemmas.Result.{IfOk-weaker}
 use Rattle.go_module.specs.Modules.Module.{PackageData, module_view, package_view}
 use Rattle.go_judge.specs.declared.headers.Headers.{Headers as HeaderMap}
@@ -31,6 +31,7 @@ returns-clause-verdict g c =
     let entered = c.enter.new.self in
     let after = c.broken_values.new.rules in
     let headers = headers_view after.judge.headers in
+    let behind = c.verdict_by.ensures.headers in
     let own = package_view c.index.result.now in
     let list = c.in_ok-list.list.items in
     let here = viewed_at package_view c.args.book.now.judge.«module».now.packages.items k c.index.result.now c.requires.within c.index.ensures in
@@ -40,15 +41,20 @@ returns-clause-verdict g c =
     let named : book_names entered.judge ≡ names_in m k p = ap (λ (s : Standing). names_at s.«module» s.scopes s.place) c.enter.ensures.standing ∙ names in
     let walked = subst (λ (ms : Naming). AreWalked ms headers (nodes_of p) (outcomes_view after.walker)) named (c.in_ok-list.ensures.nodes p at) in
     let found = subst (λ (b : HeaderMap). BreaksValues m k p (headers_view b) headers list) c.enter.ensures.headers (c.in_ok-list.ensures.list p at named shapes) in
-    subst (λ (q : PackageData). book_names after.judge ≡ names_in m k q → AreWalked (names_in m k q) headers (nodes_of q) (outcomes_view after.walker) → BreaksValues m k q before headers c.deref.result.now → IsVerdict m k q before (verdict_view verdict) headers) same
-    (is m k before headers outline) (c.broken_values.ensures.names ∙ named) walked (subst (BreaksValues m k p before headers) (sym c.deref.ensures.value) found))
-    c.verdict_by.ensures
+    let told : IsVerdict m k p before (verdict_view verdict) headers =
+    subst (λ (q : PackageData). book_names after.judge ≡ names_in m k q → headers ≡ headers → AreWalked (names_in m k q) headers (nodes_of q) (outcomes_view after.walker) → BreaksValues m k q before headers c.deref.result.now → IsVerdict m k q before (verdict_view verdict) headers) same
+    (is m k before headers outline) (c.broken_values.ensures.names ∙ named) refl walked (subst (BreaksValues m k p before headers) (sym c.deref.ensures.value) found) in
+    subst (IsVerdict m k p before (verdict_view verdict)) (sym behind) told)
+    c.verdict_by.ensures.verdict
 
 pub returns-clause-known : goal.returns-clause-known
-returns-clause-known g c = on_ok c.verdict_by.result _ c.in_ok-list.ensures.known
+returns-clause-known g c = on_ok c.verdict_by.result _ (c.in_ok-list.ensures.known ∙ sym c.verdict_by.ensures.headers)
 
 pub returns-clause-module : goal.returns-clause-module
-returns-clause-module g c = ap (λ (s : Standing). s.«module») (c.broken_values.ensures.world ∙ c.enter.ensures.standing)
+returns-clause-module g c = ap (λ (s : Standing). s.«module») (c.verdict_by.ensures.standing ∙ c.broken_values.ensures.world ∙ c.enter.ensures.standing)
 
 pub returns-clause-scopes : goal.returns-clause-scopes
-returns-clause-scopes g c = ap (λ (s : Standing). s.scopes) (c.broken_values.ensures.world ∙ c.enter.ensures.standing)
+returns-clause-scopes g c = ap (λ (s : Standing). s.scopes) (c.verdict_by.ensures.standing ∙ c.broken_values.ensures.world ∙ c.enter.ensures.standing)
+
+pub returns-clause-honest : goal.returns-clause-honest
+returns-clause-honest g c = honest_same c.broken_values.ensures.honest c.verdict_by.ensures.headers

@@ -10,18 +10,18 @@ use Rattle.go_check.specs.Packages.Verdicts.{IsAccepting}
 use Rattle.go_check.proofs.VerdictLemmas.{refused_values, sound_verdict}
 use Rattle.go_check.proofs.package.verdict_by.Goals as goal
 
-pub returns-then-breaks_none : goal.returns-then-breaks_none
-returns-then-breaks_none c =
+pub returns-then-breaks_none-clause-verdict : goal.returns-then-breaks_none-clause-verdict
+returns-then-breaks_none-clause-verdict c =
     let p = package_view c.args.own.now in
     let judge = c.args.book.now.judge in
     IfOk-weaker c.accept.result _ _
-    (λ verdict accepts m k before headers outline names walked breaks.
-    let accepting = subst (λ o. IsAccepting o k p (denotes_by judge) (names_in m k p) headers (verdict_view verdict)) outline (accepts (names_in m k p) headers k walked) in
+    (λ verdict accepts m k before headers outline names known walked breaks.
+    let accepting = subst (λ o. IsAccepting o k p (denotes_by judge) (names_in m k p) headers (verdict_view verdict)) outline (accepts (names_in m k p) headers k known walked) in
     sound_verdict m k p before headers (denotes_by judge) c.args.list.now (verdict_view verdict) breaks (c.breaks_none.ensures.none c.if-breaks_none.true) (λ i id. (names i).denotes id.0) accepting)
-    c.accept.ensures
+    c.accept.ensures.verdict
 
-pub returns-in_ok-placed_list : goal.returns-in_ok-placed_list
-returns-in_ok-placed_list c = λ m k before headers outline names walked breaks.
+pub returns-in_ok-placed_list-clause-verdict : goal.returns-in_ok-placed_list-clause-verdict
+returns-in_ok-placed_list-clause-verdict c = λ m k before headers outline names known walked breaks.
     let p = package_view c.args.own.now in
     let list = c.args.list.now in
     let placed : c.in_ok-placed_list.field-0.items ≡ map (placed_by p) list = c.in_ok-placed_list.ensures in
